@@ -1,0 +1,3 @@
+pub mod KeySets
+pub mod Turned
+pub mod HexDigits

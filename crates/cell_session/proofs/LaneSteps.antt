@@ -1,0 +1,134 @@
+-- A lane after a line wrote or read.
+use Rattle.std.proofs.Common.{◌≡◌, ◌==◌, ℕ, ◌+◌, cond, List, [], ◌∷◌, ◌++◌, Option, None, Some, inl, inr, refl, sym, ap, ◌∙◌, subst, IsSome}
+use Rattle.std.specs.FinMap as fin
+use Rattle.stamps.specs.declared.stamp.Stamp.{Stamp}
+use Rattle.entry_maps.specs.declared.document.Document.{Document}
+use Rattle.entry_maps.specs.declared.entry.Entry.{Entry}
+use Rattle.entry_maps.specs.EntryCodes.{Entries}
+use Rattle.entry_maps.specs.Entries.{is_newer, with_entry}
+use Rattle.lane_laws.specs.declared.event.LaneEvent.TheVariants as event
+use Rattle.lane_laws.specs.declared.outcome.Outcome.{Outcome}
+use Rattle.lane_laws.specs.declared.outcome.Outcome.TheVariants as outcome
+use Rattle.lane_laws.specs.Journals.{Journal, events_of}
+use Rattle.lane_laws.specs.Legal.{IsLegal, MayBegin, MayWrite, MayClose, MayEnd}
+use Rattle.lane_laws.specs.Readers.{Beginning, or_else, only_if, begun_in, wrote_in, closed_in, entry_at, store_of}
+use Rattle.lane_laws.proofs.Lookups.{or_else-first, or_else-second, or_else-cases, only_if-some, only_if-true, is_some-of, some_of, line_same}
+use Rattle.lane_laws.proofs.OrderLaws.{fresh_begun, fresh_wrote, fresh_closed}
+use Rattle.lane_laws.proofs.StoreLaws.{store-entry_at}
+use Rattle.cell_session.specs.LaneState.{IsClosed, IsLane}
+use Rattle.cell_session.specs.LineEvents.{next_stamp, write_events, read_events, body_outcome, seen_outcome}
+
+-- ---- legal after the events of a line
+
+begun_first : (J : Journal) (k v : ℕ) (id : List ℕ) (stamp : Option Stamp) → events_of k J ≡ [] → begun_in k (event.Begun k 0 v id stamp ∷ J) ≡ Some (record { version = v; id = id; stamp = stamp })
+begun_first J k v id stamp fresh = or_else-second (begun_in k J) _ (fresh_begun J k fresh) ∙ only_if-true (k == k) _ (line_same k)
+
+may_begin : (J : Journal) (k : ℕ) (id : List ℕ) (s : Stamp) → IsClosed J → events_of k J ≡ [] → s ≡ next_stamp J → MayBegin J k 1 id (Some s)
+may_begin J k id s closed fresh is = record {
+  fresh = fresh_begun J k fresh;
+  unwritten = fresh_wrote J k fresh;
+  unclosed = fresh_closed J k fresh;
+  alone = λ line b begun same. closed line b begun;
+  next = (ap (λ (x : Stamp). x.version) is, ap (λ (x : Stamp). x.count) is);
+}
+
+pub legal_write : (J : Journal) (k : ℕ) (e : Entry) → IsLegal J → IsClosed J → events_of k J ≡ [] → e.stamp ≡ next_stamp J → IsLegal (write_events k e ++ J)
+legal_write J k e legal closed fresh is =
+    let begun = event.Begun k 0 1 e.id (Some e.stamp) in
+    let beginning : Beginning = record { version = 1; id = e.id; stamp = Some e.stamp } in
+    let first : begun_in k (begun ∷ J) ≡ Some beginning = begun_first J k 1 e.id (Some e.stamp) fresh in
+    let write : MayWrite (begun ∷ J) k e = record {
+      beginning = beginning;
+      begun = first;
+      stamp = refl;
+      id = refl;
+      unwritten = fresh_wrote J k fresh;
+      unclosed = fresh_closed J k fresh;
+    } in
+    let close : MayClose (event.Wrote k e ∷ begun ∷ J) k (outcome.Acked e.stamp) = record {
+      beginning = beginning;
+      begun = first;
+      unclosed = fresh_closed J k fresh;
+      ends = (e, (or_else-second (wrote_in k J) _ (fresh_wrote J k fresh) ∙ only_if-true (k == k) e (line_same k), refl));
+    } in
+    (((legal, may_begin J k e.id e.stamp closed fresh is), write), close)
+
+may_read : (J : Journal) (k : ℕ) (id : List ℕ) → IsClosed J → events_of k J ≡ [] → MayBegin J k 1 id None
+may_read J k id closed fresh = record {
+  fresh = fresh_begun J k fresh;
+  unwritten = fresh_wrote J k fresh;
+  unclosed = fresh_closed J k fresh;
+  alone = λ line b begun same. closed line b begun;
+  next = tt;
+}
+
+body_ends : (J : Journal) (k : ℕ) (stamp : Stamp) (body : Option Document) → wrote_in k J ≡ None → (e : Entry) → entry_at stamp J ≡ Some e → MayEnd J k (body_outcome stamp body)
+body_ends J k stamp None none e at = none
+body_ends J k stamp (Some d) none e at = (none, (e, at))
+
+seen_ends : (J : Journal) (k : ℕ) (id : List ℕ) (o : Option Entry) → IsLegal J → fin.get (store_of J) id ≡ o → wrote_in k J ≡ None → MayEnd J k (seen_outcome o)
+seen_ends J k id None legal is none = none
+seen_ends J k id (Some e) legal is none = body_ends J k e.stamp e.body none e (store-entry_at J id e legal is)
+
+begun_ends : (J : Journal) (k d v : ℕ) (id : List ℕ) (stamp : Option Stamp) (ending : Outcome) → MayEnd J k ending → MayEnd (event.Begun k d v id stamp ∷ J) k ending
+begun_ends J k d v id stamp (outcome.Acked s) h = h
+begun_ends J k d v id stamp (outcome.Found s) h = h
+begun_ends J k d v id stamp (outcome.Missing seen) h = h
+
+pub legal_read : (J : Journal) (k : ℕ) (id : List ℕ) → IsLegal J → IsClosed J → events_of k J ≡ [] → IsLegal (read_events k id (seen_outcome (fin.get (store_of J) id)) ++ J)
+legal_read J k id legal closed fresh =
+    let beginning : Beginning = record { version = 1; id = id; stamp = None } in
+    let close : MayClose (event.Begun k 0 1 id None ∷ J) k (seen_outcome (fin.get (store_of J) id)) = record {
+      beginning = beginning;
+      begun = begun_first J k 1 id None fresh;
+      unclosed = fresh_closed J k fresh;
+      ends = begun_ends J k 0 1 id None (seen_outcome (fin.get (store_of J) id)) (seen_ends J k id (fin.get (store_of J) id) legal refl (fresh_wrote J k fresh));
+    } in
+    ((legal, may_read J k id closed fresh), close)
+
+-- ---- each line that began is closed
+
+closed_more : (J : Journal) (k line : ℕ) (ending : Outcome) (b c : Beginning) → IsClosed J → or_else (begun_in line J) (only_if (k == line) b) ≡ Some c
+    → IsSome (or_else (closed_in line J) (only_if (k == line) ending))
+closed_more J k line ending b c closed h = elim (or_else-cases (begun_in line J) _ c h) [
+  | inl old ↦ let was = some_of (closed_in line J) (closed line c old) in is_some-of _ was.0 (or_else-first (closed_in line J) _ was.0 was.1)
+  | inr new ↦
+      let own = only_if-some (k == line) b c new.1 in
+      let here : only_if (k == line) ending ≡ Some ending = only_if-true (k == line) ending own.0 in
+      found_either (closed_in line J) (only_if (k == line) ending) ending here
+]
+  where
+    found_either : (o p : Option Outcome) (x : Outcome) → p ≡ Some x → IsSome (or_else o p)
+    found_either None p x h = is_some-of p x h
+    found_either (Some y) p x h = refl
+
+pub closed_write : (J : Journal) (k : ℕ) (e : Entry) → IsClosed J → IsClosed (write_events k e ++ J)
+closed_write J k e closed line b h = closed_more J k line (outcome.Acked e.stamp) (record { version = 1; id = e.id; stamp = Some e.stamp }) b closed h
+
+pub closed_read : (J : Journal) (k : ℕ) (id : List ℕ) (ending : Outcome) → IsClosed J → IsClosed (read_events k id ending ++ J)
+closed_read J k id ending closed line b h = closed_more J k line ending (record { version = 1; id = id; stamp = None }) b closed h
+
+-- ---- the lane
+
+pub lane_written : (J new : Journal) (store after : Entries) (stamps k : ℕ) (e : Entry) → IsLane J store stamps → events_of k J ≡ [] → e.stamp ≡ next_stamp J
+    → new ≡ write_events k e ++ J → (after ≡ cond (is_newer e (fin.get store e.id)) (fin.insert store e.id e) store) → IsLane new after (stamps + 1)
+lane_written J new store after stamps k e lane fresh is grown put =
+    subst (λ j. IsLane j after (stamps + 1)) (sym grown) (record {
+      legal = legal_write J k e lane.legal lane.closed fresh is;
+      closed = closed_write J k e lane.closed;
+      replays = put ∙ ap (λ s. with_entry s e) lane.replays;
+      counted = ap (λ n. n + 1) lane.counted;
+    })
+
+pub lane_read : (J new : Journal) (store : Entries) (stamps k : ℕ) (id : List ℕ) → IsLane J store stamps → events_of k J ≡ []
+    → new ≡ read_events k id (seen_outcome (fin.get (store_of J) id)) ++ J → IsLane new store stamps
+lane_read J new store stamps k id lane fresh grown =
+    subst (λ j. IsLane j store stamps) (sym grown) (record {
+      legal = legal_read J k id lane.legal lane.closed fresh;
+      closed = closed_read J k id (seen_outcome (fin.get (store_of J) id)) lane.closed;
+      replays = lane.replays;
+      counted = lane.counted;
+    })
+
+pub lane_empty : IsLane [] fin.empty 0
+lane_empty = record { legal = tt; closed = λ line b h. cc; replays = refl; counted = refl }

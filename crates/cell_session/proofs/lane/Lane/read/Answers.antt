@@ -1,0 +1,9 @@
+use Rattle.std.proofs.Common.{◌∙◌, refl}
+use Rattle.cell_session.proofs.LaneSteps.{lane_read}
+use Rattle.cell_session.proofs.lane.Lane.read.Goals as goal
+
+pub invariant_of-self-2 : goal.invariant_of-self-2
+invariant_of-self-2 c =
+    lane_read _ _ _ _ _ c.args.id c.self.invariant
+    (rw (← c.self.view_is) at c.requires.fresh)
+    (c.append_read.ensures ∙ rw (c.in_ok-look.ensures.0, c.in_ok-reserve.ensures.items, ← c.self.view_is) refl)

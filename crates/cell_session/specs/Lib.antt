@@ -1,0 +1,13 @@
+pub mod StatusNumbers
+pub mod Lanes
+pub mod LineEvents
+pub mod LaneState
+pub mod Session
+pub mod Output
+pub mod Ends
+pub mod Seen
+pub mod Stores
+pub mod Steps
+pub mod Answering
+pub mod Reads
+pub mod SoFar

@@ -1,0 +1,52 @@
+-- What a session reads.
+use Rattle.std.specs.Prelude.{◌≡◌, ℕ, ◌+◌, ◌≤◌, List, length, Some, slice_get}
+use Rattle.io_ends.specs.Causes.{HasRisen}
+use Rattle.io_ends.specs.Lines.{lines_of}
+use Rattle.io_ends.specs.Reading.{Reading, Grows, IsWithin, Reaches}
+use Rattle.feed_lines.specs.Lines.{command_of}
+use Rattle.cell_session.specs.declared.next_command.Step.{Step}
+use Rattle.cell_session.specs.declared.next_command.Step.TheVariants as step
+use Rattle.cell_session.specs.declared.status.Status.{Status}
+use Rattle.cell_session.specs.declared.status.Status.TheVariants as status
+
+-- a command is that of the next line by number
+abbrev pub Advances : Reading → Reading → Step → Type 0
+Advances old new (step.Command number command) = (number ≡ old.lines + 1) × (Grows old new 1 × (new.lines ≤ new.max_lines))
+Advances old new (step.Over end) = Unit {0}
+
+-- what an end says of the text in which the reader stood
+abbrev pub Finishes : List ℕ → Reading → Status → Type 0
+Finishes text old status.Done = length (lines_of text) ≡ old.lines
+Finishes text old (status.Limit which) = Reaches text old which
+Finishes text old status.ReadFault = Unit {0}
+Finishes text old status.NoMemory = Unit {0}
+Finishes text old status.Usage = ⊥
+Finishes text old status.WriteFault = ⊥
+
+-- the command is that of the text's next line, which ends within the limits
+abbrev pub Shows : List ℕ → Reading → Step → Type 0
+Shows text old (step.Command number command) = ((bytes : List ℕ) × ((slice_get (lines_of text) old.lines ≡ Some bytes) × (command ≡ command_of bytes))) × IsWithin text old
+Shows text old (step.Over end) = Finishes text old end
+
+-- an end that may come of reading; a fault of the source only where its count rose
+abbrev pub IsReadEnd : Status → ℕ → ℕ → Type 0
+IsReadEnd status.Done before now = Unit {0}
+IsReadEnd (status.Limit which) before now = Unit {0}
+IsReadEnd status.ReadFault before now = HasRisen before now
+IsReadEnd status.NoMemory before now = Unit {0}
+IsReadEnd status.Usage before now = ⊥
+IsReadEnd status.WriteFault before now = ⊥
+
+abbrev pub CausedBySource : Step → ℕ → ℕ → Type 0
+CausedBySource (step.Command number command) before now = Unit {0}
+CausedBySource (step.Over end) before now = IsReadEnd end before now
+
+-- the command of these bytes, or want of memory
+abbrev pub IsOfLine : Step → ℕ → List ℕ → Type 0
+IsOfLine (step.Command n command) number bytes = (n ≡ number) × (command ≡ command_of bytes)
+IsOfLine (step.Over status.NoMemory) number bytes = Unit {0}
+IsOfLine (step.Over status.Done) number bytes = ⊥
+IsOfLine (step.Over status.ReadFault) number bytes = ⊥
+IsOfLine (step.Over status.WriteFault) number bytes = ⊥
+IsOfLine (step.Over status.Usage) number bytes = ⊥
+IsOfLine (step.Over (status.Limit which)) number bytes = ⊥

@@ -1,0 +1,59 @@
+ghost use Rattle.std.specs.Prelude.{◌≡◌, ◌≤◌, OnErr, OnOk, IfErr};
+ghost use Rattle.std.specs.Io.KnownBytes.{Appends};
+ghost use Rattle.io_ends.specs.Causes.{HasRisen};
+ghost use Rattle.cell_session.specs.Answering.{StopsAs};
+ghost use Rattle.cell_session.specs.Output.{report_in};
+ghost use Rattle.cell_session.specs.Steps.{IsReady, with_command};
+ghost use Rattle.cell_session.specs.declared.answering.Stop.TheVariants as stop;
+
+use crate::cluster::Cluster;
+use feed_lines::Command;
+use io_ends::{Sink, WriteFault, write_all};
+use std::alloc::Global;
+use thiserror::Error;
+use value_lists::NoMemory;
+
+/// Why a line's report didn't reach the sink.
+#[derive(Clone, Copy, Debug, PartialEq, Eq, Error)]
+pub enum Stop {
+    #[error("the sink failed")]
+    Fault,
+    #[error("out of memory")]
+    Memory,
+}
+
+impl From<NoMemory> for Stop {
+    ghost from_gives = { λ _ e. e ≡ stop.Memory };
+
+    fn from(_error: NoMemory) -> Stop {
+        Stop::Memory
+    }
+}
+
+impl From<WriteFault> for Stop {
+    ghost from_gives = { λ _ e. e ≡ stop.Fault };
+
+    fn from(_fault: WriteFault) -> Stop {
+        Stop::Fault
+    }
+}
+
+/// Deals with a line's command and writes its report.
+pub fn answer_line<K: Sink>(
+    alloc: Global,
+    line: u32,
+    command: Command,
+    sink: &mut K,
+    cluster: &mut Cluster,
+) -> Result<(), Stop>
+    requires { IsReady line cluster.old }
+    ensures dealt { OnOk result (cluster.new ≡ with_command line command cluster.old) }
+    ensures written { OnOk result (Appends (K.written sink.old) (K.written sink.new) (report_in line command cluster.new)) }
+    ensures stopped { IfErr result (λ why. StopsAs why line command cluster.old cluster.new (K.written sink.old) (K.written sink.new)) }
+    ensures count { K.faults sink.old ≤ K.faults sink.new }
+    ensures fault { IfErr result (λ why. why ≡ stop.Fault → HasRisen (K.faults sink.old) (K.faults sink.new)) }
+{
+    let report = cluster.deal(alloc, line, command)?;
+    write_all(sink, &report)?;
+    Ok(())
+}

@@ -1,0 +1,63 @@
+ghost use Rattle.std.specs.Prelude.{◌≤◌, ℕ, List};
+ghost use Rattle.io_ends.specs.Reading.{StandsIn};
+ghost use Rattle.cell_session.specs.Reads.{Advances, Shows, CausedBySource, IsOfLine};
+
+use crate::status::Status;
+use feed_lines::{Command, read_line};
+use io_ends::{LineReader, Next, Source};
+use std::alloc::Global;
+
+/// What comes next in a session.
+#[derive(Drop)]
+pub enum Step {
+    /// The command of the line of this number.
+    Command { number: u32, command: Command },
+    /// No further line is dealt with, and the session ends so.
+    Over { status: Status },
+}
+
+/// The next line's command, or how the session ends.
+pub fn next_command<S: Source>(
+    alloc: Global,
+    reader: &mut LineReader,
+    source: &mut S,
+    line: &mut Vec<u8>,
+) -> Step
+    ensures advances { Advances reader.old reader.new result }
+    ensures shows { (text : List ℕ) → StandsIn text reader.old (S.left source.old) → Shows text reader.old result }
+    ensures stands { (text : List ℕ) → StandsIn text reader.old (S.left source.old) → StandsIn text reader.new (S.left source.new) }
+    ensures count { S.faults source.old ≤ S.faults source.new }
+    ensures cause { CausedBySource result (S.faults source.old) (S.faults source.new) }
+{
+    match reader.next(source, line) {
+        Next::Line { number } => line_command(alloc, number, line),
+        Next::TooLong { number } => Step::Command {
+            number,
+            command: Command::TooLong,
+        },
+        Next::End => Step::Over {
+            status: Status::Done,
+        },
+        Next::Limit { which } => Step::Over {
+            status: Status::Limit { which },
+        },
+        Next::ReadFault => Step::Over {
+            status: Status::ReadFault,
+        },
+        Next::NoMemory => Step::Over {
+            status: Status::NoMemory,
+        },
+    }
+}
+
+/// The command of a line that was read.
+fn line_command(alloc: Global, number: u32, line: &[u8]) -> Step
+    ensures { IsOfLine result number line.now }
+{
+    match read_line(alloc, line) {
+        Ok(command) => Step::Command { number, command },
+        Err(_) => Step::Over {
+            status: Status::NoMemory,
+        },
+    }
+}

@@ -1,0 +1,5 @@
+pub mod FaultLaws
+pub mod FeedPlaces
+pub mod LineLaws
+pub mod ReaderLaws
+pub mod ReaderStarts

@@ -1,0 +1,5 @@
+pub mod Lookups
+pub mod JournalLaws
+pub mod OrderLaws
+pub mod StoreLaws
+pub mod Past

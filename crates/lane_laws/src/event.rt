@@ -1,0 +1,27 @@
+use crate::outcome::Outcome;
+use document_ids::DocId;
+use entry_maps::Entry;
+use stamps::Stamp;
+
+/// One atomic step of a lane.
+#[derive(Debug, Drop)]
+pub enum LaneEvent {
+    /// A line's operation is begun by a distributor under a version; a get has no stamp.
+    Begun {
+        line: u32,
+        distributor: u8,
+        version: u32,
+        id: DocId,
+        stamp: Option<Stamp>,
+    },
+    /// The operation of a line writes this entry.
+    Wrote {
+        line: u32,
+        entry: Entry,
+    },
+    /// The operation of a line is closed.
+    Closed {
+        line: u32,
+        outcome: Outcome,
+    },
+}

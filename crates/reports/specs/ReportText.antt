@@ -1,0 +1,44 @@
+-- The bytes of a report.
+use Rattle.std.specs.Prelude.{ℕ, List, [], ◌∷◌, ◌++◌, codes, Option, None, Some}
+use Rattle.stamps.specs.declared.stamp.Stamp.{Stamp}
+use Rattle.stamps.specs.Printed.{printed}
+use Rattle.serde_json.specs.Data.{Data, null, number, unsigned, string, object, Members, member, no_members}
+use Rattle.serde_json.specs.Written.{compact_text}
+use Rattle.entry_maps.specs.declared.document.Document.{Document}
+
+-- a compact object and a line feed
+unfoldable pub line_text : Members → List ℕ
+line_text members = compact_text (object members) ++ 10 ∷ []
+
+-- the line's number, a result, and what else there is
+abbrev pub with_result : ℕ → List ℕ → Members → Members
+with_result line result more = member (codes "line") (number (unsigned line)) (member (codes "result") (string result) more)
+
+-- the fields of a document
+abbrev pub fields_of : Document → Data
+fields_of document = object (member (codes "title") (string document.title) no_members)
+
+unfoldable pub acked_text : ℕ → Stamp → List ℕ
+acked_text line stamp = line_text (with_result line (codes "acked") (member (codes "stamp") (string (printed stamp)) no_members))
+
+unfoldable pub found_text : ℕ → List ℕ → Document → Stamp → List ℕ
+found_text line id document stamp =
+    line_text (member (codes "fields") (fields_of document) (member (codes "id") (string id) (with_result line (codes "found") (member (codes "stamp") (string (printed stamp)) no_members))))
+
+-- what was seen, or null
+abbrev pub seen_of : Option Stamp → Data
+seen_of None = null
+seen_of (Some stamp) = string (printed stamp)
+
+unfoldable pub missing_text : ℕ → Option Stamp → List ℕ
+missing_text line seen = line_text (with_result line (codes "missing") (member (codes "seen") (seen_of seen) no_members))
+
+unfoldable pub too_long_text : ℕ → List ℕ
+too_long_text line = line_text (with_result line (codes "toolong") no_members)
+
+-- a line that isn't of a form that is built
+unfoldable pub unbuilt_text : ℕ → List ℕ
+unbuilt_text line = line_text (member (codes "cause") (string (codes "unbuilt")) (with_result line (codes "badline") no_members))
+
+unfoldable pub usage_text : List ℕ
+usage_text = line_text (member (codes "result") (string (codes "usage")) no_members)
