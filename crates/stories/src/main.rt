@@ -1,0 +1,50 @@
+//! Runs the worked sessions of `data/` through the top call of the product, over ends in memory, and
+//! prints one line for each. `data/index` names them; a new story is a new file and a line there.
+#![tactic(auto)]
+
+mod story;
+
+use crate::story::Story;
+use anyhow::Result;
+use cell_session::{Cluster, run_one};
+use io_ends::{MemorySink, MemorySource};
+use std::alloc::Global;
+use std::fs;
+use std::process::ExitCode;
+
+fn main(rt: HostRuntime) -> Result<ExitCode> {
+    let mut failed = 0u8;
+    let index = fs::read_to_string(&rt, "index")?;
+    for name in index.lines() {
+        let text = fs::read_to_string(&rt, name)?;
+        let story = Story::parse(rt.alloc(), &text)?;
+        let (output, status) = tell(rt.alloc(), &story)?;
+        if status == story.status && output == story.output {
+            println!(rt; "ok {name}")?;
+        } else {
+            failed = 1;
+            println!(rt; "DIFFERS {name}")?;
+            println!(rt; "wanted status {} and\n{}", story.status, shown(&story.output))?;
+            println!(rt; "came status {status} and\n{}", shown(&output))?;
+        }
+    }
+    Ok(ExitCode::from(failed))
+}
+
+/// What the session answers, and its status.
+fn tell(alloc: Global, story: &Story) -> Result<(Vec<u8>, u8)> {
+    let mut input = Vec::new(alloc);
+    input.extend_from_slice(&story.input)?;
+    let mut source = MemorySource::new(input, Vec::new(alloc));
+    let mut sink = MemorySink::new(alloc, Vec::new(alloc));
+    let mut cluster = Cluster::empty(alloc);
+    let status = run_one(alloc, &story.words, &mut source, &mut sink, &mut cluster);
+    let mut output = Vec::new(alloc);
+    output.extend_from_slice(sink.bytes())?;
+    Ok((output, status.number()))
+}
+
+/// The bytes as text, where they are text.
+fn shown(bytes: &[u8]) -> &str {
+    str::from_utf8(bytes).unwrap_or("(not UTF-8)")
+}
