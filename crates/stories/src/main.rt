@@ -2,6 +2,10 @@
 //! prints one line for each. `data/index` names them; a new story is a new file and a line there.
 #![tactic(auto)]
 
+#[cfg(test)]
+mod faults;
+#[cfg(test)]
+mod names;
 mod story;
 
 use crate::story::Story;

@@ -1,0 +1,164 @@
+//! Tables of ids, keys, buckets and stamps; the values are those of RFC 1321 and of Vespa's formats.
+
+use bucket_ids::Bucket;
+use document_ids::{DocId, IdFault};
+use global_ids::{Gid, lane_of};
+use md5::{Digest, Md5};
+use stamps::Stamp;
+
+#[test]
+fn ids_are_refused_for_their_leftmost_fault(rt: HostRuntime) {
+    let cases = [
+        ("", IdFault::BadScheme),
+        ("doc:x", IdFault::BadScheme),
+        ("ID:ns:music::a", IdFault::BadScheme),
+        ("id:", IdFault::BadPart { part: 1 }),
+        ("id::music::a", IdFault::BadPart { part: 1 }),
+        ("id:n s:music::a", IdFault::BadPart { part: 1 }),
+        ("id:n/s:film:x:", IdFault::BadPart { part: 1 }),
+        ("id:ns", IdFault::BadPart { part: 1 }),
+        ("id:ns::x", IdFault::BadPart { part: 2 }),
+        ("id:ns:mu sic::a", IdFault::BadPart { part: 2 }),
+        ("id:ns:music", IdFault::BadPart { part: 2 }),
+        ("id:ns:music:", IdFault::BadPart { part: 3 }),
+        ("id:ns:music:x=1:a", IdFault::BadPart { part: 3 }),
+        ("id:ns:music:g=:a", IdFault::BadPart { part: 3 }),
+        ("id:ns:music:g=a b:a", IdFault::BadPart { part: 3 }),
+        ("id:ns:music:n=:a", IdFault::BadNumber),
+        ("id:ns:music:n=01:a", IdFault::BadNumber),
+        ("id:ns:music:n=+1:a", IdFault::BadNumber),
+        ("id:ns:music:n=1x:a", IdFault::BadNumber),
+        ("id:ns:music:n=9223372036854775808:a", IdFault::BadNumber),
+        ("id:ns:music::", IdFault::BadPart { part: 4 }),
+        ("id:ns:music::a\u{1f}", IdFault::BadPart { part: 4 }),
+        ("id:ns:music::a\u{7f}", IdFault::BadPart { part: 4 }),
+        ("id:ns:music::a\u{9f}", IdFault::BadPart { part: 4 }),
+    ];
+    for (text, fault) in cases {
+        match DocId::parse(rt.alloc(), text) {
+            Ok(_) => assert!(rt; false, "{text} is read"),
+            Err(found) => assert_eq!(rt; found, fault, "at {text}"),
+        }
+    }
+}
+
+#[test]
+fn long_parts_are_refused(rt: HostRuntime) -> anyhow::Result<()> {
+    for (part, size, most) in [(1u8, 65usize, 64usize), (2, 65, 64), (3, 65, 64), (4, 1025, 1024)] {
+        for length in [size, most] {
+            let mut long = String::new(rt.alloc());
+            for _ in 0..length {
+                long.push('x')?;
+            }
+            let text = match part {
+                1 => format!(in rt.alloc(); "id:{long}:music::a")?,
+                2 => format!(in rt.alloc(); "id:ns:{long}::a")?,
+                3 => format!(in rt.alloc(); "id:ns:music:g={long}:a")?,
+                _ => format!(in rt.alloc(); "id:ns:music::{long}")?,
+            };
+            let fault = DocId::parse(rt.alloc(), text.as_str()).err();
+            let wanted = if length == most {
+                None
+            } else {
+                Some(IdFault::TooLong { part })
+            };
+            assert_eq!(rt; fault, wanted, "at part {part} of {length}");
+        }
+    }
+    Ok(())
+}
+
+#[test]
+fn an_id_tells_its_parts(rt: HostRuntime) -> anyhow::Result<()> {
+    let id = DocId::parse(rt.alloc(), "id:ns:music:n=9223372036854775807:a:b:c")?;
+    assert_eq!(rt; id.text(), "id:ns:music:n=9223372036854775807:a:b:c");
+    assert_eq!(rt; id.type_name(), "music");
+    assert_eq!(rt; id.number(), Some(9223372036854775807));
+    assert!(rt; id.group().is_none());
+    let grouped = DocId::parse(rt.alloc(), "id:ns:film:g=a.b-c_9:x")?;
+    assert_eq!(rt; grouped.type_name(), "film");
+    assert_eq!(rt; grouped.number(), None);
+    assert_eq!(rt; grouped.group(), Some("a.b-c_9"));
+    Ok(())
+}
+
+#[test]
+fn digests_are_those_of_the_rfc(rt: HostRuntime) {
+    let cases = [
+        ("", 0xd41d8cd98f00b204e9800998ecf8427eu128),
+        ("a", 0x0cc175b9c0f1b6a831c399e269772661),
+        ("abc", 0x900150983cd24fb0d6963f7d28e17f72),
+    ];
+    for (text, digest) in cases {
+        assert_eq!(rt; Md5::digest(text), digest.to_be_bytes(), "at {text}");
+    }
+}
+
+#[test]
+fn ids_have_their_locations_and_lanes(rt: HostRuntime) -> anyhow::Result<()> {
+    let cases = [
+        ("id:ns:music:n=0:a", 0u64, 0u8),
+        ("id:ns:music:n=4294967297:a", 1, 1),
+        ("id:ns:music:n=9223372036854775807:a", 0xffff_ffff, 15),
+        ("id:ns:music:g=a:x", 0xb975_c10c, 12),
+        ("id:ns:music:g=abc:x", 0x9850_0190, 0),
+        ("id:ns:music:g=abc:y", 0x9850_0190, 0),
+    ];
+    for (text, location, lane) in cases {
+        let gid = Gid::of(&DocId::parse(rt.alloc(), text)?);
+        let [a, b, c, d, ..] = gid.bytes();
+        assert_eq!(rt; u64::from(u32::from_le_bytes([a, b, c, d])), location, "at {text}");
+        assert_eq!(rt; gid.key() % (1 << 32), location, "at {text}");
+        assert_eq!(rt; lane_of(gid.key(), 4), lane, "at {text}");
+        if location == 0x9850_0190 {
+            let bucket = Bucket::new(32, 0x9850_0190);
+            assert!(rt; bucket.contains(gid.key()));
+            assert_eq!(rt; bucket.print(rt.alloc())?.as_str(), "8000000098500190");
+        }
+    }
+    Ok(())
+}
+
+#[test]
+fn buckets_are_printed_and_read(rt: HostRuntime) -> anyhow::Result<()> {
+    let cases = [
+        (1u8, 1u64, "0400000000000001"),
+        (4, 0, "1000000000000000"),
+        (16, 4660, "4000000000001234"),
+        (58, (1 << 58) - 1, "ebffffffffffffff"),
+    ];
+    for (bits, low, text) in cases {
+        let bucket = Bucket::new(bits, low);
+        assert_eq!(rt; bucket.print(rt.alloc())?.as_str(), text);
+        assert_eq!(rt; Bucket::parse(text), Ok(bucket));
+    }
+    for text in ["0000000000000000", "0400000000000002", "EBFFFFFFFFFFFFFF", "", "04000000000000010"] {
+        assert!(rt; Bucket::parse(text).is_err(), "at {text}");
+    }
+    Ok(())
+}
+
+#[test]
+fn buckets_have_their_kin(rt: HostRuntime) {
+    let lane = Bucket::new(4, 5);
+    let (first, second) = lane.children();
+    assert_eq!(rt; (first.bits(), first.low(), second.low()), (5, 5, 21));
+    assert_eq!(rt; second.parent(), lane);
+    assert_eq!(rt; second.sibling(), first);
+    assert_eq!(rt; lane.measure(), 1 << 54);
+    assert!(rt; lane.covers(second) && !second.covers(lane) && lane.covers(lane));
+    assert_eq!(rt; lane.run(), (0xa000_0000_0000_0000, 0xafff_ffff_ffff_ffff));
+    assert_eq!(rt; bucket_ids::path_of(5), 0xa000_0000_0000_0000);
+}
+
+#[test]
+fn stamps_are_printed(rt: HostRuntime) -> anyhow::Result<()> {
+    let stamp = Stamp {
+        version: 4294967295,
+        count: 18446744073709551614,
+    };
+    let text = stamp.next().print(rt.alloc())?;
+    assert_eq!(rt; text.as_str(), "4294967295:18446744073709551615");
+    assert!(rt; stamp.is_before(stamp.next()) && !stamp.is_before(stamp));
+    Ok(())
+}
