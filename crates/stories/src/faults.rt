@@ -10,11 +10,13 @@ use stamps::Stamp;
 use std::alloc::Global;
 use value_lists::{Listed, TextValue, TryCopy};
 
-const LINES: &str = "{\"put\":\"id:ns:music:n=0:a\",\"fields\":{\"title\":\"One\"}}\n{\"get\":\"id:ns:music:n=0:a\"}\n";
+const LINES: &str =
+    "{\"put\":\"id:ns:music:n=0:a\",\"fields\":{\"title\":\"One\"}}\n{\"get\":\"id:ns:music:n=0:a\"}\n";
 
 const FIRST: &str = "{\"line\":1,\"result\":\"acked\",\"stamp\":\"1:1\"}\n";
 
-const SECOND: &str = "{\"fields\":{\"title\":\"One\"},\"id\":\"id:ns:music:n=0:a\",\"line\":2,\"result\":\"found\",\"stamp\":\"1:1\"}\n";
+const SECOND: &str =
+    "{\"fields\":{\"title\":\"One\"},\"id\":\"id:ns:music:n=0:a\",\"line\":2,\"result\":\"found\",\"stamp\":\"1:1\"}\n";
 
 fn failing(alloc: Global, call: Option<u64>) -> anyhow::Result<Vec<u64>> {
     let mut calls = Vec::new(alloc);
@@ -55,7 +57,11 @@ fn each_call_of_an_end_may_fail(rt: HostRuntime) -> anyhow::Result<()> {
         if reports > 1 {
             output.push_str(SECOND)?;
         }
-        assert_eq!(rt; sink.bytes(), output.as_bytes(), "at {read:?} and {write:?}");
+        assert_eq!(rt;
+            sink.bytes(),
+            output.as_bytes(),
+            "at {read:?} and {write:?}"
+        );
     }
     Ok(())
 }
@@ -65,10 +71,16 @@ fn reading_goes_on_after_a_fault(rt: HostRuntime) -> anyhow::Result<()> {
     let mut source = source_of(rt.alloc(), "one\ntwo", Some(1))?;
     let mut reader = LineReader::new(rt.alloc(), 100, 10)?;
     let mut line = Vec::new(rt.alloc());
-    assert_eq!(rt; reader.next(&mut source, &mut line), Next::Line { number: 1 });
+    assert_eq!(rt;
+        reader.next(&mut source, &mut line),
+        Next::Line { number: 1 }
+    );
     assert_eq!(rt; line.as_slice(), b"one".as_slice());
     assert_eq!(rt; reader.next(&mut source, &mut line), Next::ReadFault);
-    assert_eq!(rt; reader.next(&mut source, &mut line), Next::Line { number: 2 });
+    assert_eq!(rt;
+        reader.next(&mut source, &mut line),
+        Next::Line { number: 2 }
+    );
     assert_eq!(rt; line.as_slice(), b"two".as_slice());
     assert_eq!(rt; reader.next(&mut source, &mut line), Next::End);
     Ok(())
@@ -104,7 +116,12 @@ fn a_session_leaves_its_journals(rt: HostRuntime) -> anyhow::Result<()> {
 fn calls_succeed_where_there_is_memory(rt: HostRuntime) -> anyhow::Result<()> {
     let id = DocId::parse(rt.alloc(), "id:ns:music:n=0:a")?;
     let mut map = EntryMap::new(rt.alloc());
-    for (count, title, taken) in [(2u64, "Two", true), (1, "One", false), (2, "Again", false), (3, "Three", true)] {
+    for (count, title, taken) in [
+        (2u64, "Two", true),
+        (1, "One", false),
+        (2, "Again", false),
+        (3, "Three", true),
+    ] {
         let entry = Entry {
             stamp: Stamp { version: 1, count },
             id: id.copy(rt.alloc())?,

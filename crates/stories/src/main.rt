@@ -28,7 +28,11 @@ fn main(rt: HostRuntime) -> Result<ExitCode> {
         } else {
             failed = 1;
             println!(rt; "DIFFERS {name}")?;
-            println!(rt; "wanted status {} and\n{}", story.status, shown(&story.output))?;
+            println!(rt;
+                "wanted status {} and\n{}",
+                story.status,
+                shown(&story.output)
+            )?;
             println!(rt; "came status {status} and\n{}", shown(&output))?;
         }
     }

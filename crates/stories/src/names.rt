@@ -4,6 +4,7 @@ use bucket_ids::Bucket;
 use document_ids::{DocId, IdFault};
 use global_ids::{Gid, lane_of};
 use md5::{Digest, Md5};
+use node_sets::NodeSet;
 use stamps::Stamp;
 
 #[test]
@@ -44,7 +45,12 @@ fn ids_are_refused_for_their_leftmost_fault(rt: HostRuntime) {
 
 #[test]
 fn long_parts_are_refused(rt: HostRuntime) -> anyhow::Result<()> {
-    for (part, size, most) in [(1u8, 65usize, 64usize), (2, 65, 64), (3, 65, 64), (4, 1025, 1024)] {
+    for (part, size, most) in [
+        (1u8, 65usize, 64usize),
+        (2, 65, 64),
+        (3, 65, 64),
+        (4, 1025, 1024),
+    ] {
         for length in [size, most] {
             let mut long = String::new(rt.alloc());
             for _ in 0..length {
@@ -107,7 +113,11 @@ fn ids_have_their_locations_and_lanes(rt: HostRuntime) -> anyhow::Result<()> {
     for (text, location, lane) in cases {
         let gid = Gid::of(&DocId::parse(rt.alloc(), text)?);
         let [a, b, c, d, ..] = gid.bytes();
-        assert_eq!(rt; u64::from(u32::from_le_bytes([a, b, c, d])), location, "at {text}");
+        assert_eq!(rt;
+            u64::from(u32::from_le_bytes([a, b, c, d])),
+            location,
+            "at {text}"
+        );
         assert_eq!(rt; gid.key() % (1 << 32), location, "at {text}");
         assert_eq!(rt; lane_of(gid.key(), 4), lane, "at {text}");
         if location == 0x9850_0190 {
@@ -132,7 +142,13 @@ fn buckets_are_printed_and_read(rt: HostRuntime) -> anyhow::Result<()> {
         assert_eq!(rt; bucket.print(rt.alloc())?.as_str(), text);
         assert_eq!(rt; Bucket::parse(text), Ok(bucket));
     }
-    for text in ["0000000000000000", "0400000000000002", "EBFFFFFFFFFFFFFF", "", "04000000000000010"] {
+    for text in [
+        "0000000000000000",
+        "0400000000000002",
+        "EBFFFFFFFFFFFFFF",
+        "",
+        "04000000000000010",
+    ] {
         assert!(rt; Bucket::parse(text).is_err(), "at {text}");
     }
     Ok(())
@@ -161,4 +177,23 @@ fn stamps_are_printed(rt: HostRuntime) -> anyhow::Result<()> {
     assert_eq!(rt; text.as_str(), "4294967295:18446744073709551615");
     assert!(rt; stamp.is_before(stamp.next()) && !stamp.is_before(stamp));
     Ok(())
+}
+
+#[test]
+fn sets_of_nodes_have_their_members(rt: HostRuntime) {
+    let nodes = NodeSet::of(0b1000_0000_0000_0000_0000_0000_0000_1101);
+    assert_eq!(rt; nodes.len(), 4);
+    for (index, node) in [(0u8, 0u8), (1, 2), (2, 3), (3, 31)] {
+        assert_eq!(rt; nodes.at(index), node);
+        assert!(rt; nodes.has(node));
+    }
+    assert!(rt; !nodes.has(1) && !nodes.has(32) && !nodes.has(255));
+    assert_eq!(rt; nodes.with(1).len_below(4), 4);
+    assert_eq!(rt; nodes.without(31).bits(), 0b1101);
+    let even = NodeSet::of(0x5555_5555);
+    assert_eq!(rt; nodes.intersection(even).bits(), 0b0101);
+    assert_eq!(rt; nodes.difference(even).bits(), 0x8000_0008);
+    assert_eq!(rt; nodes.union(even).len(), 18);
+    assert!(rt; nodes.without(31).without(3).is_within(even) && !nodes.is_within(even));
+    assert!(rt; nodes.has_at_least(4) && !nodes.has_at_least(5));
 }
