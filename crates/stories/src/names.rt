@@ -3,6 +3,8 @@
 use bucket_ids::Bucket;
 use document_ids::{DocId, IdFault};
 use global_ids::{Gid, lane_of};
+use ideal_nodes::scores::score;
+use ideal_nodes::{ideal_among, owner_among};
 use md5::{Digest, Md5};
 use node_sets::NodeSet;
 use stamps::Stamp;
@@ -196,4 +198,41 @@ fn sets_of_nodes_have_their_members(rt: HostRuntime) {
     assert_eq!(rt; nodes.union(even).len(), 18);
     assert!(rt; nodes.without(31).without(3).is_within(even) && !nodes.is_within(even));
     assert!(rt; nodes.has_at_least(4) && !nodes.has_at_least(5));
+}
+
+#[test]
+fn nodes_have_their_ideal_order(rt: HostRuntime) {
+    // the orders were computed by another program's MD5
+    let cases = [
+        (Bucket::new(4, 0), 0b1111u32, 0x2310u64, 4u8, 3u8),
+        (Bucket::new(16, 4660), (1 << 31) | 0b100101, 0x25, 4, 0),
+        (Bucket::new(58, (1 << 58) - 1), 1 << 7, 0x7, 1, 7),
+        (Bucket::new(4, 5), 0xff, 0x72014365, 8, 4),
+    ];
+    for (bucket, bits, order, len, owner) in cases {
+        let nodes = NodeSet::of(bits);
+        let list = ideal_among(bucket, nodes);
+        assert_eq!(rt; list.len(), len);
+        let mut seen = 0u64;
+        for index in 0..list.len() {
+            if list.at(index) < 16 {
+                seen = (seen << 4) | u64::from(list.at(index));
+            }
+        }
+        if len == 4 && nodes.has(31) {
+            assert_eq!(rt;
+                (list.at(0), list.at(1), list.at(2), list.at(3)),
+                (2, 5, 0, 31)
+            );
+        } else {
+            assert_eq!(rt; seen, order, "at {bits}");
+        }
+        assert_eq!(rt; owner_among(bucket, nodes), Some(owner));
+    }
+    assert_eq!(rt; owner_among(Bucket::new(4, 0), NodeSet::of(0)), None);
+    assert_eq!(rt; ideal_among(Bucket::new(4, 0), NodeSet::of(0)).len(), 0);
+    assert_eq!(rt;
+        score(b"ideal".as_slice(), Bucket::new(4, 0), 0),
+        0x111a_412d_100e_47a4
+    );
 }

@@ -12,6 +12,8 @@
 //! ```
 #![tactic(auto)]
 
+#[cfg(test)]
+mod few;
 pub mod scanner;
 mod scanning;
 

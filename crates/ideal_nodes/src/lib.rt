@@ -1,0 +1,20 @@
+//! Where a bucket's documents are to lie: its nodes in ideal order, and the owner of a lane.
+//!
+//! Each node has a score for a bucket, from the MD5 of both (RFC 1321), as Vespa's distribution
+//! orders nodes by pseudo-random numbers. A contract speaks of the score (`score_of`), of which of two
+//! nodes ranks first (`Ranks`: the greater score, ties by the lower number), and of the list that has
+//! each member of a set once, in that order (`IsRanked`). No call takes memory.
+//!
+//! ```text
+//! owner_among(lane, distributors)    // None where there is no distributor
+//! ```
+#![tactic(auto)]
+
+pub mod laws;
+pub mod lists;
+pub mod owners;
+mod ranks;
+pub mod scores;
+
+pub use lists::{NodeList, ideal_among};
+pub use owners::owner_among;
