@@ -167,6 +167,7 @@ impl Bucket {
     pub fn run(self) -> (u64, u64)
         ensures first { result.0 ≡ first_path self }
         ensures last { result.1 ≡ last_path self }
+        ensures valid { IsBucket self }
     {
         let first = path_of(self.low);
         (first, first + (u64::MAX >> self.bits))

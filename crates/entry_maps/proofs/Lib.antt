@@ -1,1 +1,5 @@
-pub mod PairLaws
+pub mod SlotLists
+pub mod StoredLaws
+pub mod RunLaws
+pub mod MergeLaws
+pub mod CountLaws

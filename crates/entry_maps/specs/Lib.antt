@@ -1,3 +1,3 @@
 pub mod Entries
 pub mod EntryCodes
-pub mod Pairs
+pub mod Slots

@@ -1,43 +1,34 @@
-ghost use Rattle.std.specs.Prelude.{◌≡◌, IfOk, OnOk, OnErr, is_some, if◌then◌else◌};
+ghost use Rattle.std.specs.Prelude.{◌≡◌, ℕ, List, IfOk, OnOk, OnErr, not};
 ghost use Rattle.std.specs.Option.{option_copied};
 ghost use Rattle.std.specs.FinMap as fin;
-ghost use Rattle.entry_maps.specs.Entries.{is_newer, with_entry};
+ghost use Rattle.entry_maps.specs.Entries.{is_newer, with_entry, newer_of, in_bucket, documents_of};
 
 use crate::entry::Entry;
+use crate::stored::{Stored, slot_of};
+use bucket_ids::Bucket;
 use document_ids::DocId;
 use std::alloc::Global;
-use std::collections::BTreeMap;
 use std::marker::Model;
 use value_lists::NoMemory;
 
 /// The newest entry of each document.
 #[derive(Drop)]
 pub struct EntryMap {
-    by_text: BTreeMap<String, Entry>,
-    count: u64,
+    stored: Stored,
     alloc: Global,
 }
 
 impl Model for EntryMap {
-    ghost use Rattle.std.specs.Prelude.{◌≡◌};
-    ghost use Rattle.std.specs.FinMap as fin;
     ghost use Rattle.entry_maps.specs.EntryCodes.{Entries, entries_code};
-    ghost use Rattle.entry_maps.specs.Pairs.{entries_of};
+    ghost use Rattle.entry_maps.specs.Slots.{entries_of, IsStored};
 
     ghost Value = { Entries };
 
     ghost coded = { entries_code };
 
-    ghost view = { λ m. entries_of m.by_text.entries };
+    ghost view = { λ m. entries_of m.stored.list.items };
 
-    ghost invariant = { λ m. m.count ≡ fin.len (entries_of m.by_text.entries) };
-}
-
-/// How many entries there are after a change that found `old`.
-fn counted(old: &Option<Entry>, same: u64, more: u64) -> u64
-    ensures { result ≡ if is_some old.now then same else more }
-{
-    if old.is_some() { same } else { more }
+    ghost invariant = { λ m. IsStored m.stored };
 }
 
 impl EntryMap {
@@ -46,8 +37,10 @@ impl EntryMap {
         ensures { result ≡ fin.empty }
     {
         EntryMap {
-            by_text: BTreeMap::new(alloc),
-            count: 0,
+            stored: Stored {
+                list: Vec::new(alloc),
+                documents: 0,
+            },
             alloc,
         }
     }
@@ -56,14 +49,21 @@ impl EntryMap {
     pub fn get(&self, id: &DocId) -> Option<&Entry>
         ensures { option_copied result ≡ fin.get self.now id.now }
     {
-        self.by_text.get(id.text())
+        self.stored.get(id)
     }
 
     /// How many entries there are, removes among them.
     pub fn entries(&self) -> u64
         ensures { result ≡ fin.len self.now }
     {
-        self.count
+        self.stored.list.len() as u64
+    }
+
+    /// How many documents there are: the entries that aren't removes.
+    pub fn documents(&self) -> u64
+        ensures { result ≡ documents_of self.now }
+    {
+        self.stored.documents as u64
     }
 
     /// Takes an entry; `false` exactly where an entry of the same or a greater stamp was there,
@@ -73,34 +73,33 @@ impl EntryMap {
         ensures ok { OnOk result (self.new ≡ with_entry self.old entry) }
         ensures err { OnErr result (self.new ≡ self.old) }
     {
-        if !self.would_take(&entry) {
-            return Ok(false);
-        }
-        self.insert(entry)?;
-        Ok(true)
+        let slot = slot_of(self.alloc, entry)?;
+        self.stored.take(slot)
     }
 
-    /// Whether an entry is newer than what is there.
-    fn would_take(&self, entry: &Entry) -> bool
-        ensures { result ≡ is_newer entry.now (fin.get self.now entry.now.id) }
-    {
-        match self.get(&entry.id) {
-            Some(there) => there.stamp.is_before(entry.stamp),
-            None => true,
-        }
-    }
-
-    /// Takes an entry, whatever is there.
-    fn insert(&mut self, entry: Entry) -> Result<(), NoMemory>
-        ensures ok { OnOk result (self.new ≡ fin.insert self.old entry.id entry) }
+    /// Takes, of each document, the other map's entry where that is newer. The only error is want
+    /// of memory.
+    pub fn merge(&mut self, other: &EntryMap) -> Result<(), NoMemory>
+        ensures ok { OnOk result ((id : List ℕ) → fin.get self.new id ≡ newer_of (fin.get self.old id) (fin.get other.now id)) }
         ensures err { OnErr result (self.new ≡ self.old) }
     {
-        let key = String::from_str(self.alloc, entry.id.text())?;
-        let Some(count) = self.count.checked_add(1) else {
-            return Err(NoMemory);
-        };
-        let old = self.by_text.insert(key, entry)?;
-        self.count = counted(&old, self.count, count);
-        Ok(())
+        self.stored.merge(self.alloc, &other.stored)
+    }
+
+    /// The entries whose documents' keys lie in a bucket. The only error is want of memory.
+    pub fn within(&self, bucket: Bucket) -> Result<EntryMap, NoMemory>
+        ensures { IfOk result (λ part. part ≡ fin.retain_keys self.now (in_bucket bucket)) }
+    {
+        Ok(EntryMap {
+            stored: self.stored.within(self.alloc, bucket)?,
+            alloc: self.alloc,
+        })
+    }
+
+    /// Removes the entries whose documents' keys lie in a bucket; takes no memory.
+    pub fn remove_within(&mut self, bucket: Bucket)
+        ensures { self.new ≡ fin.retain_keys self.old (λ id. not (in_bucket bucket id)) }
+    {
+        self.stored.remove_within(bucket);
     }
 }

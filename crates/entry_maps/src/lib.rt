@@ -1,18 +1,23 @@
 //! Entries of documents, and maps in which the newest entry of a document wins.
 //!
 //! An `Entry` is a stamp with a document or with a remove. A contract sees an `EntryMap` as the finite
-//! map of std's from the text of an id to its entry (`Entries`).
+//! map of std's from the text of an id to its entry (`Entries`). Inside, entries lie in the order of
+//! their keys' bits turned round, so that each bucket is one run (`specs/Slots.antt`).
 //!
 //! ```text
 //! let mut map = EntryMap::new(alloc);
-//! map.put(entry)?;             // false where an entry of the same or a greater stamp was there
-//! map.get(&id)                 // the newest
+//! map.put(entry)?;                    // false where an entry of the same or a greater stamp was there
+//! map.get(&id)                        // the newest
+//! map.within(Bucket::new(4, 0))?      // the entries of one bucket
+//! map.merge(&other)?;                 // of each document the newer entry
 //! ```
 #![tactic(auto)]
 
 pub mod document;
 pub mod entry;
 pub mod entry_map;
+mod slots;
+mod stored;
 
 pub use document::Document;
 pub use entry::Entry;

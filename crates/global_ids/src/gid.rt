@@ -1,5 +1,5 @@
 ghost use Rattle.std.specs.Prelude.{◌≡◌, ◌^◌, ◌<◌, ◌≤◌, ◌++◌, length, take, drop};
-ghost use Rattle.global_ids.specs.Keys.{gid_of, key_from, key_of, lane_of};
+ghost use Rattle.global_ids.specs.Keys.{gid_of, key_from, key_of, lane_of, location_of};
 
 use crate::locations::{digest_of, location_of};
 use document_ids::DocId;
@@ -47,7 +47,8 @@ impl Gid {
     /// The gid of a document's id; takes no memory.
     #[tactic(auto, unfolding(crate::specs::Keys::gid_of))]
     pub fn of(id: &DocId) -> Gid
-        ensures { result ≡ gid_of id.now }
+        ensures value { result ≡ gid_of id.now }
+        ensures located { location_of id.now < 2 ^ 32 }
     {
         let location = location_of(id).to_le_bytes();
         Gid {

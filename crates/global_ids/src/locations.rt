@@ -33,7 +33,8 @@ fn location_by_group(group: Option<&str>, text: &str) -> u32
 /// The location of an id; takes no memory.
 #[tactic(auto, unfolding(crate::specs::Keys::location_of))]
 pub fn location_of(id: &DocId) -> u32
-    ensures { result ≡ location_of id.now }
+    ensures value { result ≡ location_of id.now }
+    ensures small { location_of id.now < 2 ^ 32 }
 {
     match id.number() {
         Some(number) => (number & 0xffff_ffff) as u32,

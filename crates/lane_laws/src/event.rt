@@ -1,3 +1,6 @@
+ghost use Rattle.std.specs.Prelude.{◌≡◌};
+ghost use Rattle.lane_laws.specs.Journals.{line_of};
+
 use crate::outcome::Outcome;
 use document_ids::DocId;
 use entry_maps::Entry;
@@ -24,4 +27,17 @@ pub enum LaneEvent {
         line: u32,
         outcome: Outcome,
     },
+}
+
+impl LaneEvent {
+    /// The number of the line that the event is of.
+    pub fn line(&self) -> u32
+        ensures { result ≡ line_of self.now }
+    {
+        match self {
+            LaneEvent::Begun { line, .. } => *line,
+            LaneEvent::Wrote { line, .. } => *line,
+            LaneEvent::Closed { line, .. } => *line,
+        }
+    }
 }

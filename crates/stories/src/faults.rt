@@ -98,7 +98,9 @@ fn a_session_leaves_its_journals(rt: HostRuntime) -> anyhow::Result<()> {
     assert_eq!(rt; cluster.lanes(), 16);
     assert_eq!(rt; (cluster.store_size(0), cluster.store_size(1)), (1, 0));
     let mut kinds = String::new(rt.alloc());
+    let mut lines = 0u32;
     for event in cluster.journal(0) {
+        lines = lines.wrapping_add(event.line());
         kinds.push(match event {
             LaneEvent::Begun { .. } => 'B',
             LaneEvent::Wrote { .. } => 'W',
@@ -106,6 +108,7 @@ fn a_session_leaves_its_journals(rt: HostRuntime) -> anyhow::Result<()> {
         })?;
     }
     assert_eq!(rt; kinds.as_str(), "BWCBC");
+    assert_eq!(rt; lines, 1 + 1 + 1 + 2 + 2);
     assert!(rt; cluster.journal(1).is_empty());
     let id = DocId::parse(rt.alloc(), "id:ns:music:n=0:a")?;
     assert!(rt; cluster.entry(&id).is_some());

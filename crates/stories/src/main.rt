@@ -5,6 +5,8 @@
 #[cfg(test)]
 mod faults;
 #[cfg(test)]
+mod maps;
+#[cfg(test)]
 mod names;
 mod story;
 

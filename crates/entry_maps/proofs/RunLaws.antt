@@ -1,0 +1,168 @@
+-- The slots of a bucket are one run of the list.
+use Rattle.std.proofs.Common.{◌≡◌, ℕ, ◌+◌, ◌-◌, ◌<◌, ◌≤◌, ◌^◌, ◌↔◌, Bool, true, false, cond, not, List, [], ◌∷◌, ◌++◌, length, take, drop, slice_range, refl, sym, ap, ap₂, subst, ◌∙◌, arith, eqb-true, eq-eqb, Option, None, Some}
+use mathlib.Core.Bool.{true≢false}
+use Rattle.std.specs.List.{All, AllWithin, filter, count_by}
+use Rattle.std.specs.FinMap as fin
+use Rattle.std.specs.FinMap.{get-retain_keys, slice_cmp-IsAntisymmetric, nat_cmp-IsAntisymmetric}
+use Rattle.std.proofs.lemmas.List.{take-append-drop, get_or-take, get_or-drop, length-take, length-drop, append-nil, drop-drop, take_all}
+use Rattle.std.proofs.lemmas.List.Elements.{All-head, All-tail, All-drop, All-filter, filter-append}
+use Rattle.std.proofs.lemmas.List.Kept.{IsNonDecreasingBy-filter}
+use Rattle.std.proofs.lemmas.List.Filters.{sum_by-filter_both}
+use Rattle.bucket_ids.specs.Buckets.{Low, IsBucket, IsIn, has_key}
+use Rattle.bucket_ids.specs.Paths.{path, first_path, last_path}
+use Rattle.global_ids.specs.Keys.{key_of}
+use Rattle.entry_maps.specs.declared.entry.Entry.{Entry}
+use Rattle.entry_maps.specs.declared.slots.Slot.{Slot}
+use Rattle.entry_maps.specs.Slots.{entries_of, entry_in, Apart, IsPlaced, IsKept, has_document, lies_in}
+use Rattle.entry_maps.proofs.SlotLists.{same_id, same_id-is, get-entries_of, cond_none}
+use Rattle.entry_maps.proofs.StoredLaws.{same_entries}
+
+-- what the order of paths says of a bucket
+abbrev pub RunLaw : Type 0
+RunLaw = (b : Low) (key : ℕ) → IsBucket b → key < 2 ^ 58 → IsIn b key ↔ ((first_path b ≤ path key) × (path key ≤ last_path b))
+
+not_in : (b : Low) (s : Slot) (t : Bool) → has_key b (key_of s.entry.id) ≡ t → (IsIn b (key_of s.entry.id) → ⊥) → IsPlaced s → has_key b (key_of s.entry.id) ≡ false
+not_in b s true e out placed = absurd (out (placed.small, eqb-true _ _ e))
+not_in b s false e out placed = e
+
+pub in_below : RunLaw → (b : Low) (s : Slot) → IsBucket b → IsPlaced s → s.path < first_path b → lies_in b s ≡ false
+in_below law b s bucket placed below = not_in b s _ refl (λ i. let p = ((law b (key_of s.entry.id) bucket placed.small).0 i).0 in omega (arith, p, below, placed.place)) placed
+
+pub in_past : RunLaw → (b : Low) (s : Slot) → IsBucket b → IsPlaced s → last_path b < s.path → lies_in b s ≡ false
+in_past law b s bucket placed past = not_in b s _ refl (λ i. let p = ((law b (key_of s.entry.id) bucket placed.small).0 i).1 in omega (arith, p, past, placed.place)) placed
+
+pub in_between : RunLaw → (b : Low) (s : Slot) → IsBucket b → IsPlaced s → first_path b ≤ s.path → s.path ≤ last_path b → lies_in b s ≡ true
+in_between law b s bucket placed low high =
+    let i = (law b (key_of s.entry.id) bucket placed.small).1 (subst (λ p. first_path b ≤ p) placed.place low, subst (λ p. p ≤ last_path b) placed.place high) in
+    eq-eqb _ _ i.1
+
+-- the elements of three parts of which the test passes the middle one
+module _ (p : Slot → Bool) where
+  all_pass : (xs : List Slot) → All (λ s. p s ≡ true) xs → filter p xs ≡ xs
+  all_pass [] h = refl
+  all_pass (x ∷ xs) h = ap (λ b. cond b (x ∷ filter p xs) (filter p xs)) (All-head (λ s. p s ≡ true) x xs h) ∙ ap (λ l. x ∷ l) (all_pass xs (All-tail (λ s. p s ≡ true) x xs h))
+
+  none_pass : (xs : List Slot) → All (λ s. p s ≡ false) xs → filter p xs ≡ []
+  none_pass [] h = refl
+  none_pass (x ∷ xs) h = ap (λ b. cond b (x ∷ filter p xs) (filter p xs)) (All-head (λ s. p s ≡ false) x xs h) ∙ none_pass xs (All-tail (λ s. p s ≡ false) x xs h)
+
+  parts : (xs : List Slot) (i n : ℕ) → take i xs ++ (take n (drop i xs) ++ drop n (drop i xs)) ≡ xs
+  parts xs i n = ap (λ l. take i xs ++ l) (take-append-drop n (drop i xs)) ∙ take-append-drop i xs
+
+  pub middle_passes : (xs : List Slot) (i n : ℕ) → All (λ s. p s ≡ false) (take i xs) → All (λ s. p s ≡ true) (take n (drop i xs)) → All (λ s. p s ≡ false) (drop n (drop i xs))
+      → take n (drop i xs) ≡ filter p xs
+  middle_passes xs i n before inside past = sym (
+      ap (filter p) (sym (parts xs i n))
+      ∙ filter-append p (take i xs) (take n (drop i xs) ++ drop n (drop i xs))
+      ∙ ap₂ (λ a b. a ++ b) (none_pass (take i xs) before) (filter-append p (take n (drop i xs)) (drop n (drop i xs)) ∙ ap₂ (λ a b. a ++ b) (all_pass _ inside) (none_pass _ past) ∙ append-nil _))
+
+  pub ends_pass : (xs : List Slot) (i n : ℕ) → All (λ s. p s ≡ true) (take i xs) → All (λ s. p s ≡ false) (take n (drop i xs)) → All (λ s. p s ≡ true) (drop n (drop i xs))
+      → take i xs ++ drop n (drop i xs) ≡ filter p xs
+  ends_pass xs i n before inside past = sym (
+      ap (filter p) (sym (parts xs i n))
+      ∙ filter-append p (take i xs) (take n (drop i xs) ++ drop n (drop i xs))
+      ∙ ap₂ (λ a b. a ++ b) (all_pass (take i xs) before) (filter-append p (take n (drop i xs)) (drop n (drop i xs)) ∙ ap₂ (λ a b. a ++ b) (none_pass _ inside) (all_pass _ past)))
+
+-- what holds of each slot of a part
+module _ (P Q : Slot → Type 0) (xs : List Slot) (all : All IsPlaced xs) (to : (s : Slot) → IsPlaced s → P s → Q s) where
+  pub front_all : (i : ℕ) → i ≤ length xs → AllWithin P xs 0 i → All Q (take i xs)
+  front_all i le h k d lt =
+      let long = length-take i xs in
+      let low : k < i = omega arith in
+      subst Q (sym (get_or-take i xs k d low)) (to _ (all k d (omega arith)) (h k d (omega arith) low))
+
+  pub rest_all : (i : ℕ) → AllWithin P xs i (length xs) → All Q (drop i xs)
+  rest_all i h k d lt =
+      let long = length-drop i xs in
+      subst Q (sym (get_or-drop i xs k d)) (to _ (all (i + k) d (omega arith)) (h (i + k) d (omega arith) (omega arith)))
+
+-- a filter by a test of ids is what the map keeps by that test
+module _ (t : List ℕ → Bool) where
+  one : (b c d : Bool) (s : Slot) (rest : List Slot) (q : List ℕ) (found : Option Entry) → same_id q s.entry.id ≡ c → (c ≡ true → b ≡ d) → entry_in rest q ≡ cond d found None
+      → entry_in (cond b (s ∷ rest) rest) q ≡ cond d (cond c (Some s.entry) found) None
+  one true true true s rest q found same link r = ap (λ c. cond c (Some s.entry) (entry_in rest q)) same
+  one true true false s rest q found same link r = absurd (true≢false (link refl))
+  one true false d s rest q found same link r = ap (λ c. cond c (Some s.entry) (entry_in rest q)) same ∙ r
+  one false true true s rest q found same link r = absurd (true≢false (sym (link refl)))
+  one false true false s rest q found same link r = r
+  one false false d s rest q found same link r = r
+
+  nothing_kept : (b : Bool) → ◌≡◌ {A = Option Entry} None (cond b None None)
+  nothing_kept true = refl
+  nothing_kept false = refl
+
+  pub entry_in-filter : (slots : List Slot) (q : List ℕ) → entry_in (filter (λ s. t s.entry.id) slots) q ≡ cond (t q) (entry_in slots q) None
+  entry_in-filter [] q = nothing_kept (t q)
+  entry_in-filter (s ∷ slots) q =
+      one (t s.entry.id) (same_id q s.entry.id) (t q) s (filter (λ r. t r.entry.id) slots) q (entry_in slots q) refl (λ e. ap t (sym (same_id-is _ _ e))) (entry_in-filter slots q)
+
+  pub filtered_entries : (slots : List Slot) → entries_of (filter (λ s. t s.entry.id) slots) ≡ fin.retain_keys (entries_of slots) t
+  filtered_entries slots = same_entries _ _ (λ q.
+      get-entries_of (filter (λ s. t s.entry.id) slots) q ∙ entry_in-filter slots q ∙ ap (λ o. cond (t q) o None) (sym (get-entries_of slots q))
+      ∙ sym (get-retain_keys (entries_of slots) t q (λ x e. ap t (sym (slice_cmp-IsAntisymmetric nat_cmp-IsAntisymmetric q x e)))))
+
+-- a filter leaves the order, and no document twice
+module _ (p : Slot → Bool) where
+  pub none-filter : (slots : List Slot) (q : List ℕ) → entry_in slots q ≡ None → entry_in (filter p slots) q ≡ None
+  none-filter [] q none = refl
+  none-filter (s ∷ slots) q none =
+      let h = cond_none (same_id q s.entry.id) s.entry (entry_in slots q) none in
+      let rest = none-filter slots q h.1 in
+      elim (p s) as (λ b. entry_in (cond b (s ∷ filter p slots) (filter p slots)) q ≡ None) [
+        | true ↦ ap (λ b. cond b (Some s.entry) (entry_in (filter p slots) q)) h.0 ∙ rest
+        | false ↦ rest
+      ]
+
+  pub Apart-filter : (slots : List Slot) → Apart slots → Apart (filter p slots)
+  Apart-filter [] apart = tt
+  Apart-filter (s ∷ slots) apart =
+      elim (p s) as (λ b. Apart (cond b (s ∷ filter p slots) (filter p slots))) [
+        | true ↦ (none-filter slots s.entry.id apart.0, Apart-filter slots apart.1)
+        | false ↦ Apart-filter slots apart.1
+      ]
+
+  pub IsKept-filter : (slots : List Slot) → IsKept slots → IsKept (filter p slots)
+  IsKept-filter slots kept = record {
+    placed = All-filter p IsPlaced slots kept.placed;
+    rising = IsNonDecreasingBy-filter (λ s. s.path) p slots kept.rising;
+    apart = Apart-filter slots kept.apart;
+  }
+
+  pub counts-filter : (slots : List Slot) → count_by has_document (filter p slots) + count_by has_document (filter (λ s. not (p s)) slots) ≡ count_by has_document slots
+  counts-filter slots = sum_by-filter_both p (λ s. not (p s)) (λ s. refl) (λ s. cond (has_document s) 1 0) slots
+
+pub slice_range_is : (xs : List Slot) (i n : ℕ) → slice_range xs i (i + n) ≡ take n (drop i xs)
+slice_range_is xs i n = ap (λ k. take k (drop i xs)) (omega arith)
+
+-- between the first slot that lies no lower and the last that lies no higher are the bucket's
+module _ (law : RunLaw) (b : Low) (xs : List Slot) (i n : ℕ) (bucket : IsBucket b) (placed : All IsPlaced xs) (within : i ≤ length xs) (short : n ≤ length (drop i xs))
+    (below : AllWithin (λ s. s.path < first_path b) xs 0 i) (low : AllWithin (λ s. first_path b ≤ s.path) xs i (length xs))
+    (high : AllWithin (λ s. s.path ≤ last_path b) (drop i xs) 0 n) (past : AllWithin (λ s. last_path b < s.path) (drop i xs) n (length (drop i xs))) where
+  front : All (λ s. lies_in b s ≡ false) (take i xs)
+  front = front_all (λ s. s.path < first_path b) (λ s. lies_in b s ≡ false) xs placed (λ s p h. in_below law b s bucket p h) i within below
+
+  rest : All IsPlaced (drop i xs)
+  rest = All-drop IsPlaced i xs placed
+
+  middle : All (λ s. lies_in b s ≡ true) (take n (drop i xs))
+  middle =
+      let low_rest : All (λ s. first_path b ≤ s.path) (drop i xs) = rest_all (λ s. first_path b ≤ s.path) (λ s. first_path b ≤ s.path) xs placed (λ s p h. h) i low in
+      front_all (λ s. (first_path b ≤ s.path) × (s.path ≤ last_path b)) (λ s. lies_in b s ≡ true) (drop i xs) rest (λ s p h. in_between law b s bucket p h.0 h.1) n short
+      (λ k d from to. (low_rest k d (omega arith), high k d from to))
+
+  end : All (λ s. lies_in b s ≡ false) (drop n (drop i xs))
+  end = rest_all (λ s. last_path b < s.path) (λ s. lies_in b s ≡ false) (drop i xs) rest (λ s p h. in_past law b s bucket p h) n past
+
+  pub run_inside : slice_range xs i (i + n) ≡ filter (lies_in b) xs
+  run_inside = slice_range_is xs i n ∙ middle_passes (lies_in b) xs i n front middle end
+
+  turned : (t : Bool) (P : List Slot) → All (λ s. lies_in b s ≡ t) P → All (λ s. not (lies_in b s) ≡ not t) P
+  turned t P h k d lt = ap not (h k d lt)
+
+  pub run_outside : take i xs ++ drop (i + n) xs ≡ filter (λ s. not (lies_in b s)) xs
+  run_outside =
+      ap (λ l. take i xs ++ l) (sym (drop-drop n i xs))
+      ∙ ends_pass (λ s. not (lies_in b s)) xs i n (turned false _ front) (turned true _ middle) (turned false _ end)
+
+pub range_to_end : (xs : List Slot) (i : ℕ) → slice_range xs i (length xs) ≡ drop i xs
+range_to_end xs i = take_all (length xs - i) (drop i xs) (omega (arith, length-drop i xs))
