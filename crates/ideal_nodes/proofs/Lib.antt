@@ -1,3 +1,4 @@
 pub mod Firsts
 pub mod Picks
 pub mod Unique
+pub mod StateMarks

@@ -6,15 +6,18 @@
 //! each member of a set once, in that order (`IsRanked`). No call takes memory.
 //!
 //! ```text
-//! owner_among(lane, distributors)    // None where there is no distributor
+//! ideal(bucket, &state).at(0)    // the node that is to have the bucket's first replica
+//! owner(lane, &state)            // None where no distributor is up
 //! ```
 #![tactic(auto)]
 
 pub mod laws;
 pub mod lists;
 pub mod owners;
+pub mod placement;
 mod ranks;
 pub mod scores;
 
 pub use lists::{NodeList, ideal_among};
 pub use owners::owner_among;
+pub use placement::{ideal, owner};

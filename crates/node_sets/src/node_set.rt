@@ -1,4 +1,4 @@
-ghost use Rattle.std.specs.Prelude.{◌≡◌, ◌==◌, ◌&&◌, ◌||◌, not, true, ℕ, ◌+◌, ◌^◌, ◌<◌, ◌≤◌, ◌↔◌, nat_le, IsTrue, if◌then◌else◌};
+ghost use Rattle.std.specs.Prelude.{◌≡◌, ◌==◌, ◌&&◌, ◌||◌, not, true, false, ℕ, ◌+◌, ◌^◌, ◌<◌, ◌≤◌, ◌↔◌, nat_le, IsTrue, if◌then◌else◌};
 ghost use Rattle.node_sets.specs.Members.{has_node, size_of, size_below, Within};
 
 use std::marker::Model;
@@ -64,6 +64,14 @@ impl NodeSet {
         ensures { result ≡ bits }
     {
         NodeSet { bits }
+    }
+
+    /// The set without members.
+    #[tactic(auto, unfolding(crate::specs::Members::has_node))]
+    pub fn none() -> NodeSet
+        ensures { (n : ℕ) → has_node result n ≡ false }
+    {
+        NodeSet { bits: 0 }
     }
 
     /// The bits of the members.

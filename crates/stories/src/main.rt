@@ -8,6 +8,8 @@ mod faults;
 mod maps;
 #[cfg(test)]
 mod names;
+#[cfg(test)]
+mod states;
 mod story;
 
 use crate::story::Story;

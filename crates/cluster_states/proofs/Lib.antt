@@ -1,0 +1,12 @@
+pub mod MarkLists
+pub mod Sizes
+pub mod Numerals
+pub mod Counting
+pub mod Moving
+pub mod MarkTexts
+pub mod MarkMoves
+pub mod SpaceMoves
+pub mod GoingOn
+pub mod Reaching
+pub mod TextSizes
+pub mod Telling

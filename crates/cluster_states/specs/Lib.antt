@@ -1,0 +1,5 @@
+pub mod GivenBack
+pub mod MarkTests
+pub mod Publishing
+pub mod StateTexts
+pub mod Scanning

@@ -1,0 +1,25 @@
+//! Cluster states: which distributors and storage nodes there are, and how each is marked, after
+//! Vespa's cluster controller.
+//!
+//! A contract sees a `ClusterState` as its version and two lists of marks, from number 0 on
+//! (`specs/StateTexts.antt`), and `States` as the list of the states that were published, oldest first.
+//!
+//! ```text
+//! let state = ClusterState::parse("version:1 distributor:1 storage:4 storage.3.s:d")?;
+//! state.storage(3)              // Mark::Down
+//! states.publish(&state)?;      // or why it isn't published
+//! ```
+#![tactic(auto)]
+
+pub mod cluster_state;
+pub mod marks;
+mod places;
+mod reader;
+mod scan;
+pub mod states;
+pub mod texts;
+
+pub use cluster_state::ClusterState;
+pub use marks::{Mark, Marks};
+pub use states::{PublishFault, States};
+pub use texts::BadState;
