@@ -131,10 +131,10 @@ takes_no_digit Distributors known n after s h = subst NoDigit (sym h.1.1) (inl (
 takes_no_digit Nodes known n after s h = subst NoDigit (sym h.1.1.1) (counts_no_digit s)
 takes_no_digit (Marked role least) known n after s h = subst NoDigit (sym h.1.1.0) (inl (omega arith))
 
-head_same : (a b : ℕ) (xs ys : List ℕ) → a ∷ xs ≡ b ∷ ys → a ≡ b
+pub head_same : (a b : ℕ) (xs ys : List ℕ) → a ∷ xs ≡ b ∷ ys → a ≡ b
 head_same a b xs ys e = ap (λ l. get_or l 0 0) e
 
-tail_same : (a b : ℕ) (xs ys : List ℕ) → a ∷ xs ≡ b ∷ ys → xs ≡ ys
+pub tail_same : (a b : ℕ) (xs ys : List ℕ) → a ∷ xs ≡ b ∷ ys → xs ≡ ys
 tail_same a b xs ys e = ap (drop 1) e
 
 -- a digit goes on with the number

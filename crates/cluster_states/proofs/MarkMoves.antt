@@ -13,14 +13,9 @@ use Rattle.cluster_states.specs.declared.places.Role.TheVariants.{Distributor, S
 use Rattle.cluster_states.specs.declared.places.Place.TheVariants.{Sign, Gap}
 use Rattle.cluster_states.specs.StateTexts.{IsState, marks_text}
 use Rattle.cluster_states.specs.Scanning.{marks_of, role_word, tail_of, letter_of, mark_by, with_mark, Others, Signed, Follows, IsReady, Others_up, IsPlace, Moves}
+use Rattle.cluster_states.proofs.Counting.{head_same, tail_same}
 use Rattle.cluster_states.proofs.Moving.{scan_at}
 use Rattle.cluster_states.proofs.MarkTexts.{take_marked, up_marked, down_is_not_up, retired_is_not_up}
-
-pub head_same : (a b : ℕ) (xs ys : List ℕ) → a ∷ xs ≡ b ∷ ys → a ≡ b
-head_same a b xs ys e = ap (λ l. get_or l 0 0) e
-
-pub tail_same : (a b : ℕ) (xs ys : List ℕ) → a ∷ xs ≡ b ∷ ys → xs ≡ ys
-tail_same a b xs ys e = ap (drop 1) e
 
 -- the letter of a mark tells it
 pub letter_tells : (m n : Mark) → m ≢ Up → n ≢ Up → letter_of m ≡ letter_of n → m ≡ n

@@ -17,10 +17,9 @@ use Rattle.cluster_states.specs.declared.places.Scan.{Scan}
 use Rattle.cluster_states.specs.StateTexts.{IsState, marks_text, after_distributors}
 use Rattle.cluster_states.specs.Scanning.{marks_of, role_word, word_of, tail_of, letter_of, number_by, has_room, Others, Follows, Numbered, AreUpFrom, IsReady, Others_up, IsKnown, IsPlace, IsWithin, IsBehind, Moves, Ends, At}
 use Rattle.std.proofs.lemmas.Fmt.{decimal_nonempty}
-use Rattle.cluster_states.proofs.Counting.{signed_within, takes_within, few_numbers}
+use Rattle.cluster_states.proofs.Counting.{signed_within, takes_within, few_numbers, head_same, tail_same}
 use Rattle.cluster_states.proofs.Moving.{scan_at}
 use Rattle.cluster_states.proofs.MarkTexts.{NoMark, FirstMark, first_mark, skip_up, text_of_mark, take_up, up_later}
-use Rattle.cluster_states.proofs.MarkMoves.{head_same, tail_same}
 
 -- a text of marks begins with a space
 abbrev pub Spaced : List ℕ → Type 0

@@ -12,9 +12,9 @@ use Rattle.cluster_states.specs.declared.places.Role.TheVariants.{Distributor, S
 use Rattle.cluster_states.specs.StateTexts.{IsState, IsStateText, marks_text, after_counts, after_distributors, after_version, state_text}
 use Rattle.cluster_states.specs.Scanning.{AreDigits, role_word, letter_of}
 use Rattle.cluster_states.proofs.Numerals.{starts}
-use Rattle.cluster_states.proofs.Counting.{NoDigit, counts_no_digit}
-use Rattle.cluster_states.proofs.MarkTexts.{first_mark, text_of_mark}
-use Rattle.cluster_states.proofs.MarkMoves.{head_same, tail_same, letter_tells}
+use Rattle.cluster_states.proofs.Counting.{NoDigit, counts_no_digit, head_same, tail_same}
+use Rattle.cluster_states.proofs.MarkTexts.{first_mark, text_of_mark, down_is_not_up, retired_is_not_up}
+use Rattle.cluster_states.proofs.MarkMoves.{letter_tells}
 use Rattle.cluster_states.proofs.SpaceMoves.{role_letter}
 
 -- digits and what is behind them are told apart
@@ -83,12 +83,6 @@ up_or_marked role n m ms tail text few apart e = elim (first_mark role (n + 1) m
       absurd (omega (arith, cut.0)))
 ]
 
-down_marked : Down ≢ Up
-down_marked e = absurd (omega (arith, ap letter_of e))
-
-retired_marked : Retired ≢ Up
-retired_marked e = absurd (omega (arith, ap letter_of e))
-
 both_marked : (role : Role) (n : ℕ) (m k : Mark) (ms ks : List Mark) (tail rest : List ℕ) → m ≢ Up → k ≢ Up → n < 2 ^ 64
     → marks_text (role_word role) n (m ∷ ms) ++ tail ≡ marks_text (role_word role) n (k ∷ ks) ++ rest
     → (m ≡ k) × (marks_text (role_word role) (n + 1) ms ++ tail ≡ marks_text (role_word role) (n + 1) ks ++ rest)
@@ -103,20 +97,20 @@ marks_cut role n [] (k ∷ ks) tail rest size few p q e = absurd (omega (arith, 
 marks_cut role n (m ∷ ms) [] tail rest size few p q e = absurd (omega (arith, size))
 marks_cut role n (Up ∷ ms) (Up ∷ ks) tail rest size few p q e =
     let r = marks_cut role (n + 1) ms ks tail rest (omega (arith, size)) (omega (arith, few)) p q e in (ap (λ l. Up ∷ l) r.0, r.1)
-marks_cut role n (Up ∷ ms) (Down ∷ ks) tail rest size few p q e = absurd (up_or_marked role n Down ms tail _ (omega (arith, few)) p (e ∙ marked_text role n Down ks rest down_marked))
-marks_cut role n (Up ∷ ms) (Retired ∷ ks) tail rest size few p q e = absurd (up_or_marked role n Retired ms tail _ (omega (arith, few)) p (e ∙ marked_text role n Retired ks rest retired_marked))
-marks_cut role n (Down ∷ ms) (Up ∷ ks) tail rest size few p q e = absurd (up_or_marked role n Down ks rest _ (omega (arith, few, size)) q (sym e ∙ marked_text role n Down ms tail down_marked))
-marks_cut role n (Retired ∷ ms) (Up ∷ ks) tail rest size few p q e = absurd (up_or_marked role n Retired ks rest _ (omega (arith, few, size)) q (sym e ∙ marked_text role n Retired ms tail retired_marked))
+marks_cut role n (Up ∷ ms) (Down ∷ ks) tail rest size few p q e = absurd (up_or_marked role n Down ms tail _ (omega (arith, few)) p (e ∙ marked_text role n Down ks rest down_is_not_up))
+marks_cut role n (Up ∷ ms) (Retired ∷ ks) tail rest size few p q e = absurd (up_or_marked role n Retired ms tail _ (omega (arith, few)) p (e ∙ marked_text role n Retired ks rest retired_is_not_up))
+marks_cut role n (Down ∷ ms) (Up ∷ ks) tail rest size few p q e = absurd (up_or_marked role n Down ks rest _ (omega (arith, few, size)) q (sym e ∙ marked_text role n Down ms tail down_is_not_up))
+marks_cut role n (Retired ∷ ms) (Up ∷ ks) tail rest size few p q e = absurd (up_or_marked role n Retired ks rest _ (omega (arith, few, size)) q (sym e ∙ marked_text role n Retired ms tail retired_is_not_up))
 marks_cut role n (Down ∷ ms) (Down ∷ ks) tail rest size few p q e =
-    let b = both_marked role n Down Down ms ks tail rest down_marked down_marked (omega (arith, few)) e in
+    let b = both_marked role n Down Down ms ks tail rest down_is_not_up down_is_not_up (omega (arith, few)) e in
     let r = marks_cut role (n + 1) ms ks tail rest (omega (arith, size)) (omega (arith, few)) p q b.1 in (ap (λ l. Down ∷ l) r.0, r.1)
 marks_cut role n (Retired ∷ ms) (Retired ∷ ks) tail rest size few p q e =
-    let b = both_marked role n Retired Retired ms ks tail rest retired_marked retired_marked (omega (arith, few)) e in
+    let b = both_marked role n Retired Retired ms ks tail rest retired_is_not_up retired_is_not_up (omega (arith, few)) e in
     let r = marks_cut role (n + 1) ms ks tail rest (omega (arith, size)) (omega (arith, few)) p q b.1 in (ap (λ l. Retired ∷ l) r.0, r.1)
 marks_cut role n (Down ∷ ms) (Retired ∷ ks) tail rest size few p q e =
-    let b = both_marked role n Down Retired ms ks tail rest down_marked retired_marked (omega (arith, few)) e in absurd (omega (arith, ap letter_of b.0))
+    let b = both_marked role n Down Retired ms ks tail rest down_is_not_up retired_is_not_up (omega (arith, few)) e in absurd (omega (arith, ap letter_of b.0))
 marks_cut role n (Retired ∷ ms) (Down ∷ ks) tail rest size few p q e =
-    let b = both_marked role n Retired Down ms ks tail rest retired_marked down_marked (omega (arith, few)) e in absurd (omega (arith, ap letter_of b.0))
+    let b = both_marked role n Retired Down ms ks tail rest retired_is_not_up down_is_not_up (omega (arith, few)) e in absurd (omega (arith, ap letter_of b.0))
 
 -- the marks of the nodes don't begin as those of distributors do
 nodes_apart : (n : ℕ) (ms : List Mark) → Apart Distributor (marks_text (role_word Storage) n ms)
