@@ -114,7 +114,7 @@ impl States {
         if up < acks {
             return Some(PublishFault::TooFewUp { up, acks });
         }
-        let out = self.out(state);
+        let out = self.count_out(state);
         if acks <= out {
             return Some(PublishFault::TooManyOut { out, acks });
         }
@@ -125,7 +125,7 @@ impl States {
     }
 
     /// How many known nodes don't serve under a state.
-    fn out(&self, state: &ClusterState) -> u8
+    fn count_out(&self, state: &ClusterState) -> u8
         ensures { result ≡ out_of self.now.states state.now }
     {
         sets_are_their_members();
