@@ -11,6 +11,8 @@ mod names;
 #[cfg(test)]
 mod states;
 mod story;
+#[cfg(test)]
+mod words;
 
 use crate::story::Story;
 use anyhow::Result;

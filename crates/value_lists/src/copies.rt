@@ -20,3 +20,9 @@ pub fn copy_all<T: TryCopy + Drop>(alloc: Global, items: &[T]) -> Result<Vec<T>,
     }
     Ok(copies)
 }
+
+impl TryCopy for i64 {
+    fn copy(&self, _alloc: Global) -> Result<i64, NoMemory> {
+        Ok(*self)
+    }
+}

@@ -1,0 +1,6 @@
+pub mod Runs
+pub mod BodyReading
+pub mod TokenReading
+pub mod Finding
+pub mod TokenLaws
+pub mod ValueLaws

@@ -1,0 +1,8 @@
+use Rattle.std.proofs.Common.{◌≡◌, pos, length, refl, arith}
+use Rattle.std.proofs.lemmas.List.{ext_get_or}
+use Rattle.doc_types.proofs.values.same_numbers.Goals as goal
+
+pub returns : goal.returns
+returns c =
+    let same : length c.args.one.now ≡ length c.args.two.now = omega arith in
+    ((λ _. ext_get_or (pos 0) c.args.one.now c.args.two.now same (λ i lt. c.loop-at.invariant i (pos 0) (omega (arith, lt)))), (λ _. refl))

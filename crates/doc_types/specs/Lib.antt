@@ -1,0 +1,9 @@
+pub mod Symbols
+pub mod Tokens
+pub mod Bodies
+pub mod Reading
+pub mod Values
+pub mod SchemaCodes
+pub mod SchemaMaps
+pub mod Schemas
+pub mod Fronts

@@ -1,0 +1,26 @@
+//! Laws of tokens and of values; no function here does anything.
+
+ghost use Rattle.std.specs.Prelude.{◌≡◌, ◌++◌, ℕ, ℤ, List, Some, option_map};
+ghost use Rattle.std.specs.Ordering.{ordering_reverse};
+ghost use Rattle.std.specs.declared.cmp.Ordering.TheVariants.{Less, Equal};
+ghost use Rattle.doc_types.specs.declared.symbols.Language.{Language};
+ghost use Rattle.doc_types.specs.declared.values.FieldValue.{FieldValue};
+ghost use Rattle.doc_types.specs.Tokens.{Token, word, integer, is_digit, is_name, token_at};
+ghost use Rattle.doc_types.specs.Fronts.{IsFront, BeginsNot};
+ghost use Rattle.doc_types.specs.Values.{value_order};
+
+/// A token is a front of its text that isn't empty, so reading goes on; a word ends where no name byte
+/// follows and a number where no digit follows, so each is the longest at its place.
+pub fn tokens_are_fronts()
+    ensures front { (language : Language) (text rest : List ℕ) (t : Token) → token_at language text ≡ Some (t, rest) → IsFront text rest }
+    ensures words { (language : Language) (text rest w : List ℕ) → token_at language text ≡ Some (word w, rest) → (text ≡ w ++ rest) × BeginsNot is_name rest }
+    ensures numbers { (language : Language) (text rest : List ℕ) (z : ℤ) → token_at language text ≡ Some (integer z, rest) → BeginsNot is_digit rest }
+{}
+
+/// Numbers and texts have one order: what is alike is one value, turned round the order turns round,
+/// and what is below a lower value is below a higher one.
+pub fn values_are_ordered()
+    ensures same { (a b : FieldValue) → value_order a b ≡ Some Equal → a ≡ b }
+    ensures turned { (a b : FieldValue) → value_order b a ≡ option_map ordering_reverse (value_order a b) }
+    ensures transitive { (a b c : FieldValue) → value_order a b ≡ Some Less → value_order b c ≡ Some Less → value_order a c ≡ Some Less }
+{}
