@@ -1,5 +1,5 @@
 -- Hexadecimal digits: what they read as, and that two numbers of the same digits are one.
-use Rattle.std.proofs.Common.{◌≡◌, ℕ, zero, suc, ◌+◌, ◌-◌, ◌*◌, ◌/◌, ◌%◌, ◌^◌, ◌<◌, List, [], ◌∷◌, ◌++◌, length, get_or, take, inl, inr, refl, sym, ap, ap₂, ◌∙◌, subst₂, arith, add-one, pow-suc, pow_mono}
+use Rattle.std.proofs.Common.{◌≡◌, ℕ, zero, suc, ◌+◌, ◌-◌, ◌*◌, ◌/◌, ◌%◌, ◌^◌, ◌<◌, List, [], ◌∷◌, ◌++◌, length, get_or, take, inl, inr, refl, sym, ap, ap₂, ◌∙◌, subst₂, arith, add-one, pow-suc, pow_mono, Result, Ok, Err, IfOk, OnErr}
 use Rattle.std.proofs.lemmas.List.{same_from_push, length_push, get_or_push, take_more, get_or_append_left}
 use Rattle.std.proofs.lemmas.Nat.{mod_below, div-mul-add, mod-mul-add, shr-shr, same_from_place, div-add-mod'}
 use Rattle.std.proofs.Math.Nat.{pow-le-pow_right}
@@ -98,8 +98,19 @@ pub hex_digits-none : (n : ℕ) → hex_digits 0 n ≡ []
 unfolding hex_digits
 hex_digits-none n = refl
 
-pub printed_like : (bytes : List ℕ) (n : ℕ) → bytes ≡ hex_digits 16 n → (b : Low) → b.bits ≡ n / 2 ^ 58 → b.low ≡ n % 2 ^ 58 → bytes ≡ printed b
+printed_like : (bytes : List ℕ) (n : ℕ) → bytes ≡ hex_digits 16 n → (b : Low) → b.bits ≡ n / 2 ^ 58 → b.low ≡ n % 2 ^ 58 → bytes ≡ printed b
 printed_like bytes n e b bits low = printed_of_number bytes n e ∙ ap₂ (λ x y. printed (record { bits = x; low = y })) (sym bits) (sym low)
+
+-- a bucket of the parts of a text's number prints as the text
+pub reads_as : (bytes : List ℕ) (n : ℕ) → bytes ≡ hex_digits 16 n → (b : Low) → IsBucket b × (b.bits ≡ n / 2 ^ 58) × (b.low ≡ n % 2 ^ 58) → IsBucket b × (bytes ≡ printed b)
+reads_as bytes n e b parts = (parts.0, printed_like bytes n e b parts.1 parts.2)
+
+-- where what is read prints as the text, and a refused text is printed of none, each bucket's text is read as it
+pub read_exactly : {E : Type 0} (bytes : List ℕ) (r : Result Low E) → IfOk r (λ b. IsBucket b × (bytes ≡ printed b)) → OnErr r ((b : Low) → IsBucket b → bytes ≡ printed b → ⊥) → (b : Low) → IsBucket b → bytes ≡ printed b → r ≡ Ok b
+read_exactly bytes (Ok x) read refused b ok p =
+    let same = printed_apart x b read.0 ok (sym read.1 ∙ p) in
+    ap₂ (λ bits low. Ok (record { bits = bits; low = low })) same.0 same.1
+read_exactly bytes (Err e) read refused b ok p = absurd (refused b ok p)
 
 -- no bucket prints as the digits of a number whose parts are no bucket
 pub no_bucket : (bytes : List ℕ) (n : ℕ) → bytes ≡ hex_digits 16 n → n < 2 ^ 64 → (IsBucket (record { bits = n / 2 ^ 58; low = n % 2 ^ 58 }) → ⊥) → (b : Low) → IsBucket b → bytes ≡ printed b → ⊥

@@ -4,7 +4,7 @@ use Rattle.std.proofs.lemmas.Nat.{mod-pow-add, mod_below, mod_low, pow_below}
 use Rattle.std.proofs.Math.Pow.{mod-mod-pow}
 use Rattle.std.proofs.lemmas.Bool.{cases_lt}
 use Rattle.std.proofs.lemmas.Bool.Decides.{nat_tests}
-use Rattle.bucket_ids.specs.Buckets.{Low, IsBucket, IsIn, Includes, covers, first_child, second_child, parent_of, sibling_of}
+use Rattle.bucket_ids.specs.Buckets.{Low, IsBucket, IsIn, Includes, covers, measure, first_child, second_child, parent_of, sibling_of}
 
 -- twice a power
 double : (k : ℕ) → 2 ^ (k + 1) ≡ 2 ^ k + 2 ^ k
@@ -165,3 +165,8 @@ sibling_fits b ok h =
 
 pub covers_set : (a b : Low) (r : Bool) → IsBucket a → IsBucket b → r ≡ covers a b → IsTrue r ↔ Includes a b
 covers_set a b r oka okb e = (λ h. covers_includes a b oka (sym e ∙ h), λ h. e ∙ includes_covers a b oka okb h)
+
+pub measures_add : (b : Low) → IsBucket b → b.bits < 58 → measure (first_child b) + measure (second_child b) ≡ measure b
+measures_add b ok h =
+    let e : 58 - b.bits ≡ (58 - (b.bits + 1)) + 1 = omega arith in
+    rw e (sym (double (58 - (b.bits + 1))))

@@ -1,4 +1,4 @@
-ghost use Rattle.std.specs.Prelude.{◌≡◌, ◌≢◌, ◌↔◌, ◌⊎◌, ℕ, ◌+◌, ◌-◌, ◌*◌, ◌/◌, ◌%◌, ◌^◌, ◌<◌, ◌≤◌, IsTrue, IfOk, OnErr, nat_lt, if◌then◌else◌};
+ghost use Rattle.std.specs.Prelude.{◌≡◌, ◌≢◌, ◌↔◌, ◌⊎◌, ℕ, ◌+◌, ◌-◌, ◌*◌, ◌/◌, ◌%◌, ◌^◌, ◌<◌, ◌≤◌, IsTrue, IfOk, OnErr, nat_lt, if◌then◌else◌, Ok};
 ghost use Rattle.std.specs.String.{string_bytes};
 ghost use Rattle.bucket_ids.specs.Buckets.{Low, IsBucket, IsIn, has_key, Includes, covers, measure, first_child, second_child, parent_of, sibling_of};
 ghost use Rattle.bucket_ids.specs.Paths.{first_path, last_path};
@@ -81,13 +81,12 @@ impl Bucket {
         self.low
     }
 
-    /// Whether this key lies in the bucket.
+    /// Whether this key lies in the bucket; no number of 2^58 or more does.
     pub fn contains(self, key: u64) -> bool
-        requires { key < 2 ^ 58 }
         ensures set { IsTrue result ↔ IsIn self key }
-        ensures test { result ≡ has_key self key }
+        ensures test { key < 2 ^ 58 → result ≡ has_key self key }
     {
-        low_bits(key, self.bits) == self.low
+        key < 1 << 58 && low_bits(key, self.bits) == self.low
     }
 
     /// Whether each key of `other` lies in this bucket.
@@ -203,6 +202,7 @@ impl Bucket {
     /// The bucket that this text is printed of; takes no memory.
     pub fn parse(text: &str) -> Result<Bucket, BadBucket>
         ensures read { IfOk result (λ b. IsBucket b × (text.now ≡ printed b)) }
+        ensures exact { (b : Low) → IsBucket b → text.now ≡ printed b → result ≡ Ok b }
         ensures refused { OnErr result ((b : Low) → IsBucket b → text.now ≢ printed b) }
     {
         match bucket_number(text.as_bytes()) {

@@ -1,8 +1,13 @@
-//! Laws of the order of paths; no function here does anything.
+//! Laws of measures and of the order of paths; no function here does anything.
 
 ghost use Rattle.std.specs.Prelude.{◌≡◌, ◌↔◌, ℕ, ◌+◌, ◌^◌, ◌<◌, ◌≤◌};
-ghost use Rattle.bucket_ids.specs.Buckets.{Low, IsBucket, IsIn, first_child, second_child};
+ghost use Rattle.bucket_ids.specs.Buckets.{Low, IsBucket, IsIn, measure, first_child, second_child};
 ghost use Rattle.bucket_ids.specs.Paths.{path, span, first_path, last_path};
+
+/// The measures of two children add up to their parent's.
+pub fn measures_add_up()
+    ensures { (b : Low) → IsBucket b → b.bits < 58 → measure (first_child b) + measure (second_child b) ≡ measure b }
+{}
 
 /// A key lies in a bucket exactly where its path lies in the bucket's run; no run passes the end of
 /// the numbers; two keys of one path are one key.
