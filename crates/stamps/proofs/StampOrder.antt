@@ -30,8 +30,5 @@ IsBefore-total a b = elim (cases_order a.version b.version) [
 pub is_before-tells : (a b : Stamp) → is_before a b ≡ true → IsBefore a b
 is_before-tells a b h = grind (arith, nat_tests)
 
-pub is_before-told : (a b : Stamp) → IsBefore a b → is_before a b ≡ true
-is_before-told a b h = grind (arith, nat_tests)
-
 pub is_before-not : (a b : Stamp) → is_before a b ≡ false → IsBefore a b → ⊥
 is_before-not a b h p = elim p [ inl v ↦ grind (arith, nat_tests) | inr c ↦ grind (arith, nat_tests) ]

@@ -9,7 +9,3 @@ IsBefore a b = (a.version < b.version) ⊎ ((a.version ≡ b.version) × (a.coun
 -- the same as a test
 abbrev pub is_before : Stamp → Stamp → Bool
 is_before a b = if a.version == b.version then nat_lt a.count b.count else nat_lt a.version b.version
-
--- the greater of two stamps
-abbrev pub newer : Stamp → Stamp → Stamp
-newer a b = if is_before a b then b else a

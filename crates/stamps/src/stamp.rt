@@ -7,8 +7,9 @@ use std::alloc::Global;
 use value_lists::{NoMemory, TryCopy};
 
 /// What a distributor gives each write: the version of the cluster state that it holds, and how
-/// many stamps it has given under that version, this one counted.
-#[derive(Clone, Copy, Debug, PartialEq, Eq)]
+/// many stamps it has given under that version, this one counted. Stamps have one order, by version
+/// and then by count: that of `is_before` and that of `<` and `cmp` are the same.
+#[derive(Clone, Copy, Debug, PartialEq, Eq, PartialOrd, Ord)]
 pub struct Stamp {
     pub version: u32,
     pub count: u64,
