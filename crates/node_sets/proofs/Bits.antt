@@ -1,11 +1,13 @@
 -- The members after a change of bits.
-use Rattle.std.proofs.Common.{◌≡◌, ◌≢◌, ◌==◌, ◌&&◌, ◌||◌, ◌⊎◌, not, ℕ, zero, suc, ◌+◌, ◌-◌, ◌*◌, ◌/◌, ◌%◌, ◌^◌, ◌<◌, ◌≤◌, Bool, true, false, nat_lt, min, max, inl, inr, refl, sym, ap, ◌∙◌, arith, cond, eq-eqb, IsTrue}
+use Rattle.std.proofs.Common.{◌≡◌, ◌≢◌, ◌==◌, ◌&&◌, ◌||◌, ◌⊎◌, not, ℕ, zero, suc, ◌+◌, ◌-◌, ◌*◌, ◌/◌, ◌%◌, ◌^◌, ◌<◌, ◌≤◌, Bool, true, false, nat_lt, min, max, inl, inr, refl, sym, ap, ◌∙◌, arith, cond, eq-eqb, IsTrue, ap₂, add_comm, pow_pos}
 use Rattle.std.proofs.lemmas.Bool.{cases_lt, cases_eq, false≢true}
 use Rattle.std.proofs.lemmas.Bool.Decides.{nat_tests}
-use Rattle.std.proofs.lemmas.Nat.{one_shl, mod_below}
+use Rattle.std.proofs.lemmas.Nat.{one_shl, mod_below, and_mask, mod-pow-add, ones_cat}
 use Rattle.std.proofs.lemmas.Nat.Bits.{bit_at-lt, shr_and_one, bit_at-zero, same_from_bits_below, bit_at_and, bit_at_or, bit_at_not, bit_at-pow_same, bit_at-pow_other}
 use Rattle.std.specs.Int.{bit_at, bit_not, w32}
 use Rattle.std.specs.Int.Bits.{bit_and, bit_or}
+use Rattle.std.specs.Int.Count.{ones-ones}
+use Rattle.std.specs.Prelude.{count_ones}
 use Rattle.node_sets.specs.Members.{has_node, size_below, size_of, Within}
 
 bit_cases : (x : ℕ) → x < 2 → (x ≡ 0) ⊎ (x ≡ 1)
@@ -140,6 +142,35 @@ size_next a k = ap (size_below a) (next k)
 pub size_whole : (a : ℕ) → size_of a ≡ size_below a 32
 unfolding size_of
 size_whole a = refl
+
+bit_is : (a n : ℕ) → a / 2 ^ n % 2 ^ 1 ≡ bit_at a n
+bit_is a n = sym (and_mask (a / 2 ^ n) 1) ∙ shr_and_one a n
+
+ones_of_bit : (x : ℕ) → x < 2 → count_ones x ≡ cond (x == 1) 1 0
+ones_of_bit x h = elim (bit_cases x h) [ inl none ↦ rw none (ones-ones 0) | inr one ↦ rw one (ones-ones 1) ]
+
+ones_of_member : (a n : ℕ) → n < 32 → count_ones (bit_at a n) ≡ cond (has_node a n) 1 0
+unfolding has_node
+ones_of_member a n h =
+    let within : nat_lt n 32 ≡ true = grind (arith, nat_tests) in
+    ones_of_bit (bit_at a n) (bit_at-lt a n) ∙ sym (ap (λ t. cond (t && bit_at a n == 1) 1 0) within)
+
+-- the ones among the lowest bits are the members below
+pub ones_below : (a k : ℕ) → k ≤ 32 → count_ones (a % 2 ^ k) ≡ size_below a k
+unfolding size_below
+ones_below a zero h = ap count_ones (below_one (a % 2 ^ 0) (mod_below a 1 (omega arith))) ∙ ones-ones 0
+  where
+    below_one : (x : ℕ) → x < 1 → x ≡ 0
+    below_one x h = omega arith
+ones_below a (suc k) h =
+    ap (λ m. count_ones (a % 2 ^ m)) (next k)
+    ∙ ap count_ones (mod-pow-add a 1 k)
+    ∙ ones_cat k (a / 2 ^ k % 2 ^ 1) (a % 2 ^ k) (mod_below a (2 ^ k) (pow_pos k))
+    ∙ ap₂ (λ x y. x + y) (ap count_ones (bit_is a k) ∙ ones_of_member a k (omega arith)) (ones_below a k (omega arith))
+    ∙ add_comm (cond (has_node a k) 1 0) (size_below a k)
+  where
+    next : (k : ℕ) → suc k ≡ 1 + k
+    next k = omega arith
 
 -- ---- one bit
 

@@ -1,1 +1,2 @@
+-- What a caller needs: `Members`.
 pub mod Members

@@ -1,4 +1,4 @@
-ghost use Rattle.std.specs.Prelude.{◌≡◌, ◌==◌, ◌&&◌, ◌||◌, not, true, false, ℕ, ◌+◌, ◌^◌, ◌<◌, ◌≤◌, ◌↔◌, nat_le, IsTrue, if◌then◌else◌};
+ghost use Rattle.std.specs.Prelude.{◌≡◌, ◌==◌, ◌&&◌, ◌||◌, not, true, false, ℕ, ◌+◌, ◌%◌, ◌^◌, ◌<◌, ◌≤◌, ◌↔◌, nat_le, IsTrue, if◌then◌else◌};
 ghost use Rattle.node_sets.specs.Members.{has_node, size_of, size_below, Within};
 
 use std::marker::Model;
@@ -33,6 +33,14 @@ fn without_bits(bits: u32, other: u32) -> u32
     ensures small { result < 2 ^ 32 }
 {
     bits & !other
+}
+
+/// The lowest bits of a word.
+fn low_bits(bits: u32, end: u8) -> u64
+    requires { end ≤ 32 }
+    ensures { result ≡ bits % 2 ^ end }
+{
+    u64::from(bits) & ((1u64 << end) - 1)
 }
 
 /// Whether the other word has each bit of this one.
@@ -157,13 +165,7 @@ impl NodeSet {
         ensures value { result ≡ size_below self end }
         ensures most { result ≤ end }
     {
-        let mut size = 0;
-        let mut node = 0;
-        while node < end {
-            size = counted(size, self.has(node));
-            node += 1;
-        }
-        size
+        low_bits(self.bits, end).count_ones() as u8
     }
 
     /// The member of this place, from 0, in rising order.

@@ -1,14 +1,12 @@
-use Rattle.std.proofs.Common.{arith, ap₂, ◌∙◌, sym, ◌+◌, cond}
-use Rattle.node_sets.proofs.Bits.{size_none, size_next}
+use Rattle.std.proofs.Common.{◌∙◌, ap, subst, ◌≤◌, sym}
+use Rattle.std.specs.Prelude.{count_ones}
+use Rattle.node_sets.proofs.Bits.{ones_below, size_below_most}
 use Rattle.node_sets.proofs.node_set.NodeSet.len_below.Goals as goal
 
-pub loop-node-init : goal.loop-node-init
-loop-node-init c = (size_none c.args.self, omega arith, omega arith)
+pub returns-clause-value : goal.returns-clause-value
+returns-clause-value c =
+    rw (← c.self.view_is) (ap count_ones c.low_bits.ensures ∙ ones_below c.self.inside.bits c.args.end c.requires)
 
-pub loop-node-preserved : goal.loop-node-preserved
-loop-node-preserved c =
-    let so = c.loop-node.invariant in (
-      c.counted-size.ensures.value ∙ ap₂ (λ n t. n + cond t 1 0) so.0 c.has.ensures ∙ sym (size_next c.args.self c.loop-node.node),
-      omega (arith, c.loop-node-test.true),
-      omega (arith, c.counted-size.ensures.most, so.2),
-    )
+pub returns-clause-most : goal.returns-clause-most
+returns-clause-most c =
+    subst (λ n. n ≤ c.args.end) (sym (ap count_ones c.low_bits.ensures ∙ ones_below c.self.inside.bits c.args.end c.requires)) (size_below_most c.self.inside.bits c.args.end)
