@@ -1,5 +1,5 @@
 -- The scores of nodes for a bucket, and which of them ranks first.
-use Rattle.std.specs.Prelude.{◌≡◌, ◌⊎◌, ℕ, ◌<◌, List, [], ◌∷◌, ◌++◌, take, true, Option, None, Some, slice_index_or, nat_lt, if◌then◌else◌}
+use Rattle.std.specs.Prelude.{◌≡◌, ◌⊎◌, ℕ, ◌<◌, List, [], ◌∷◌, ◌++◌, take, true}
 use Rattle.std.specs.Int.{from_be_bytes, to_be_bytes, w16, w64}
 use Rattle.md5.specs.Md5.{md5}
 use Rattle.bucket_ids.specs.Buckets.{Low}
@@ -25,19 +25,6 @@ Ranks score a b = (score b < score a) ⊎ ((score a ≡ score b) × (a < b))
 pub record IsFirst (score : ℕ → ℕ) (set node : ℕ) : Type 0 where
   pub member : has_node set node ≡ true
   pub first : (other : ℕ) → has_node set other ≡ true → (other ≡ node) ⊎ Ranks score node other
-
--- the score at a place of a list
-abbrev pub score_at : List ℕ → ℕ → ℕ
-score_at scores node = slice_index_or scores node 0
-
--- the better of a member so far and a member
-abbrev pub better_of : (ℕ → ℕ) → Option ℕ → ℕ → Option ℕ
-better_of score None node = Some node
-better_of score (Some best) node = if nat_lt (score best) (score node) then Some node else Some best
-
--- the better of a member so far and a number, where that is a member
-abbrev pub better : (ℕ → ℕ) → ℕ → Option ℕ → ℕ → Option ℕ
-better score set best node = if has_node set node then better_of score best node else best
 
 -- a list has a number
 abbrev pub Has : ℕ → List ℕ → Type 0
