@@ -1,0 +1,88 @@
+ghost use Rattle.std.specs.Prelude.{◌≡◌, ◌++◌, ◌∷◌, [], List, map, IfOk};
+ghost use Rattle.std.specs.String.{string_bytes};
+ghost use Rattle.std.specs.List.{filter};
+ghost use Rattle.word_index.specs.Tokens.{has_bytes, tokens_of};
+ghost use Rattle.word_index.specs.Runs.{Run, run_of, run_with, closed};
+
+use doc_types::TextList;
+use std::alloc::Global;
+use value_lists::{NoMemory, TextValue};
+
+/// The tokens so far, and the bytes of the one under way.
+#[derive(Drop)]
+pub struct Words {
+    pub tokens: Vec<TextValue>,
+    pub word: String,
+}
+
+impl Words {
+    /// The tokens, with the one under way where it has a byte.
+    fn close(self) -> Result<Vec<TextValue>, NoMemory>
+        ensures { IfOk result (λ tokens. tokens.items ≡ closed (run_of self)) }
+    {
+        let mut tokens = self.tokens;
+        if !self.word.is_empty() {
+            tokens.push(TextValue::of(self.word))?;
+        }
+        Ok(tokens)
+    }
+
+    /// The words after one byte more.
+    fn with(self, alloc: Global, byte: u8) -> Result<Words, NoMemory>
+        ensures { IfOk result (λ words. run_of words ≡ run_with byte (run_of self)) }
+    {
+        if byte.is_ascii_alphanumeric() {
+            let mut word = self.word;
+            word.push(char::from(byte.to_ascii_lowercase()))?;
+            return Ok(Words {
+                tokens: self.tokens,
+                word,
+            });
+        }
+        Ok(Words {
+            tokens: self.close()?,
+            word: String::new(alloc),
+        })
+    }
+}
+
+/// The tokens of a text; the only error is want of memory.
+pub fn tokens(alloc: Global, text: &str) -> Result<TextList, NoMemory>
+    ensures { IfOk result (λ list. list ≡ tokens_of text.now) }
+{
+    tokens_of_bytes(alloc, text.as_bytes())
+}
+
+/// The tokens of bytes; the only error is want of memory.
+pub fn tokens_of_bytes(alloc: Global, bytes: &[u8]) -> Result<TextList, NoMemory>
+    ensures { IfOk result (λ list. list ≡ tokens_of bytes.now) }
+{
+    let mut words = Words {
+        tokens: Vec::new(alloc),
+        word: String::new(alloc),
+    };
+    for byte in bytes {
+        words = words.with(alloc, *byte)?;
+    }
+    Ok(TextList::of(words.close()?))
+}
+
+#[test]
+fn tokens_are_runs_of_letters_and_digits(rt: HostRuntime) {
+    let cases = [
+        ("A-b 1", "a,b,1,"),
+        ("", ""),
+        ("--", ""),
+        ("Ab9_c", "ab9,c,"),
+        ("\u{e9}t\u{e9} 7", "t,7,"),
+    ];
+    for (text, wanted) in cases {
+        let found = tokens(rt.alloc(), text).unwrap();
+        let mut printed = String::new(rt.alloc());
+        for token in found.items() {
+            printed.push_str(token.text()).unwrap();
+            printed.push(',').unwrap();
+        }
+        assert_eq!(rt; printed.as_str(), wanted);
+    }
+}
