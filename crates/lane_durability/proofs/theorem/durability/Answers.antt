@@ -1,0 +1,13 @@
+use Rattle.lane_durability.proofs.Found.{durable, state-few}
+use Rattle.lane_durability.proofs.Operations.{newer-later, fresh, read-version, late-message}
+use Rattle.lane_durability.proofs.theorem.durability.Goals as goal
+
+pub returns : goal.returns
+returns c = record {
+  durable = λ acks some P J l. durable acks P some J l;
+  later = λ acks some P J l. newer-later acks P some J l;
+  fresh = λ acks some P J l. fresh acks P some J l;
+  current = λ acks some P J l. read-version acks P some J l;
+  late = λ acks some P J l. late-message acks P some J l;
+  few = λ acks some P J l. state-few acks P J l;
+}

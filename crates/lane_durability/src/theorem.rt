@@ -1,0 +1,34 @@
+//! The law on the versions below a version, and the durability theorem; no function here does anything.
+
+ghost use Rattle.std.specs.Prelude.{◌≡◌, ◌≤◌, ℕ, Bool};
+ghost use Rattle.lane_journals.specs.Readers.{Journal};
+ghost use Rattle.lane_journals.specs.Legal.{Legal};
+ghost use Rattle.lane_durability.specs.Durability.{VersionsStandAlone, IsFound, IsDurable, LaterIsNewer, ReadsAreFresh, EnoughReadsAreCurrent, CountedOnce, SearchIsCurrent, LateAreOutside, FewAreOutside};
+
+/// The events of the versions below a version are a legal journal, whose stores are what each node held
+/// as it first took that version or a greater one. So what was acknowledged below a published version
+/// is held by a node that serves under it, as that node takes it.
+pub fn versions_below()
+    ensures law { (acks : ℕ) → 1 ≤ acks → (P : ℕ → ℕ → Bool) → (J : Journal) → Legal acks P J → VersionsStandAlone acks P J }
+    ensures found { (acks : ℕ) → 1 ≤ acks → (P : ℕ → ℕ → Bool) → (J : Journal) → Legal acks P J → IsFound P J }
+{}
+
+/// The durability theorem: what was acknowledged, or something newer, is in enough node stores; an
+/// acknowledged operation that began after another's acknowledgement is newer; and an operation that read
+/// at enough nodes saw nothing older. Once a version is opened, what smaller versions sent is taken
+/// outside its nodes alone, and there are fewer than enough known nodes there.
+pub fn durability()
+    ensures durable { (acks : ℕ) → 1 ≤ acks → (P : ℕ → ℕ → Bool) → (J : Journal) → Legal acks P J → IsDurable acks J }
+    ensures later { (acks : ℕ) → 1 ≤ acks → (P : ℕ → ℕ → Bool) → (J : Journal) → Legal acks P J → LaterIsNewer J }
+    ensures fresh { (acks : ℕ) → 1 ≤ acks → (P : ℕ → ℕ → Bool) → (J : Journal) → Legal acks P J → ReadsAreFresh J }
+    ensures current { (acks : ℕ) → 1 ≤ acks → (P : ℕ → ℕ → Bool) → (J : Journal) → Legal acks P J → EnoughReadsAreCurrent acks J }
+    ensures late { (acks : ℕ) → 1 ≤ acks → (P : ℕ → ℕ → Bool) → (J : Journal) → Legal acks P J → LateAreOutside acks P J }
+    ensures few { (acks : ℕ) → 1 ≤ acks → (P : ℕ → ℕ → Bool) → (J : Journal) → Legal acks P J → FewAreOutside acks P J }
+{}
+
+/// Regions of one version have no key in common, and a node that is at the version of its region holds
+/// there at least all that was acknowledged under that version and smaller ones.
+pub fn regions_count_once()
+    ensures apart { (acks : ℕ) → 1 ≤ acks → (P : ℕ → ℕ → Bool) → (J : Journal) → Legal acks P J → CountedOnce J }
+    ensures current { (acks : ℕ) → 1 ≤ acks → (P : ℕ → ℕ → Bool) → (J : Journal) → Legal acks P J → SearchIsCurrent J }
+{}

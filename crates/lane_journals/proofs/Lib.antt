@@ -1,0 +1,12 @@
+pub mod Ids
+pub mod Order
+pub mod Counts
+pub mod BucketLaws
+pub mod Basics
+pub mod Rows
+pub mod Serials
+pub mod RowLists
+pub mod Parted
+pub mod Pieces
+pub mod States
+pub mod SerialsAgain

@@ -1,0 +1,12 @@
+pub mod Sets
+pub mod Stamps
+pub mod Buckets
+pub mod Events
+pub mod Readers
+pub mod Facts
+pub mod Pieces
+pub mod Legal
+pub mod RowLists
+pub mod States
+pub mod Below
+pub mod Noted
