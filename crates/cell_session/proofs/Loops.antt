@@ -136,14 +136,14 @@ before_of limit.Bytes (Some text) cs reader left told count lines bytes finishes
 -- how the session ends where no line is left to deal with
 pub over_ends : (end : Status) (text left : Option (List ℕ)) (reader : Reading) (Js : List Journal) (before now : Option (List ℕ))
     → IsSoFar text reader left Js before now → reader.max_lines ≡ most_lines → reader.max_bytes ≡ most_bytes
-    → ((t : List ℕ) → StandsIn t reader left → Finishes t reader end) → (a b : ℕ) → IsReadEnd end a b
+    → ((t : List ℕ) → StandsIn t reader left → Finishes t reader end) → (last : Option ℕ) (a b : ℕ) → IsReadEnd end last a b
     → EndsAs end text Js before now
-over_ends status.Done text left reader Js before now so lines bytes finishes a b may = (so.commands, (answers text left reader Js before now so, all_of text so.commands reader left so.told so.count finishes))
-over_ends status.ReadFault text left reader Js before now so lines bytes finishes a b may = (so.commands, (answers text left reader Js before now so, first_of text so.commands reader left so.told))
-over_ends status.Usage text left reader Js before now so lines bytes finishes a b may = absurd may
-over_ends status.WriteFault text left reader Js before now so lines bytes finishes a b may = absurd may
-over_ends status.NoMemory text left reader Js before now so lines bytes finishes a b may = inr (so.commands, (answers text left reader Js before now so, first_of text so.commands reader left so.told))
-over_ends (status.Limit which) text left reader Js before now so lines bytes finishes a b may = (so.commands, (answers text left reader Js before now so, before_of which text so.commands reader left so.told so.count lines bytes finishes))
+over_ends status.Done text left reader Js before now so lines bytes finishes last a b may = (so.commands, (answers text left reader Js before now so, all_of text so.commands reader left so.told so.count finishes))
+over_ends status.ReadFault text left reader Js before now so lines bytes finishes last a b may = (so.commands, (answers text left reader Js before now so, first_of text so.commands reader left so.told))
+over_ends status.Usage text left reader Js before now so lines bytes finishes last a b may = absurd may
+over_ends status.WriteFault text left reader Js before now so lines bytes finishes last a b may = absurd may
+over_ends status.NoMemory text left reader Js before now so lines bytes finishes last a b may = inr (so.commands, (answers text left reader Js before now so, first_of text so.commands reader left so.told))
+over_ends (status.Limit which) text left reader Js before now so lines bytes finishes last a b may = (so.commands, (answers text left reader Js before now so, before_of which text so.commands reader left so.told so.count lines bytes finishes))
 
 pub stopped_fault : (why : Stop) (line : ℕ) (c : Command) (old new : List Journal) (before now : Option (List ℕ)) → why ≡ stop.Fault → StopsAs why line c old new before now
     → (new ≡ with_command line c old) × AppendsFront before now (report_in line c new)

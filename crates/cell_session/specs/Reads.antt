@@ -1,5 +1,5 @@
 -- What a session reads.
-use Rattle.std.specs.Prelude.{◌≡◌, ℕ, ◌+◌, ◌≤◌, List, length, Some, slice_get}
+use Rattle.std.specs.Prelude.{◌≡◌, ℕ, ◌+◌, ◌≤◌, List, length, Option, Some, slice_get}
 use Rattle.io_ends.specs.Causes.{HasRisen}
 use Rattle.io_ends.specs.Lines.{lines_of}
 use Rattle.io_ends.specs.Reading.{Reading, Grows, IsWithin, Reaches}
@@ -29,17 +29,17 @@ Shows text old (step.Command number command) = ((bytes : List ℕ) × ((slice_ge
 Shows text old (step.Over end) = Finishes text old end
 
 -- an end that may come of reading; a fault of the source only where its count rose
-abbrev pub IsReadEnd : Status → ℕ → ℕ → Type 0
-IsReadEnd status.Done before now = Unit {0}
-IsReadEnd (status.Limit which) before now = Unit {0}
-IsReadEnd status.ReadFault before now = HasRisen before now
-IsReadEnd status.NoMemory before now = Unit {0}
-IsReadEnd status.Usage before now = ⊥
-IsReadEnd status.WriteFault before now = ⊥
+abbrev pub IsReadEnd : Status → Option ℕ → ℕ → ℕ → Type 0
+IsReadEnd status.Done last before now = Unit {0}
+IsReadEnd (status.Limit which) last before now = Unit {0}
+IsReadEnd status.ReadFault last before now = HasRisen last before now
+IsReadEnd status.NoMemory last before now = Unit {0}
+IsReadEnd status.Usage last before now = ⊥
+IsReadEnd status.WriteFault last before now = ⊥
 
-abbrev pub CausedBySource : Step → ℕ → ℕ → Type 0
-CausedBySource (step.Command number command) before now = Unit {0}
-CausedBySource (step.Over end) before now = IsReadEnd end before now
+abbrev pub CausedBySource : Step → Option ℕ → ℕ → ℕ → Type 0
+CausedBySource (step.Command number command) last before now = Unit {0}
+CausedBySource (step.Over end) last before now = IsReadEnd end last before now
 
 -- the command of these bytes, or want of memory
 abbrev pub IsOfLine : Step → ℕ → List ℕ → Type 0

@@ -51,7 +51,7 @@ pub fn answer_line<K: Sink>(
     ensures written { OnOk result (Appends (K.written sink.old) (K.written sink.new) (report_in line command cluster.new)) }
     ensures stopped { IfErr result (λ why. StopsAs why line command cluster.old cluster.new (K.written sink.old) (K.written sink.new)) }
     ensures count { K.faults sink.old ≤ K.faults sink.new }
-    ensures fault { IfErr result (λ why. why ≡ stop.Fault → HasRisen (K.faults sink.old) (K.faults sink.new)) }
+    ensures fault { IfErr result (λ why. why ≡ stop.Fault → HasRisen K.last (K.faults sink.old) (K.faults sink.new)) }
 {
     let report = cluster.deal(alloc, line, command)?;
     write_all(sink, &report)?;

@@ -27,7 +27,7 @@ pub fn next_command<S: Source>(
     ensures shows { (text : List ℕ) → StandsIn text reader.old (S.left source.old) → Shows text reader.old result }
     ensures stands { (text : List ℕ) → StandsIn text reader.old (S.left source.old) → StandsIn text reader.new (S.left source.new) }
     ensures count { S.faults source.old ≤ S.faults source.new }
-    ensures cause { CausedBySource result (S.faults source.old) (S.faults source.new) }
+    ensures cause { CausedBySource result S.last (S.faults source.old) (S.faults source.new) }
 {
     match reader.next(source, line) {
         Next::Line { number } => line_command(alloc, number, line),

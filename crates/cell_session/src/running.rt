@@ -40,8 +40,8 @@ pub fn run_one<S: Source, K: Sink>(
     ensures wrong_words { 1 < length words.now → UsageEnd result (K.written sink.old) (K.written sink.new) × (cluster.new ≡ []) }
 
     // a fault comes only where that end failed in this call
-    ensures read_fault { result ≡ Status.ReadFault → HasRisen (S.faults source.old) (S.faults source.new) }
-    ensures write_fault { result ≡ Status.WriteFault → HasRisen (K.faults sink.old) (K.faults sink.new) }
+    ensures read_fault { result ≡ Status.ReadFault → HasRisen S.last (S.faults source.old) (S.faults source.new) }
+    ensures write_fault { result ≡ Status.WriteFault → HasRisen K.last (K.faults sink.old) (K.faults sink.new) }
     ensures source_count { S.faults source.old ≤ S.faults source.new }
     ensures sink_count { K.faults sink.old ≤ K.faults sink.new }
 {
@@ -54,7 +54,7 @@ pub fn run_one<S: Source, K: Sink>(
 /// Writes the usage line.
 fn refuse_words<K: Sink>(alloc: Global, sink: &mut K) -> Status
     ensures ended { UsageEnd result (K.written sink.old) (K.written sink.new) }
-    ensures fault { result ≡ Status.WriteFault → HasRisen (K.faults sink.old) (K.faults sink.new) }
+    ensures fault { result ≡ Status.WriteFault → HasRisen K.last (K.faults sink.old) (K.faults sink.new) }
     ensures count { K.faults sink.old ≤ K.faults sink.new }
 {
     let Ok(report) = usage_report(alloc) else {
@@ -75,8 +75,8 @@ fn run_lines<S: Source, K: Sink>(
 ) -> Status
     requires { cluster.old ≡ [] }
     ensures ended { EndsAs result (S.left source.old) cluster.new (K.written sink.old) (K.written sink.new) }
-    ensures read_fault { result ≡ Status.ReadFault → HasRisen (S.faults source.old) (S.faults source.new) }
-    ensures write_fault { result ≡ Status.WriteFault → HasRisen (K.faults sink.old) (K.faults sink.new) }
+    ensures read_fault { result ≡ Status.ReadFault → HasRisen S.last (S.faults source.old) (S.faults source.new) }
+    ensures write_fault { result ≡ Status.WriteFault → HasRisen K.last (K.faults sink.old) (K.faults sink.new) }
     ensures source_count { S.faults source.old ≤ S.faults source.new }
     ensures sink_count { K.faults sink.old ≤ K.faults sink.new }
 {

@@ -3,3 +3,4 @@ pub mod FeedPlaces
 pub mod LineLaws
 pub mod ReaderLaws
 pub mod ReaderStarts
+pub mod Seeking

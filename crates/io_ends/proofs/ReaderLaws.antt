@@ -4,12 +4,13 @@ use Rattle.std.proofs.lemmas.List.{take-append-le}
 use Rattle.std.specs.Io.KnownBytes.{Keeps, IsAtEnd}
 use Rattle.io_ends.specs.Ahead.{Ahead}
 use Rattle.io_ends.specs.Fetching.{Fetches}
-use Rattle.io_ends.specs.Filling.{HoldsIn, IsLong, IsFeedAt, Passes, IsSought, after_line, Gives, GivesLast}
+use Rattle.io_ends.specs.Filling.{HoldsIn, IsLong, IsFeedAt, Passes, after_line, Gives, GivesLast}
 use Rattle.io_ends.specs.Lines.{NoLineFeed, lines_of, end_of}
 use Rattle.io_ends.specs.Reading.{Reading, IsSplit, IsAt, StandsIn, longest, Reaches, Tells}
 use Rattle.io_ends.specs.declared.next.Next.{Next}
 use Rattle.io_ends.specs.declared.next.Next.TheVariants as next
 use Rattle.io_ends.specs.declared.next.LimitKind.TheVariants as limit
+use Rattle.io_ends.proofs.Seeking.{IsSought}
 use Rattle.io_ends.proofs.FeedPlaces.{NoLineFeed-append}
 use Rattle.io_ends.proofs.LineLaws.{lines_of_first, lines_of_last, lines_of_none, end_of_first, end_of_last, end_of_past, end_of_zero, end_of_none, lines_of_some}
 

@@ -1,10 +1,10 @@
 -- What ties a fault to the outside.
-use Rattle.std.specs.Prelude.{◌≡◌, ◌⊎◌, ℕ, ◌-◌, ◌^◌, ◌<◌, List, ◌++◌, length, IfOk, Option, Result}
+use Rattle.std.specs.Prelude.{◌≡◌, ◌⊎◌, ℕ, ◌<◌, List, ◌++◌, length, IfOk, Option, Some, Result}
 use Rattle.std.specs.Io.KnownBytes.{Appends}
 
--- a count of faults rose; at its last value, the greatest of 64 bits, it stands still
-abbrev pub HasRisen : ℕ → ℕ → Type 0
-HasRisen old new = (old < new) ⊎ ((2 ^ 64 - 1 ≡ old) × (2 ^ 64 - 1 ≡ new))
+-- a count of faults rose; where it has a last value it may stand there
+abbrev pub HasRisen : Option ℕ → ℕ → ℕ → Type 0
+HasRisen last old new = (old < new) ⊎ ((last ≡ Some old) × (new ≡ old))
 
 -- at least one byte of a non-empty piece is taken
 abbrev pub Takes : {E : Type 0} → List ℕ → Result ℕ E → Type 0

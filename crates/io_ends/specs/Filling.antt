@@ -81,11 +81,3 @@ GivesLast old new next.End line = (new ≡ old) × ((old.passed ≡ 0) × (old.a
 GivesLast old new (next.Limit which) line = Gives old new (length old.ahead) 0 (next.Limit which) line × (0 < old.passed + length old.ahead)
 GivesLast old new next.ReadFault line = ⊥
 GivesLast old new next.NoMemory line = new ≡ old
-
--- so far in the search: what was kept since it began, and that the first `seen` bytes ahead have no line feed
-pub record IsSought (first : Ahead) (told : Option (List ℕ)) (now : Ahead) (left : Option (List ℕ)) (room seen : ℕ) : Type 0 where
-  pub seen_lies_ahead : seen ≤ length now.ahead
-  pub clear : NoLineFeed (take seen now.ahead)
-  pub kept : (bytes : List ℕ) → HoldsIn bytes first told → HoldsIn bytes now left
-  pub passed : now.passed ≤ room
-  pub long : IsLong now

@@ -18,13 +18,16 @@ pub trait Source {
     /// How many faults there were; the number never falls.
     ghost faults: { Self → ℕ };
 
+    /// The number of faults that is counted last, where there is one.
+    ghost last: { Option ℕ };
+
     /// Puts the next bytes in front of `into` and answers how many; 0 for a non-empty `into` is the
     /// end. A failed call takes no byte, and may be tried again.
     fn read(&mut self, into: &mut [u8]) -> Result<usize, Failed>
         ensures bound { ReadsAtMost result into.new }
         ensures bytes { ReadConsumes (left self.old) (left self.new) result into.new }
         ensures count { faults self.old ≤ faults self.new }
-        ensures fault { OnErr result (HasRisen (faults self.old) (faults self.new)) };
+        ensures fault { OnErr result (HasRisen last (faults self.old) (faults self.new)) };
 }
 
 /// Where bytes go.
@@ -35,6 +38,9 @@ pub trait Sink {
     /// How many faults there were; the number never falls.
     ghost faults: { Self → ℕ };
 
+    /// The number of faults that is counted last, where there is one.
+    ghost last: { Option ℕ };
+
     /// Takes the first bytes of a non-empty piece, at least one, and answers how many. A failed
     /// call takes none.
     fn write(&mut self, from: &[u8]) -> Result<usize, Failed>
@@ -42,5 +48,5 @@ pub trait Sink {
         ensures some { Takes from.now result }
         ensures bytes { WriteAppends (written self.old) (written self.new) result from.now }
         ensures count { faults self.old ≤ faults self.new }
-        ensures fault { OnErr result (HasRisen (faults self.old) (faults self.new)) };
+        ensures fault { OnErr result (HasRisen last (faults self.old) (faults self.new)) };
 }

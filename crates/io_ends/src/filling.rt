@@ -34,7 +34,7 @@ pub fn find_end<S: Source>(window: &mut Window, source: &mut S, room: u64) -> Li
     ensures room { window.new.passed ≤ room }
     ensures long { IsLong window.new }
     ensures count { S.faults source.old ≤ S.faults source.new }
-    ensures fault { result ≡ LineEnd.Fault → HasRisen (S.faults source.old) (S.faults source.new) }
+    ensures fault { result ≡ LineEnd.Fault → HasRisen S.last (S.faults source.old) (S.faults source.new) }
 {
     let mut seen = 0;
     loop {

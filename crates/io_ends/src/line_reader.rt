@@ -57,7 +57,7 @@ impl LineReader {
         ensures told { (text : List ℕ) → StandsIn text self.old (S.left source.old) → Tells text self.old result into.new.items }
         ensures stands { (text : List ℕ) → StandsIn text self.old (S.left source.old) → StandsIn text self.new (S.left source.new) }
         ensures count { S.faults source.old ≤ S.faults source.new }
-        ensures fault { result ≡ Next.ReadFault → HasRisen (S.faults source.old) (S.faults source.new) }
+        ensures fault { result ≡ Next.ReadFault → HasRisen S.last (S.faults source.old) (S.faults source.new) }
     {
         if self.lines == self.max_lines {
             return self.past_the_last(source);
@@ -72,7 +72,7 @@ impl LineReader {
         ensures told { (text : List ℕ) (line : List ℕ) → StandsIn text self.old (S.left source.old) → Tells text self.old result line }
         ensures stands { (text : List ℕ) → StandsIn text self.old (S.left source.old) → StandsIn text self.new (S.left source.new) }
         ensures count { S.faults source.old ≤ S.faults source.new }
-        ensures fault { result ≡ Next.ReadFault → HasRisen (S.faults source.old) (S.faults source.new) }
+        ensures fault { result ≡ Next.ReadFault → HasRisen S.last (S.faults source.old) (S.faults source.new) }
     {
         if self.window.passed() > 0 {
             return Next::Limit {
@@ -104,7 +104,7 @@ impl LineReader {
         ensures told { (text : List ℕ) → StandsIn text self.old (S.left source.old) → Tells text self.old result into.new.items }
         ensures stands { (text : List ℕ) → StandsIn text self.old (S.left source.old) → StandsIn text self.new (S.left source.new) }
         ensures count { S.faults source.old ≤ S.faults source.new }
-        ensures fault { result ≡ Next.ReadFault → HasRisen (S.faults source.old) (S.faults source.new) }
+        ensures fault { result ≡ Next.ReadFault → HasRisen S.last (S.faults source.old) (S.faults source.new) }
     {
         let room = self.max_bytes - self.given;
         match find_end(&mut self.window, source, room) {

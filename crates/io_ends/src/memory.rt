@@ -1,12 +1,19 @@
-ghost use Rattle.std.specs.Prelude.{◌≡◌, ◌≢◌, ◌↔◌, ◌+◌, ◌^◌, ◌-◌, ◌<◌, ◌≤◌, List, ℕ, [], length, Some, min, IsErr, OnErr, OnOk, Contains};
+ghost use Rattle.std.specs.Prelude.{◌≡◌, ◌↔◌, ◌⊎◌, ◌+◌, ◌<◌, ◌≤◌, List, ℕ, [], true, false, Some, None, IsErr, OnErr, IsTrue, Contains};
 ghost use Rattle.std.specs.Io.{ReadsAtMost, WritesAtMost};
 ghost use Rattle.std.specs.Io.KnownBytes.{ReadConsumes, WriteAppends};
 ghost use Rattle.io_ends.specs.Causes.{HasRisen, Takes};
-ghost use Rattle.io_ends.specs.Memory.{MemorySourceView, MemorySinkView};
+ghost use Rattle.io_ends.specs.Memory.{MemorySourceView, MemorySinkView, IsTold, last_count, one_more};
 
 use crate::ends::{Failed, Sink, Source};
 use std::alloc::Global;
 use std::marker::Model;
+
+/// Whether the call of this number was told to fail.
+fn is_told(failing: &[u64], call: u64) -> bool
+    ensures { IsTrue result ↔ IsTold failing.now call }
+{
+    call < u64::MAX && failing.contains(&call)
+}
 
 /// A source over bytes in memory, some of whose calls fail.
 #[derive(Debug, Drop)]
@@ -26,7 +33,7 @@ impl Model for MemorySource {
 
     ghost view = { λ s. record { left = drop s.at s.bytes.items; failing = s.failing.items; calls = s.calls; faults = s.faults } };
 
-    ghost invariant = { λ s. s.at ≤ vec_len s.bytes };
+    ghost invariant = { λ s. (s.at ≤ vec_len s.bytes) × (s.faults ≤ s.calls) };
 }
 
 impl MemorySource {
@@ -44,24 +51,27 @@ impl MemorySource {
     }
 }
 
+/// A call fails exactly where it was told to, and the count of faults rises by one then.
 impl Source for MemorySource {
     ghost left = { λ s. Some s.left };
 
     ghost faults = { λ s. s.faults };
 
+    ghost last = { None };
+
     fn read(&mut self, into: &mut [u8]) -> Result<usize, Failed>
         ensures bound { ReadsAtMost result into.new }
         ensures bytes { ReadConsumes (Some self.old.left) (Some self.new.left) result into.new }
         ensures count { self.old.faults ≤ self.new.faults }
-        ensures fault { OnErr result (HasRisen self.old.faults self.new.faults) }
-        ensures fails { IsErr result ↔ Contains self.old.failing self.old.calls }
-        ensures calls { self.new.calls ≡ min (self.old.calls + 1) (2 ^ 64 - 1) }
+        ensures fault { OnErr result (HasRisen None self.old.faults self.new.faults) }
+        ensures fails { IsErr result ↔ IsTold self.old.failing self.old.calls }
+        ensures calls { self.new.calls ≡ one_more self.old.calls }
         ensures failing { self.new.failing ≡ self.old.failing }
     {
         let number = self.calls;
         self.calls = number.saturating_add(1);
-        if self.failing.contains(&number) {
-            self.faults = self.faults.saturating_add(1);
+        if is_told(&self.failing, number) {
+            self.faults += 1;
             return Err(Failed);
         }
         let (_, left) = self.bytes.split_at(self.at);
@@ -81,27 +91,32 @@ pub struct MemorySink {
     failing: Vec<u64>,
     calls: u64,
     faults: u64,
+    wants: bool,
 }
 
 impl Model for MemorySink {
+    ghost use Rattle.std.specs.Prelude.{◌≤◌};
     ghost use Rattle.io_ends.specs.Memory.{MemorySinkView};
 
     ghost Value = { MemorySinkView };
 
-    ghost view = { λ s. record { written = s.bytes.items; failing = s.failing.items; calls = s.calls; faults = s.faults } };
+    ghost view = { λ s. record { written = s.bytes.items; failing = s.failing.items; calls = s.calls; faults = s.faults; wants = s.wants } };
+
+    ghost invariant = { λ s. s.faults ≤ s.calls };
 }
 
 impl MemorySink {
     /// An empty sink whose calls of these numbers, from 0, fail; so does a call that wants memory.
     /// Takes no memory.
     pub fn new(alloc: Global, failing: Vec<u64>) -> MemorySink
-        ensures { result ≡ record { written = []; failing = failing.items; calls = 0; faults = 0 } }
+        ensures { result ≡ record { written = []; failing = failing.items; calls = 0; faults = 0; wants = false } }
     {
         MemorySink {
             bytes: Vec::new(alloc),
             failing,
             calls: 0,
             faults: 0,
+            wants: false,
         }
     }
 
@@ -111,32 +126,46 @@ impl MemorySink {
     {
         &self.bytes
     }
+
+    /// Whether the last call failed since it wanted memory.
+    pub fn wants(&self) -> bool
+        ensures { result ≡ self.now.wants }
+    {
+        self.wants
+    }
 }
 
+/// A call fails exactly where it was told to, or where it wants memory; the count of faults rises by
+/// one then. Only after 2^64 - 1 calls may it stand, where memory wants on.
 impl Sink for MemorySink {
     ghost written = { λ s. Some s.written };
 
     ghost faults = { λ s. s.faults };
+
+    ghost last = { Some last_count };
 
     fn write(&mut self, from: &[u8]) -> Result<usize, Failed>
         ensures bound { WritesAtMost result from.now }
         ensures some { Takes from.now result }
         ensures bytes { WriteAppends (Some self.old.written) (Some self.new.written) result from.now }
         ensures count { self.old.faults ≤ self.new.faults }
-        ensures fault { OnErr result (HasRisen self.old.faults self.new.faults) }
-        ensures fails { Contains self.old.failing self.old.calls → IsErr result }
-        ensures calls { self.new.calls ≡ min (self.old.calls + 1) (2 ^ 64 - 1) }
+        ensures fault { OnErr result (HasRisen (Some last_count) self.old.faults self.new.faults) }
+        ensures fails { IsErr result ↔ (IsTold self.old.failing self.old.calls ⊎ (self.new.wants ≡ true)) }
+        ensures rises { self.old.calls < last_count → OnErr result (self.new.faults ≡ self.old.faults + 1) }
+        ensures calls { self.new.calls ≡ one_more self.old.calls }
         ensures failing { self.new.failing ≡ self.old.failing }
     {
         let number = self.calls;
         self.calls = number.saturating_add(1);
-        if self.failing.contains(&number) {
-            self.faults = self.faults.saturating_add(1);
+        self.wants = false;
+        if is_told(&self.failing, number) {
+            self.faults += 1;
             return Err(Failed);
         }
         match self.bytes.extend_from_slice(from) {
             Ok(()) => Ok(from.len()),
             Err(_) => {
+                self.wants = true;
                 self.faults = self.faults.saturating_add(1);
                 Err(Failed)
             }

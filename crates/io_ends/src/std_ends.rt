@@ -1,4 +1,6 @@
-ghost use Rattle.std.specs.Prelude.{◌≡◌, ◌≤◌, None, OnErr};
+ghost use Rattle.std.specs.Prelude.{◌≡◌, ◌≤◌, Some, None, OnErr};
+ghost use Rattle.io_ends.specs.Causes.{HasRisen};
+ghost use Rattle.io_ends.specs.Memory.{last_count};
 
 use crate::ends::{Failed, Sink, Source};
 use std::io::{Read, Write};
@@ -18,6 +20,15 @@ impl<R: Read + Drop> StdSource<R> {
     {
         StdSource { reader, faults: 0 }
     }
+
+    /// Counts a fault; at its last value the count stands.
+    fn failed(&mut self) -> Failed
+        ensures reader { self.new.reader ≡ self.old.reader }
+        ensures fault { HasRisen (Some last_count) self.old.faults self.new.faults }
+    {
+        self.faults = self.faults.saturating_add(1);
+        Failed
+    }
 }
 
 impl<R: Read + Drop> Source for StdSource<R> {
@@ -25,13 +36,12 @@ impl<R: Read + Drop> Source for StdSource<R> {
 
     ghost faults = { λ s. s.faults };
 
+    ghost last = { Some last_count };
+
     fn read(&mut self, into: &mut [u8]) -> Result<usize, Failed> {
         match self.reader.read(into) {
             Ok(count) => Ok(count),
-            Err(_) => {
-                self.faults = self.faults.saturating_add(1);
-                Err(Failed)
-            }
+            Err(_) => Err(self.failed()),
         }
     }
 }
@@ -51,6 +61,15 @@ impl<W: Write + Drop> StdSink<W> {
     {
         StdSink { writer, faults: 0 }
     }
+
+    /// Counts a fault; at its last value the count stands.
+    fn failed(&mut self) -> Failed
+        ensures writer { self.new.writer ≡ self.old.writer }
+        ensures fault { HasRisen (Some last_count) self.old.faults self.new.faults }
+    {
+        self.faults = self.faults.saturating_add(1);
+        Failed
+    }
 }
 
 impl<W: Write + Drop> Sink for StdSink<W> {
@@ -58,13 +77,12 @@ impl<W: Write + Drop> Sink for StdSink<W> {
 
     ghost faults = { λ s. s.faults };
 
+    ghost last = { Some last_count };
+
     fn write(&mut self, from: &[u8]) -> Result<usize, Failed> {
         match self.writer.write(from) {
             Ok(count) if count > 0 || from.is_empty() => Ok(count),
-            _ => {
-                self.faults = self.faults.saturating_add(1);
-                Err(Failed)
-            }
+            _ => Err(self.failed()),
         }
     }
 }

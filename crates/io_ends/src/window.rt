@@ -20,17 +20,19 @@ pub struct Window {
     buffer: Vec<u8>,
     start: usize,
     passed: u64,
+    /// What the last call of the source gave.
+    piece: Vec<u8>,
 }
 
 impl Model for Window {
-    ghost use Rattle.std.specs.Prelude.{◌≤◌, drop, vec_len};
+    ghost use Rattle.std.specs.Prelude.{◌≤◌, ◌<◌, drop, vec_len};
     ghost use Rattle.io_ends.specs.Ahead.{Ahead};
 
     ghost Value = { Ahead };
 
     ghost view = { λ w. record { ahead = drop w.start w.buffer.items; passed = w.passed } };
 
-    ghost invariant = { λ w. w.start ≤ vec_len w.buffer };
+    ghost invariant = { λ w. (w.start ≤ vec_len w.buffer) × (0 < vec_len w.piece) };
 }
 
 /// Drops the first `count` bytes.
@@ -52,6 +54,7 @@ impl Window {
             buffer: Vec::with_capacity(alloc, room)?,
             start: 0,
             passed: 0,
+            piece: vec![in alloc; 0u8; CHUNK]?,
         })
     }
 
@@ -105,13 +108,12 @@ impl Window {
         ensures ok { IfOk result (λ n. Fetches self.old self.new (S.left source.old) (S.left source.new) n) }
         ensures err { OnErr result ((self.new ≡ self.old) × Keeps (S.left source.old) (S.left source.new)) }
         ensures count { S.faults source.old ≤ S.faults source.new }
-        ensures fault { result ≡ Err FetchError.Fault → HasRisen (S.faults source.old) (S.faults source.new) }
+        ensures fault { result ≡ Err FetchError.Fault → HasRisen S.last (S.faults source.old) (S.faults source.new) }
     {
         self.compact();
-        self.buffer.reserve(CHUNK)?;
-        let mut chunk = [0u8; CHUNK];
-        let count = source.read(&mut chunk)?;
-        match self.buffer.extend_from_slice(&chunk[..count]) {
+        self.buffer.reserve(self.piece.len())?;
+        let count = source.read(&mut self.piece)?;
+        match self.buffer.extend_from_slice(&self.piece[..count]) {
             Ok(()) => Ok(count),
             Err(_) => unreachable!(),
         }

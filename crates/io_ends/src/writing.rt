@@ -15,7 +15,7 @@ pub fn write_all<K: Sink>(sink: &mut K, bytes: &[u8]) -> Result<(), WriteFault>
     ensures ok { OnOk result (Appends (K.written sink.old) (K.written sink.new) bytes.now) }
     ensures err { OnErr result (AppendsFront (K.written sink.old) (K.written sink.new) bytes.now) }
     ensures count { K.faults sink.old ≤ K.faults sink.new }
-    ensures fault { OnErr result (HasRisen (K.faults sink.old) (K.faults sink.new)) }
+    ensures fault { OnErr result (HasRisen K.last (K.faults sink.old) (K.faults sink.new)) }
 {
     let mut done = 0;
     while done < bytes.len() {

@@ -23,7 +23,7 @@ loop-number-preserved g c =
 pub returns-in-Over-clause-ended : goal.returns-in-Over-clause-ended
 returns-in-Over-clause-ended g c =
     let so = c.loop-number.invariant in
-    over_ends _ _ _ _ _ _ _ so.0 so.1.0 so.1.1 c.in-Over.ensures.shows _ _ c.in-Over.ensures.cause
+    over_ends _ _ _ _ _ _ _ so.0 so.1.0 so.1.1 c.in-Over.ensures.shows _ _ _ c.in-Over.ensures.cause
 
 pub returns-in-Err-Fault-clause-ended : goal.returns-in-Err-Fault-clause-ended
 returns-in-Err-Fault-clause-ended g c =

@@ -1,5 +1,5 @@
 use Rattle.std.proofs.Common.{◌+◌, ◌-◌, ◌≤◌, length}
-use Rattle.io_ends.specs.Filling.{IsSought}
+use Rattle.io_ends.proofs.Seeking.{IsSought}
 use Rattle.io_ends.proofs.filling.find_end.Given as goal
 
 -- nothing is lost, and the bytes seen so far have no line feed
