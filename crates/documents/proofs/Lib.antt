@@ -1,0 +1,4 @@
+pub mod FieldLaws
+pub mod JsonLaws
+pub mod SizeLaws
+pub mod BackLaws

@@ -1,0 +1,7 @@
+-- A reader needs Fields, Sizes, Json, Faults and Fitting; Places is for proofs.
+pub mod Fields
+pub mod Sizes
+pub mod Json
+pub mod Faults
+pub mod Fitting
+pub mod Places
