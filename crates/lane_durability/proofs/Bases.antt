@@ -431,11 +431,11 @@ module _ (acks : ℕ) (P : ℕ → ℕ → Bool) (some : 1 ≤ acks) where
 
       joins : (d : ℕ) (b : Bucket) (set : ℕ → Bool) (e : Event) → e ≡ Decided d v (RoundEnded b set) → contains b (key_of id) ≡ true → set n ≡ true → Permits acks P J e → Covers v id (e ∷ J) (store n id (e ∷ J))
       joins d b set e is i here p = rw is (let q : Permits acks P J (Decided d v (RoundEnded b set)) = rw is at p in
-          let t = q.1.1 n here in
+          let t = (q.1).answered n here in
           let took = answered-took v (round_of v b J) n b J t in
-          let c = f.applied v n b t.union id q.1.0 i (took-applied v (round_of v b J) n b t.union J took) in
-          let h = took-held acks P some J l.0 v (round_of v b J) n b t.union id took i (running-unnamed acks P J l.0 v n b (key_of id) q.1.0 i) before c.0 c.2 in
-          Covers-le v id (Decided d v (RoundEnded b set) ∷ J) _ _ (Covers-stays J (Decided d v (RoundEnded b set)) l.0 v id _ (running-row acks P J l.0 v b q.1.0).opened (calm J v id _ (λ line z. cc)) c.1) h)
+          let c = f.applied v n b t.union id (q.1).under_way i (took-applied v (round_of v b J) n b t.union J took) in
+          let h = took-held acks P some J l.0 v (round_of v b J) n b t.union id took i (running-unnamed acks P J l.0 v n b (key_of id) (q.1).under_way i) before c.0 c.2 in
+          Covers-le v id (Decided d v (RoundEnded b set) ∷ J) _ _ (Covers-stays J (Decided d v (RoundEnded b set)) l.0 v id _ (running-row acks P J l.0 v b (q.1).under_way).opened (calm J v id _ (λ line z. cc)) c.1) h)
   marked-step J e l f v n id (inr r) low =
       elim (open-cases acks P J e l v r.line r.begin r.preparing r.is_open) [
         | inl old ↦ (let r' : Recipient v n id J = record { line = r.line; begin = r.begin; preparing = r.preparing; is_open = old; same_id = r.same_id; recipient = r.recipient } in

@@ -3,15 +3,20 @@ use Rattle.std.proofs.Common.{◌≡◌, ℕ, ◌+◌, ◌<◌, Bool, true, fals
 use Rattle.lane_journals.specs.Sets.{AtLeast, outside}
 use Rattle.lane_journals.specs.Stamps.{Stamp}
 use Rattle.lane_journals.specs.Buckets.{Bucket, first_child, second_child, across, Id, key_of}
-use Rattle.lane_journals.specs.Events.{Body, Ask, Read, ReadDoc, Store, Apply, Delete, Split, Join, Ready, Activate, Reply, Answer, Newer, NoBucket, Differs, NoMemory, Decision, RoundBegun, RoundEnded, RowSplit, RowsJoined, ActiveOn, DeleteFrom, DeleteOver, Event, Published, Heard, Begun, Opened, Prepared, Wrote, Sent, Delivered, Returned, Closed, Decided, Refused, Stopped, Started}
-use Rattle.lane_journals.specs.Readers.{Journal, known, held, Beginning, began, Preparing, round_of, Message, sent, first_reply, returned, version, Given, answer}
-use Rattle.lane_journals.specs.Facts.{Shown, AnsweredApply, AnsweredAsk, IsRow, IsMember, IsOpen}
+use Rattle.lane_journals.specs.Events.{Content, Body, Ask, Read, ReadDoc, Store, Apply, Delete, Split, Join, Ready, Activate, Reply, Answer, Newer, NoBucket, Differs, NoMemory, Decision, RoundBegun, RoundEnded, RowSplit, RowsJoined, ActiveOn, DeleteFrom, DeleteOver, Event, Published, Heard, Begun, Opened, Prepared, Wrote, Sent, Delivered, Returned, Closed, Decided, Refused, Stopped, Started}
+use Rattle.lane_journals.specs.Readers.{Journal, known, held, Beginning, began, before_line, refused, Preparing, round_of, Message, sent, first_reply, returned, version, Given, answer}
+use Rattle.lane_journals.specs.Facts.{Applied, Idle, ReadAt, ReadBack, WasAsked, Shown, AnsweredApply, AnsweredAsk, IsRow, IsMember, IsOpen}
 use Rattle.lane_journals.specs.Legal.{IsNextStamp, Belongs, MayCarry, MaySend, Lacks, Differ, Has, NotAcceptable, Replies, MayDeliver, MayReturn, IsQuiet, Keeper, is_ending, MayDecide, Permits, Legal}
 use Rattle.lane_journals.specs.Pieces.{NodePiece, any_covers, any_inside, any_meets, is_piece, ready_covers, Takes}
 use Rattle.lane_journals.specs.Below.{tells, keeps, keeps_return, keeps_line, kept, below}
+use Rattle.std.proofs.Common.{eqb, ltb, eq-eqb, ◌⊎◌}
+use Rattle.std.proofs.lemmas.Bool.{eqb-true}
+use Rattle.std.proofs.lemmas.Bool.Decides.{nat_tests}
+use Rattle.lane_journals.proofs.Basics.{began-stays, sent-stays}
+use Rattle.lane_journals.proofs.Beginnings.{lasting, before-legal}
 use Rattle.lane_journals.proofs.Counts.{AtLeast-map, both-map}
-use Rattle.lane_durability.proofs.Below.{true-lt, opened-below, row_at-below, running-below, round_of-below, published-below, published-back, known-below, stamps-below, active-below, deleting-below, held-below, stopped-below}
-use Rattle.lane_durability.proofs.BelowLines.{some-none, low-line, prepared-below, wrote-below, closed-below, began-back, began-below, sent-back, sent-below, told, reply-below}
+use Rattle.lane_durability.proofs.Below.{lt-true, true-lt, opened-below, row_at-below, running-below, round_of-below, published-below, published-back, known-below, stamps-below, active-below, deleting-below, held-below, stopped-below}
+use Rattle.lane_durability.proofs.BelowLines.{Low, some-none, low-line, prepared-below, wrote-below, closed-below, began-back, began-below, sent-back, sent-below, told, reply-below}
 use Rattle.lane_durability.proofs.BelowReaders.{returned-back, returned-below, answered_store-below, answer-below, complete-below, base-low, view, keeps-both, replies-version}
 
 module _ (acks : ℕ) (P : ℕ → ℕ → Bool) (v : ℕ) where
@@ -39,6 +44,27 @@ module _ (acks : ℕ) (P : ℕ → ℕ → Bool) (v : ℕ) where
   shown-back J l w r n b g h =
       let s = sent-back acks P v J l h.number h.message h.was_sent in
       record { number = h.number; message = h.message; was_sent = s.0; receiver = h.receiver; version = h.version; round = h.round; body = h.body; reply = first-back J l h.number h.message (Answer g.content g.names) s.0 s.1 h.reply }
+
+  applied-back : (J : Journal) → Legal acks P J → (w r n : ℕ) (b : Bucket) (u : Content) → Applied w r n b u (below v J) → Applied w r n b u J
+  applied-back J l w r n b u a = record { number = a.number; message = a.message; was_sent = (sent-back acks P v J l a.number a.message a.was_sent).0; receiver = a.receiver; version = a.version; round = a.round; body = a.body }
+
+  pub apply-back : (J : Journal) → Legal acks P J → (w r n : ℕ) (b : Bucket) → AnsweredApply w r n b (below v J) → AnsweredApply w r n b J
+  apply-back J l w r n b a =
+      let s = sent-back acks P v J l a.number a.message a.was_sent in
+      record {
+        number = a.number;
+        message = a.message;
+        union = a.union;
+        content = a.content;
+        names = a.names;
+        was_sent = s.0;
+        receiver = a.receiver;
+        version = a.version;
+        round = a.round;
+        body = a.body;
+        reply = first-back J l a.number a.message (Answer a.content a.names) s.0 s.1 a.reply;
+        back = returned-back v a.number J a.back;
+      }
 
   apply-below : (J : Journal) → Legal acks P J → (w r n : ℕ) (b : Bucket) → w < v → AnsweredApply w r n b J → AnsweredApply w r n b (below v J)
   apply-below J l w r n b lt a =
@@ -92,8 +118,11 @@ module _ (acks : ℕ) (P : ℕ → ℕ → Bool) (v : ℕ) where
   member-below : (J : Journal) → Legal acks P J → (w n : ℕ) (b : Bucket) → w < v → IsMember w n b J → IsMember w n b (below v J)
   member-below J l w n b lt h key i = complete-below acks P v J l w n lt key ∙ h key i
 
+  idle-below : (J : Journal) → Legal acks P J → (w : ℕ) (b : Bucket) → Idle w b J → Idle w b (below v J)
+  idle-below J l w b h line begin p o e = h line begin p (open-back J l w line begin p o) e
+
   quiet-below : (J : Journal) → Legal acks P J → (w : ℕ) (b : Bucket) → w < v → IsQuiet w b J → IsQuiet w b (below v J)
-  quiet-below J l w b lt q = record { row = row-below J w b lt q.row; no_round = running-below v w lt b J ∙ q.no_round; idle = λ line begin p o e. q.idle line begin p (open-back J l w line begin p o) e }
+  quiet-below J l w b lt q = record { row = row-below J w b lt q.row; no_round = running-below v w lt b J ∙ q.no_round; idle = idle-below J l w b q.idle }
 
   holder-below : (J : Journal) (d w : ℕ) → w < v → held d J ≡ Some w → held d (below v J) ≡ Some w
   holder-below J d w lt h = held-below v d J (λ y g. let z : Some y ≡ Some w = sym g ∙ h in let same : y ≡ w = cc in omega arith) ∙ h
@@ -101,11 +130,102 @@ module _ (acks : ℕ) (P : ℕ → ℕ → Bool) (v : ℕ) where
   abbrev belongs-below : (J : Journal) → Legal acks P J → (w n : ℕ) (id : Id) → w < v → (x : Belongs J w n id) → Belongs (below v J) w n id
   belongs-below J l w n id lt x = record { line = x.line; begin = x.begin; preparing = x.preparing; is_open = open-below J l w x.line x.begin x.preparing lt x.is_open; same_id = x.same_id; recipient = x.recipient }
 
+  -- ---- what a line read
+
+  before-below : (J : Journal) → Legal acks P J → (k : ℕ) → Low acks P v k J → before_line k (below v J) ≡ below v (before_line k J)
+  before-below [] l k low = refl
+  before-below (e ∷ J) l k low = by_event e l.1 low (before-below J l.0 k (λ b f. low b (began-stays k J b e f)))
+    where
+      keep : (t : Bool) (e : Event) (X : Journal) → ((K : Journal) → before_line k (e ∷ K) ≡ before_line k K) → before_line k (below v J) ≡ X → before_line k (cond t (e ∷ below v J) (below v J)) ≡ X
+      keep true e X f h = f (below v J) ∙ h
+      keep false e X f h = h
+
+      by_event : (e : Event) → Permits acks P J e → Low acks P v k (e ∷ J) → before_line k (below v J) ≡ below v (before_line k J) → before_line k (cond (kept v J e) (e ∷ below v J) (below v J)) ≡ below v (before_line k (e ∷ J))
+      by_event (Begun m d w id s) p low ih = by_case (eqb m k) refl
+        where
+          own : m ≡ k → w < v
+          own is = low (record { distributor = d; version = w; id = id; stamp = s }) (rw (is, subst (λ (i : ℕ). began i J ≡ None) is p.fresh, eq-eqb k k refl) refl)
+
+          by_case : (t : Bool) → eqb m k ≡ t → before_line k (cond (ltb w v) (Begun m d w id s ∷ below v J) (below v J)) ≡ below v (cond t J (before_line k J))
+          by_case true e = rw (lt-true w v (own (eqb-true m k e)), e) refl
+          by_case false e = by_kept (ltb w v)
+            where
+              by_kept : (t : Bool) → before_line k (cond t (Begun m d w id s ∷ below v J) (below v J)) ≡ below v (before_line k J)
+              by_kept true = rw e ih
+              by_kept false = ih
+      by_event e p low ih = keep (kept v J e) e (below v (before_line k J)) (λ K. refl) ih
+
+  line-low : (J : Journal) → Legal acks P J → (k : ℕ) (b : Beginning) → began k J ≡ Some b → b.version < v → before_line k (below v J) ≡ below v (before_line k J)
+  line-low J l k b f lt = before-below J l k (low-line acks P v k J b f lt)
+
+  -- what was sent as the line began was sent
+  early-sent : (J : Journal) → Legal acks P J → (k j : ℕ) (b : Beginning) (x : Message) → began k J ≡ Some b → sent j (before_line k J) ≡ Some x → sent j J ≡ Some x
+  early-sent J l k j b x f h = lasting acks P (λ K. sent j K ≡ Some x) (λ e K g. sent-stays j K x e g) J l k b f h
+
+  later-below : (J : Journal) → Legal acks P J → (k j : ℕ) (b : Beginning) → began k J ≡ Some b → b.version < v → sent j (before_line k J) ≡ None → sent j (before_line k (below v J)) ≡ None
+  later-below J l k j b f lt h = rw (line-low J l k b f lt) (some-none _ (λ x g. let y = (sent-back acks P v (before_line k J) (before-legal acks P J l k) j x g).0 in cc))
+
+  later-back : (J : Journal) → Legal acks P J → (k j : ℕ) (b : Beginning) (m : Message) → began k J ≡ Some b → b.version < v → sent j J ≡ Some m → m.version < v → sent j (before_line k (below v J)) ≡ None → sent j (before_line k J) ≡ None
+  later-back J l k j b m f lt s low h = some-none _ (λ x g.
+      let at = early-sent J l k j b x f g in
+      let same : m ≡ x = cc in
+      let y = sent-below acks P v (before_line k J) (before-legal acks P J l k) j x g (subst (λ (z : Message). z.version < v) same low) in
+      let z : sent j (below v (before_line k J)) ≡ None = ap (λ (K : Journal). sent j K) (sym (line-low J l k b f lt)) ∙ h in
+      absurd (let q : ◌≡◌ {A = Option Message} None (Some x) = sym z ∙ y in cc))
+
+  asked-back : (J : Journal) → Legal acks P J → (k : ℕ) (b : Beginning) → began k J ≡ Some b → b.version < v → WasAsked k b (below v J) → WasAsked k b J
+  asked-back J l k b f lt a =
+      let s = sent-back acks P v J l a.number a.message a.was_sent in
+      record { number = a.number; message = a.message; was_sent = s.0; later = later-back J l k a.number b a.message f lt s.0 s.1 a.later; version = a.version; body = a.body }
+
+  pub read-below : (J : Journal) → Legal acks P J → (n k : ℕ) (b : Beginning) (content : Content) → began k J ≡ Some b → b.version < v → ReadBack n k b content J → ReadBack n k b content (below v J)
+  read-below J l n k b content f lt a =
+      let r : ReadAt n k b content J = a.read in
+      let low : (r.message).version < v = (let z = r.version in omega arith) in
+      record {
+        read = record {
+          number = r.number;
+          message = r.message;
+          names = r.names;
+          was_sent = sent-below acks P v J l r.number r.message r.was_sent low;
+          later = later-below J l k r.number b f lt r.later;
+          receiver = r.receiver;
+          version = r.version;
+          body = r.body;
+          reply = first-below J l r.number r.message (Answer content r.names) r.was_sent low r.reply refl;
+        };
+        back = returned-below acks P v J l r.number r.message (Answer content r.names) r.was_sent low r.reply refl a.back;
+      }
+
+  refused-back : (J : Journal) (k : ℕ) → refused k (below v J) ≡ true → refused k J ≡ true
+  refused-back [] k h = h
+  refused-back (e ∷ J) k h = by_case (kept v J e) h (refused-back J k)
+    where
+      stays : (e : Event) (K : Journal) → refused k K ≡ true → refused k (e ∷ K) ≡ true
+      stays e K h = grind (arith, nat_tests)
+
+      again : (e : Event) (K L : Journal) → refused k (e ∷ K) ≡ true → (refused k K ≡ true) ⊎ (refused k (e ∷ L) ≡ true)
+      again e K L h = grind (arith, nat_tests)
+
+      by_case : (t : Bool) → refused k (cond t (e ∷ below v J) (below v J)) ≡ true → (refused k (below v J) ≡ true → refused k J ≡ true) → refused k (e ∷ J) ≡ true
+      by_case true h ih = elim (again e (below v J) J h) [ inl old ↦ stays e J (ih old) | inr new ↦ new ]
+      by_case false h ih = stays e J (ih h)
+
+  refused-below : (J : Journal) (k : ℕ) → refused k J ≡ false → refused k (below v J) ≡ false
+  refused-below J k h = by_case (refused k (below v J)) refl
+    where
+      by_case : (t : Bool) → refused k (below v J) ≡ t → t ≡ false
+      by_case true e = let z = refused-back J k e in cc
+      by_case false e = refl
+
   -- ---- each event
 
   carry-below : (J : Journal) → Legal acks P J → (w n : ℕ) (b : Body) → w < v → MayCarry P J w n b → MayCarry P (below v J) w n b
   carry-below J l w n Ask lt c = opened-below v w lt J ∙ c
-  carry-below J l w n (Read b) lt c = running-below v w lt b J ∙ c
+  carry-below J l w n (Read b) lt c = record {
+    under_way = running-below v w lt b J ∙ c.under_way;
+    first = λ m u a. c.first m u (subst (λ (r : ℕ). Applied w r m b u J) (round_of-below v w lt b J) (applied-back J l w (round_of w b (below v J)) m b u a));
+  }
   carry-below J l w n (ReadDoc id) lt c = belongs-below J l w n id lt c
   carry-below J l w n (Store id s) lt c = record {
     belongs = belongs-below J l w n id lt c.belongs;
@@ -209,7 +329,12 @@ module _ (acks : ℕ) (P : ℕ → ℕ → Bool) (v : ℕ) where
 
   decide-below : (J : Journal) → Legal acks P J → (w : ℕ) (x : Decision) → w < v → MayDecide acks J w x → MayDecide acks (below v J) w x
   decide-below J l w (RoundBegun b) lt p = quiet-below J l w b lt p
-  decide-below J l w (RoundEnded b set) lt p = (running-below v w lt b J ∙ p.0, λ n h. subst (λ (r : ℕ). AnsweredApply w r n b (below v J)) (sym (round_of-below v w lt b J)) (apply-below J l w (round_of w b J) n b lt (p.1 n h)))
+  decide-below J l w (RoundEnded b set) lt p = record {
+    under_way = running-below v w lt b J ∙ p.under_way;
+    idle = idle-below J l w b p.idle;
+    answered = λ n h. subst (λ (r : ℕ). AnsweredApply w r n b (below v J)) (sym (round_of-below v w lt b J)) (apply-below J l w (round_of w b J) n b lt (p.answered n h));
+    whole = λ n a. p.whole n (subst (λ (r : ℕ). AnsweredApply w r n b J) (round_of-below v w lt b J) (apply-back J l w (round_of w b (below v J)) n b a));
+  }
   decide-below J l w (RowSplit b) lt p = (p.0, quiet-below J l w b lt p.1)
   decide-below J l w (RowsJoined q) lt p = record {
     fits = p.fits;
@@ -236,6 +361,8 @@ module _ (acks : ℕ) (P : ℕ → ℕ → Bool) (v : ℕ) where
         pending = deleting-below v w lt J p.key ∙ p.pending;
         bucket = p.bucket;
         node = p.node;
+        no_round = λ other row h i. running-below v w lt row J ∙ p.no_round other row (sym (deleting-below v w lt J other) ∙ h) (sym (row_at-below v w lt J other) ∙ i);
+        idle = λ other line begin q h o. p.idle other line begin q (sym (deleting-below v w lt J other) ∙ h) (open-back J l w line begin q o);
         number = p.number;
         message = p.message;
         was_sent = sent-below acks P v J l p.number p.message p.was_sent lt';
@@ -273,6 +400,7 @@ module _ (acks : ℕ) (P : ℕ → ℕ → Bool) (v : ℕ) where
   }
   permits-below J l (Begun line d w id s) q p = let lt = true-lt w v q in record {
     fresh = some-none _ (λ x h. let a = (began-back acks P v J l line x h).0 in let b = p.fresh in cc);
+    unrefused = refused-below J line p.unrefused;
     holder = holder-below J d w lt p.holder;
     alone = λ other b h same. let a = began-back acks P v J l other b h in closed-below acks P v other J l (low-line acks P v other J b a.0 a.1) ∙ p.alone other b a.0 same;
     stamp = next s p.stamp;
@@ -305,7 +433,18 @@ module _ (acks : ℕ) (P : ℕ → ℕ → Bool) (v : ℕ) where
       }
   permits-below J l (Wrote line kind) q p =
       let lt = line-version J line p.begin p.begun q in
-      record { begin = p.begin; begun = began-below acks P v J l line p.begin p.begun lt; stamp = p.stamp; stamped = p.stamped; unwritten = wrote-below acks P v line J l (low-line acks P v line J p.begin p.begun lt) ∙ p.unwritten }
+      let low = low-line acks P v line J p.begin p.begun lt in
+      record {
+        begin = p.begin;
+        begun = began-below acks P v J l line p.begin p.begun lt;
+        stamp = p.stamp;
+        stamped = p.stamped;
+        preparing = p.preparing;
+        was_prepared = prepared-below acks P v line J l low ∙ p.was_prepared;
+        unwritten = wrote-below acks P v line J l low ∙ p.unwritten;
+        unclosed = closed-below acks P v line J l low ∙ p.unclosed;
+        seen = λ a. AtLeast-map (λ n k. (k.0, (k.1.0, read-below J l n line p.begin k.1.0 p.begun lt k.1.1))) (p.seen (asked-back J l line p.begin p.begun lt a));
+      }
   permits-below J l (Sent k w d n b) q p = send-below J l k w d n b (true-lt w v q) p
   permits-below J l (Delivered k r) q p = deliver-below J l k r p q
   permits-below J l (Returned k) q p = return-below J l k p q
@@ -327,7 +466,7 @@ module _ (acks : ℕ) (P : ℕ → ℕ → Bool) (v : ℕ) where
         };
       }
   permits-below J l (Decided d w x) q p = (holder-below J d w (true-lt w v q) p.0, decide-below J l w x (true-lt w v q) p.1)
-  permits-below J l (Refused line d w) q p = let lt = true-lt w v q in record { fresh = some-none _ (λ x h. let a = (began-back acks P v J l line x h).0 in let b = p.fresh in cc); holder = holder-below J d w lt p.holder }
+  permits-below J l (Refused line d w) q p = let lt = true-lt w v q in record { fresh = some-none _ (λ x h. let a = (began-back acks P v J l line x h).0 in let b = p.fresh in cc); unrefused = refused-below J line p.unrefused; holder = holder-below J d w lt p.holder }
   permits-below J l (Stopped n) q p = stopped-below v n J ∙ p
   permits-below J l (Started n) q p = stopped-below v n J ∙ p
 

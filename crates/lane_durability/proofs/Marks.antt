@@ -199,8 +199,8 @@ module _ (acks : ℕ) (P : ℕ → ℕ → Bool) where
       ]
     where
       now : (d : ℕ) (b : Bucket) (set : ℕ → Bool) (e : Event) → e ≡ Decided d v (RoundEnded b set) → contains b key ≡ true → set n ≡ true → Permits acks P J e → Holds v n key (e ∷ J)
-      now d b set e is i here p = rw is (let m : Permits acks P J (Decided d v (RoundEnded b set)) = rw is at p in let a = m.1.1 n here in
-          Holds-stays v n key J (Decided d v (RoundEnded b set)) (λ d' b' s z. cc) (record { round = round_of v b J; bucket = b; union = a.union; took = answered-took v (round_of v b J) n b J a; inside = i; free = running-unnamed J l.0 v n b key m.1.0 i }))
+      now d b set e is i here p = rw is (let m : Permits acks P J (Decided d v (RoundEnded b set)) = rw is at p in let a = (m.1).answered n here in
+          Holds-stays v n key J (Decided d v (RoundEnded b set)) (λ d' b' s z. cc) (record { round = round_of v b J; bucket = b; union = a.union; took = answered-took v (round_of v b J) n b J a; inside = i; free = running-unnamed J l.0 v n b key (m.1).under_way i }))
 
   -- recipients of an open operation too
   pub recipient-holds : (J : Journal) → Legal acks P J → (v n line : ℕ) (b : Beginning) (p : Preparing) (key : ℕ) → IsOpen v line b p J → p.recipients n ≡ true → contains p.row key ≡ true → Holds v n key J

@@ -11,6 +11,7 @@ use Rattle.lane_journals.specs.Legal.{IsNextStamp, MayBegin, MayPrepare, Belongs
 use Rattle.lane_journals.proofs.Order.{Le_trans, Le-at}
 use Rattle.lane_journals.proofs.Counts.{AtLeast-map, one_inside}
 use Rattle.lane_journals.proofs.Basics.{sent-stays, sent-cases, SentNow, sent_before, sent-member, sent-early, replied-sent, replied-accepted, first_reply-cases, accepted-cases, accepted-sent, began-cases, began-stays, prepared-stays, closed-before, opened-stays}
+use Rattle.lane_journals.proofs.Beginnings.{before-same, before-now, lasting, before-legal}
 use Rattle.lane_journals.proofs.Rows.{PreparedNow, open-cases}
 use Rattle.lane_journals.proofs.Serials.{Accepts, accepts-at}
 use Rattle.lane_durability.proofs.Marks.{now-accepts, active-complete}
@@ -20,47 +21,6 @@ use Rattle.lane_durability.proofs.Members.{region-active, members-hold}
 use Rattle.lane_durability.proofs.Found.{sent-published, published-known, state-few, acked-answered, acked-found}
 
 module _ (acks : ℕ) (P : ℕ → ℕ → Bool) (some : 1 ≤ acks) where
-  -- ---- the journal as a line began
-
-  before-same : (J : Journal) (e : Event) → Legal acks P (e ∷ J) → (k : ℕ) (b : Beginning) → began k J ≡ Some b → before_line k (e ∷ J) ≡ before_line k J
-  before-same J (Begun m d v id s) l k b f = by_case (eqb m k) refl
-    where
-      by_case : (t : Bool) → eqb m k ≡ t → cond t J (before_line k J) ≡ before_line k J
-      by_case true e = let x = eqb-true m k e in let y : began k J ≡ None = subst (λ (i : ℕ). began i J ≡ None) x (l.1).fresh in cc
-      by_case false e = refl
-  before-same J _ l k b f = refl
-
-  before-now : (J : Journal) (k d v : ℕ) (id : Id) (s : Option Stamp) → before_line k (Begun k d v id s ∷ J) ≡ J
-  before-now J k d v id s = rw (eq-eqb k k refl) refl
-
-  -- what holds as the line begins and stays, holds
-  lasting : (H : Journal → Type 0) → ((e : Event) (J : Journal) → H J → H (e ∷ J)) → (J : Journal) → Legal acks P J → (k : ℕ) (b : Beginning) → began k J ≡ Some b → H (before_line k J) → H J
-  lasting H stays [] l k b f h = cc
-  lasting H stays (e ∷ J) l k b f h = elim (began-cases k J e b f) [
-    | inl old ↦ stays e J (lasting H stays J l.0 k b old (subst H (before-same J e l k b old) h))
-    | inr new ↦ stays e J (now e new.0 new.1 h)
-  ]
-    where
-      now : (e : Event) (d : ℕ) → e ≡ Begun k d b.version b.id b.stamp → H (before_line k (e ∷ J)) → H J
-      now e d is h = subst H (ap (λ (y : Event). before_line k (y ∷ J)) is ∙ before-now J k d b.version b.id b.stamp) h
-
-  before-legal : (J : Journal) → Legal acks P J → (k : ℕ) → Legal acks P (before_line k J)
-  before-legal [] l k = tt
-  before-legal (Begun m d v id s ∷ J) l k = by_case (eqb m k) (before-legal J l.0 k)
-    where
-      by_case : (t : Bool) → Legal acks P (before_line k J) → Legal acks P (cond t J (before_line k J))
-      by_case true ih = l.0
-      by_case false ih = ih
-  before-legal (e ∷ J) l k = plain e (before-legal J l.0 k) l.0
-    where
-      plain : (e : Event) → Legal acks P (before_line k J) → Legal acks P J → Legal acks P (before_line k (e ∷ J))
-      plain (Begun m d v id s) ih lj = by_case (eqb m k)
-        where
-          by_case : (t : Bool) → Legal acks P (cond t J (before_line k J))
-          by_case true = lj
-          by_case false = ih
-      plain e ih lj = ih
-
   Acked-stays : (w : ℕ) (id : Id) (s : Stamp) (e : Event) (J : Journal) → Acked w id s J → Acked w id s (e ∷ J)
   Acked-stays w id s e J h = grind arith
 
@@ -74,13 +34,13 @@ module _ (acks : ℕ) (P : ℕ → ℕ → Bool) (some : 1 ≤ acks) where
   none-later [] l k w b f o j m s late lt p a = a
   none-later (e ∷ J) l k w b f o j m s late lt p a = elim (began-cases k J e b f) [
     | inl old ↦ elim (accepted-cases j J e a) [
-      | inl before ↦ (let same = before-same J e l k b old in
+      | inl before ↦ (let same = before-same acks P J e l k b old in
           none-later J l.0 k w b old (subst (λ (y : Journal). opened w y ≡ true) same o) j m (sent_before acks P J j e m (accepted-sent acks P J l.0 j before) s) (subst (λ (y : Journal). sent j y ≡ None) same late) lt p before)
-      | inr now ↦ (let same = before-same J e l k b old in
+      | inr now ↦ (let same = before-same acks P J e l k b old in
           let d : MayDeliver J j now.0 = rw now.1 at l.1 in
           let s' = sent_before acks P J j e m (d.message, d.was_sent) s in
           let x = now-accepts acks P J e l.1 j m.receiver m now.0 now.1 now.2 s' refl in
-          let oj = lasting (λ y. opened w y ≡ true) (λ e y h. opened-stays w y e h) J l.0 k b old (subst (λ (y : Journal). opened w y ≡ true) same o) in
+          let oj = lasting acks P (λ y. opened w y ≡ true) (λ e y h. opened-stays w y e h) J l.0 k b old (subst (λ (y : Journal). opened w y ≡ true) same o) in
           late-outside J e l w m.receiver oj x.0 (let z : (x.0).message.version ≡ m.version = ap (λ (y : Message). y.version) x.1 in omega arith) p)
     ]
     | inr new ↦ elim (accepted-cases j J e a) [
@@ -109,7 +69,7 @@ module _ (acks : ℕ) (P : ℕ → ℕ → Bool) (some : 1 ≤ acks) where
   next-stamp : (J : Journal) → Legal acks P J → (k : ℕ) (b : Beginning) → began k J ≡ Some b → IsNextStamp (before_line k J) b.version b.stamp
   next-stamp [] l k b f = cc
   next-stamp (e ∷ J) l k b f = elim (began-cases k J e b f) [
-    | inl old ↦ subst (λ (y : Journal). IsNextStamp y b.version b.stamp) (sym (before-same J e l k b old)) (next-stamp J l.0 k b old)
+    | inl old ↦ subst (λ (y : Journal). IsNextStamp y b.version b.stamp) (sym (before-same acks P J e l k b old)) (next-stamp J l.0 k b old)
     | inr new ↦ (let q : MayBegin J k new.0 b.version b.id b.stamp = rw new.1 at l.1 in
         subst (λ (y : Journal). IsNextStamp y b.version b.stamp) (sym (ap (λ (z : Event). before_line k (z ∷ J)) new.1 ∙ before-now J k new.0 b.version b.id b.stamp)) q.stamp)
   ]
@@ -118,7 +78,7 @@ module _ (acks : ℕ) (P : ℕ → ℕ → Bool) (some : 1 ≤ acks) where
   not-begun : (J : Journal) → Legal acks P J → (k : ℕ) (b : Beginning) → began k J ≡ Some b → began k (before_line k J) ≡ None
   not-begun [] l k b f = cc
   not-begun (e ∷ J) l k b f = elim (began-cases k J e b f) [
-    | inl old ↦ subst (λ (y : Journal). began k y ≡ None) (sym (before-same J e l k b old)) (not-begun J l.0 k b old)
+    | inl old ↦ subst (λ (y : Journal). began k y ≡ None) (sym (before-same acks P J e l k b old)) (not-begun J l.0 k b old)
     | inr new ↦ subst (λ (y : Journal). began k y ≡ None) (sym (ap (λ (z : Event). before_line k (z ∷ J)) new.1 ∙ before-now J k new.0 b.version b.id b.stamp)) new.2
   ]
 
@@ -129,10 +89,10 @@ module _ (acks : ℕ) (P : ℕ → ℕ → Bool) (some : 1 ≤ acks) where
       by_sent : (o : Option Message) → sent j (before_line k J) ≡ o → sent j (before_line k J) ≡ None
       by_sent None g = g
       by_sent (Some x) g =
-          let s' = lasting (λ y. sent j y ≡ Some x) (λ e y h. sent-stays j y x e h) J l k b f g in
+          let s' = lasting acks P (λ y. sent j y ≡ Some x) (λ e y h. sent-stays j y x e h) J l k b f g in
           let same : x ≡ m = (let z : Some x ≡ Some m = sym s' ∙ s in cc) in
-          let line = store-line acks P (before_line k J) (before-legal J l k) j x id t g (ap (λ (y : Message). y.body) same ∙ is) in
-          let bl = lasting (λ y. began line.line y ≡ Some line.begin) (λ e y h. began-stays line.line y line.begin e h) J l k b f line.begun in
+          let line = store-line acks P (before_line k J) (before-legal acks P J l k) j x id t g (ap (λ (y : Message). y.body) same ∙ is) in
+          let bl = lasting acks P (λ y. began line.line y ≡ Some line.begin) (λ e y h. began-stays line.line y line.begin e h) J l k b f line.begun in
           let one = stamp-line acks P J l line.line k line.begin b t bl f line.stamped st in
           let z : began k (before_line k J) ≡ Some line.begin = subst (λ (i : ℕ). began i (before_line k J) ≡ Some line.begin) one line.begun in
           let y = not-begun J l k b f in absurd (let q : None ≡ Some line.begin = sym y ∙ z in cc)
@@ -141,7 +101,7 @@ module _ (acks : ℕ) (P : ℕ → ℕ → Bool) (some : 1 ≤ acks) where
   not-smaller : (J : Journal) → Legal acks P J → (k w : ℕ) (b : Beginning) → began k J ≡ Some b → opened w (before_line k J) ≡ true → b.version < w →
       AtLeast acks (λ n. (j : ℕ) × (m : Message) × (sent j J ≡ Some m) × (sent j (before_line k J) ≡ None) × (m.version ≡ b.version) × (m.receiver ≡ n) × Accepted j J) → ⊥
   not-smaller J l k w b f o lt enough =
-      let oj = lasting (λ y. opened w y ≡ true) (λ e y h. opened-stays w y e h) J l k b f o in
+      let oj = lasting acks P (λ y. opened w y ≡ true) (λ e y h. opened-stays w y e h) J l k b f o in
       let few = state-few acks P J l w (opened-published acks P some J l w oj) in
       let x = one_inside acks (λ n. known w n J) (P w) _ few enough (λ n h.
       published-known acks P J l w (h.1).version n (sent-published acks P J l h.0 h.1 h.2) (let z = h.4 in omega arith) (subst (λ (i : ℕ). P (h.1).version i ≡ true) h.5 (sent-member acks P J l h.0 h.1 h.2))) in
@@ -153,7 +113,7 @@ module _ (acks : ℕ) (P : ℕ → ℕ → Bool) (some : 1 ≤ acks) where
       (s.version < t.version) ⊎ ((s.version ≡ t.version) × (s.count < t.count))
   newer-later J l k b t w s f st a a' =
       let J0 = before_line k J in
-      let l0 = before-legal J l k in
+      let l0 = before-legal acks P J l k in
       let x = acked-began J0 l0 w b.id s a in
       let bound = stamp-bound acks P J0 l0 x.0 x.1 s x.2 x.4 in
       let next : IsNextStamp J0 b.version (Some t) = subst (λ (y : Option Stamp). IsNextStamp J0 b.version y) st (next-stamp J l k b f) in
@@ -177,7 +137,7 @@ module _ (acks : ℕ) (P : ℕ → ℕ → Bool) (some : 1 ≤ acks) where
   read-line [] l k j b m f c s late is = cc
   read-line (e ∷ J) l k j b m f c s late is = elim (sent-cases j J e m s) [
     | inl old ↦ elim (began-cases k J e b f) [
-      | inl old_b ↦ (let x = read-line J l.0 k j b m old_b (closed-before k J e c) old (subst (λ (y : Journal). sent j y ≡ None) (before-same J e l k b old_b) late) is in (x.0, prepared-stays k J x.0 e x.1, x.2))
+      | inl old_b ↦ (let x = read-line J l.0 k j b m old_b (closed-before k J e c) old (subst (λ (y : Journal). sent j y ≡ None) (before-same acks P J e l k b old_b) late) is in (x.0, prepared-stays k J x.0 e x.1, x.2))
       | inr new ↦ (let at_begin : before_line k (e ∷ J) ≡ J = ap (λ (z : Event). before_line k (z ∷ J)) new.1 ∙ before-now J k new.0 b.version b.id b.stamp in
           let none : sent j J ≡ None = subst (λ (z : Journal). sent j z ≡ None) at_begin late in absurd (let q : None ≡ Some m = sym none ∙ old in cc))
     ]
@@ -199,10 +159,10 @@ module _ (acks : ℕ) (P : ℕ → ℕ → Bool) (some : 1 ≤ acks) where
   fresh [] l v k b p o n content r w s a le = absurd a
   fresh (e ∷ J) l v k b p o n content r w s a le = elim (open-cases acks P J e l v k b p o) [
     | inl old ↦ elim (first_reply-cases r.number J e (Answer content r.names) r.reply) [
-      | inl before ↦ (let same = before-same J e l k b old.began in
+      | inl before ↦ (let same = before-same acks P J e l k b old.began in
           let s' = sent_before acks P J r.number e r.message (replied-sent acks P J l.0 r.number (Answer content r.names) before) r.was_sent in
           fresh J l.0 v k b p old n content (record { number = r.number; message = r.message; names = r.names; was_sent = s'; later = subst (λ (y : Journal). sent r.number y ≡ None) same r.later; receiver = r.receiver; version = r.version; body = r.body; reply = before }) w s (subst (λ (y : Journal). Acked w b.id s y) same a) le)
-      | inr now ↦ (let same = before-same J e l k b old.began in
+      | inr now ↦ (let same = before-same acks P J e l k b old.began in
           let d : MayDeliver J r.number (Answer content r.names) = rw now.0 at l.1 in
           let s' = sent_before acks P J r.number e r.message (d.message, d.was_sent) r.was_sent in
           let at = accepts-at J r.number (record { content = content; names = r.names }) r.message n d s' r.receiver in
@@ -214,7 +174,7 @@ module _ (acks : ℕ) (P : ℕ → ℕ → Bool) (some : 1 ≤ acks) where
           let same_p : x.0 ≡ p = (let y = x.1 in let z = old.prepared in cc) in
           let rec : p.recipients n ≡ true = sym (ap (λ (y : Preparing). y.recipients n) same_p) ∙ subst (λ (i : ℕ). (x.0).recipients i ≡ true) r.receiver x.2 in
           let covers = (facts acks P some J l.0).marked v n b.id (inr (record { line = k; begin = b; preparing = p; is_open = old; same_id = refl; recipient = rec })) (let y = (at.0).low in omega arith) in
-          let acked : Acked w b.id s J = lasting (λ y. Acked w b.id s y) (λ e y h. Acked-stays w b.id s e y h) J l.0 k b old.began (subst (λ (y : Journal). Acked w b.id s y) same a) in
+          let acked : Acked w b.id s J = lasting acks P (λ y. Acked w b.id s y) (λ e y h. Acked-stays w b.id s e y h) J l.0 k b old.began (subst (λ (y : Journal). Acked w b.id s y) same a) in
           Le-at _ _ _ shows (elim (cases_eq w v) [
             | inl is ↦ covers.acked s (subst (λ (i : ℕ). Acked i b.id s J) is acked)
             | inr ne ↦ (let opened-v : opened v J ≡ true = subst (λ (i : ℕ). opened i J ≡ true) (r.version ∙ o.version) (elim (sent-early acks P J l.0 r.number r.message s') [ inl ask ↦ (let q = r.body in cc) | inr after ↦ after ]) in
@@ -229,7 +189,7 @@ module _ (acks : ℕ) (P : ℕ → ℕ → Bool) (some : 1 ≤ acks) where
 
       too_early : PreparedNow acks P v k b p J e → ⊥
       too_early new =
-          let same = before-same J e l k b new.begun in
+          let same = before-same acks P J e l k b new.begun in
           let s' : sent r.number J ≡ Some r.message = plain new.is r.was_sent in
           let q : MayPrepare acks J k p.row p.recipients = rw new.is at l.1 in
           let x = read-line J l.0 k r.number b r.message new.begun q.unclosed s' (subst (λ (y : Journal). sent r.number y ≡ None) same r.later) r.body in
@@ -241,7 +201,7 @@ module _ (acks : ℕ) (P : ℕ → ℕ → Bool) (some : 1 ≤ acks) where
   -- an operation that read at enough nodes isn't of a smaller version than what was acknowledged before it began
   pub read-version : (J : Journal) → Legal acks P J → (k : ℕ) (b : Beginning) → began k J ≡ Some b → AtLeast acks (λ n. (content : Content) × ReadAt n k b content J) → (w : ℕ) (s : Stamp) → Acked w b.id s (before_line k J) → w ≤ b.version
   read-version J l k b f enough w s a = elim (cases_lt b.version w) [
-    | inl less ↦ absurd (not-smaller J l k w b f (acked-opened acks P some (before_line k J) (before-legal J l k) w b.id s a) less
+    | inl less ↦ absurd (not-smaller J l k w b f (acked-opened acks P some (before_line k J) (before-legal acks P J l k) w b.id s a) less
         (AtLeast-map (λ n h. let r = h.1 in (r.number, r.message, r.was_sent, r.later, r.version, r.receiver, replied-accepted acks P J r.number (Answer h.0 r.names) r.reply refl)) enough))
     | inr more ↦ more
   ]

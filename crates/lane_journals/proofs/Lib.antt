@@ -3,6 +3,7 @@ pub mod Order
 pub mod Counts
 pub mod BucketLaws
 pub mod Basics
+pub mod Beginnings
 pub mod Rows
 pub mod Serials
 pub mod RowLists

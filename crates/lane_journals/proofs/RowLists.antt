@@ -398,7 +398,7 @@ module _ (acks : ℕ) (P : ℕ → ℕ → Bool) where
 
   decided-linked : (J : Journal) → Legal acks P J → (v key d : ℕ) (x : Decision) → MayDecide acks J v x → ((key : ℕ) → Linked v key J) → Linked v key (Decided d v x ∷ J)
   decided-linked J l v key d (RoundBegun b) p ih = unchanged v key J (Decided d v (RoundBegun b)) refl (λ n. refl) refl refl refl (ih key)
-  decided-linked J l v key d (RoundEnded b set) p ih = ended-linked v key d b set J (running-row acks P J l v b p.0) (ih key)
+  decided-linked J l v key d (RoundEnded b set) p ih = ended-linked v key d b set J (running-row acks P J l v b p.under_way) (ih key)
   decided-linked J l v key d (RowSplit b) p ih = split-linked v key d b J (p.1).row (ih key)
   decided-linked J l v key d (RowsJoined q) p ih = join-linked v key d q J p ih
   decided-linked J l v key d (ActiveOn b n) p ih = active-linked v key d b n J (p.quiet).row (ih key)

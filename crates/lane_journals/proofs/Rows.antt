@@ -259,7 +259,7 @@ module _ (acks : ℕ) (P : ℕ → ℕ → Bool) where
       now r c (inl x) =
           let c' : MayCarry P J m.version m.receiver (Read b) = rw x at c in
           let r' : m.round ≡ round_of m.version b J = r ∙ ap (λ (y : Body). round_in m.version y J) x in
-          subst (λ (i : ℕ). IsRound m.version i b J) (sym r') (running-round J m.version b c')
+          subst (λ (i : ℕ). IsRound m.version i b J) (sym r') (running-round J m.version b c'.under_way)
       now r c (inr x) =
           let c' : MayCarry P J m.version m.receiver (Apply b x.0) = rw x.1 at c in
           let r' : m.round ≡ round_of m.version b J = r ∙ ap (λ (y : Body). round_in m.version y J) x.1 in

@@ -121,3 +121,17 @@ pub record ReadAt (n line : ℕ) (begin : Beginning) (content : Content) (J : Jo
   pub version : message.version ≡ begin.version
   pub body : message.body ≡ ReadDoc begin.id
   pub reply : first_reply number J ≡ Some (Answer content names)
+
+-- a Read of the line's document was sent after the line began
+pub record WasAsked (line : ℕ) (begin : Beginning) (J : Journal) : Type 0 where
+  pub number : ℕ
+  pub message : Message
+  pub was_sent : sent number J ≡ Some message
+  pub later : sent number (before_line line J) ≡ None
+  pub version : message.version ≡ begin.version
+  pub body : message.body ≡ ReadDoc begin.id
+
+-- the node's answer to such a Read came back
+pub record ReadBack (n line : ℕ) (begin : Beginning) (content : Content) (J : Journal) : Type 0 where
+  pub read : ReadAt n line begin content J
+  pub back : returned read.number J ≡ true

@@ -2,7 +2,7 @@
 use Rattle.std.specs.Prelude.{◌≡◌, ℕ, ◌+◌, ◌≤◌, Bool, true, false, ◌⊎◌, ◌==◌, nat_le, nat_lt, max, List, [], ◌∷◌, Option, Some, None, if◌then◌else◌}
 use Rattle.lane_journals.specs.Stamps.{Stamp, Le, newer, same_stamp}
 use Rattle.lane_journals.specs.Buckets.{Bucket, contains, same_bucket, meets, first_child, second_child, across, Id, same_id, key_of}
-use Rattle.lane_journals.specs.Events.{Content, Body, Ask, Read, ReadDoc, Store, Apply, Delete, Split, Join, Ready, Activate, Reply, Answer, RoundBegun, RoundEnded, RowSplit, RowsJoined, ActiveOn, DeleteFrom, DeleteOver, Event, Published, Heard, Begun, Opened, Prepared, Wrote, Sent, Delivered, Returned, Closed, Decided, Stopped, Started}
+use Rattle.lane_journals.specs.Events.{Content, Body, Ask, Read, ReadDoc, Store, Apply, Delete, Split, Join, Ready, Activate, Reply, Answer, RoundBegun, RoundEnded, RowSplit, RowsJoined, ActiveOn, DeleteFrom, DeleteOver, Event, Published, Heard, Begun, Opened, Prepared, Wrote, Sent, Delivered, Returned, Closed, Decided, Refused, Stopped, Started}
 
 abbrev pub Journal : Type 0
 Journal = List Event
@@ -52,6 +52,12 @@ abbrev pub began : ℕ → Journal → Option Beginning
 began k [] = None
 began k (Begun l d v id s ∷ J) = or_else (began k J) (only_if (l == k) (record { distributor = d; version = v; id = id; stamp = s }))
 began k (_ ∷ J) = began k J
+
+-- a distributor refused the line
+abbrev pub refused : ℕ → Journal → Bool
+refused k [] = false
+refused k (Refused l d v ∷ J) = if l == k then true else refused k J
+refused k (_ ∷ J) = refused k J
 
 abbrev pub stamps_of : ℕ → Journal → ℕ
 stamps_of v [] = 0
