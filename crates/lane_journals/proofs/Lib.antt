@@ -10,4 +10,5 @@ pub mod RowLists
 pub mod Parted
 pub mod Pieces
 pub mod States
+pub mod Meant
 pub mod SerialsAgain

@@ -4,7 +4,7 @@ use Rattle.std.proofs.lemmas.Bool.Decides.{nat_tests}
 use Rattle.lane_journals.specs.Events.{Body, Ask, Read, ReadDoc, Store, Apply, Delete, Split, Join, Ready, Activate, Event, Published, Heard, Begun, Opened, Prepared, Wrote, Sent, Delivered, Returned, Closed, Decided, Refused, Stopped, Started}
 use Rattle.lane_journals.specs.Readers.{Journal, published}
 use Rattle.lane_journals.specs.Legal.{MayCarry, Permits, Legal}
-use Rattle.lane_journals.specs.States.{state_of, IsLegal}
+use Rattle.lane_journals.specs.States.{state_of, LegalByStates}
 use Rattle.std.proofs.lemmas.Bool.{eqb-true}
 use Rattle.lane_journals.proofs.Basics.{published-stays}
 use Rattle.lane_journals.proofs.Basics.{held-published}
@@ -51,13 +51,13 @@ state-stays acks P J (Published w set) p v n h = let lt = p.newest v h in rw (ot
     other w v lt = grind (arith, nat_tests)
 state-stays acks P J _ p v n h = refl
 
-pub legal-with : (acks : ℕ) (J : Journal) → IsLegal acks J → (Q : ℕ → ℕ → Bool) → ((v n : ℕ) → published v J ≡ true → state_of J v n ≡ Q v n) → Legal acks Q J
+pub legal-with : (acks : ℕ) (J : Journal) → LegalByStates acks J → (Q : ℕ → ℕ → Bool) → ((v n : ℕ) → published v J ≡ true → state_of J v n ≡ Q v n) → Legal acks Q J
 legal-with acks [] l Q same = tt
 legal-with acks (e ∷ J) l Q same =
     let ih = legal-with acks J l.0 Q (λ v n h. sym (state-stays acks (state_of (e ∷ J)) J e l.1 v n h) ∙ same v n (published-stays v J e h)) in
     (ih, permits-agree acks (state_of (e ∷ J)) Q J e ih same l.1)
 
-pub legal-states : (acks : ℕ) (J : Journal) → IsLegal acks J → Legal acks (state_of J) J
+pub legal-states : (acks : ℕ) (J : Journal) → LegalByStates acks J → Legal acks (state_of J) J
 legal-states acks J l = legal-with acks J l (state_of J) (λ v n h. refl)
 
 -- a given state is the one that was published

@@ -2,7 +2,7 @@
 use Rattle.std.specs.Prelude.{◌≡◌, ℕ, ◌^◌, ◌<◌, Bool, true, false, Option, Some, None}
 use Rattle.lane_journals.specs.Stamps.{Stamp, Le}
 use Rattle.lane_journals.specs.Buckets.{Id, Bucket, contains}
-use Rattle.lane_journals.specs.Events.{Content, Ask, Read, ReadDoc, Store, Apply, Activate, Answer}
+use Rattle.lane_journals.specs.Events.{Content, Ask, Read, ReadDoc, Store, Apply, Ready, Activate, Answer}
 use Rattle.lane_journals.specs.Readers.{Journal, Beginning, Preparing, began, prepared, closed, before_line, opened, row_at, complete, Message, sent, first_reply, returned, Accepted, Given}
 
 -- a Read of the round was answered by the node, be it returned or not
@@ -66,6 +66,19 @@ pub record AnsweredAsk (v n : ℕ) (J : Journal) : Type 0 where
   pub receiver : message.receiver ≡ n
   pub version : message.version ≡ v
   pub body : message.body ≡ Ask
+  pub reply : first_reply number J ≡ Some (Answer content names)
+  pub back : returned number J ≡ true
+
+-- the node answered a Ready of the bucket
+pub record AnsweredReady (v n : ℕ) (b : Bucket) (J : Journal) : Type 0 where
+  pub number : ℕ
+  pub message : Message
+  pub content : Content
+  pub names : Bucket → ℕ → Bool
+  pub was_sent : sent number J ≡ Some message
+  pub receiver : message.receiver ≡ n
+  pub version : message.version ≡ v
+  pub body : message.body ≡ Ready b
   pub reply : first_reply number J ≡ Some (Answer content names)
   pub back : returned number J ≡ true
 

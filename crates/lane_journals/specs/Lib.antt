@@ -9,4 +9,8 @@ pub mod Legal
 pub mod RowLists
 pub mod States
 pub mod Below
-pub mod Noted
+pub mod Meanings
+pub mod Naming
+pub mod Places
+pub mod Endings
+pub mod KeptJournals

@@ -266,6 +266,20 @@ answer v r n [] = None
 answer v r n (Returned k ∷ J) = or_else (answer v r n J) (answer_of v r n (sent k J) (first_reply k J))
 answer v r n (_ ∷ J) = answer v r n J
 
+abbrev pub is_ask : Body → Bool
+is_ask Ask = true
+is_ask _ = false
+
+abbrev pub asked_of : ℕ → ℕ → Option Message → Option Reply → Option Given
+asked_of v n (Some m) (Some y) = if is_ask m.body then (if m.version == v then (if m.receiver == n then given_by y else None) else None) else None
+asked_of v n _ _ = None
+
+-- a node's answer to the Asks of a version is the first one returned
+abbrev pub asked : ℕ → ℕ → Journal → Option Given
+asked v n [] = None
+asked v n (Returned k ∷ J) = or_else (asked v n J) (asked_of v n (sent k J) (first_reply k J))
+asked v n (_ ∷ J) = asked v n J
+
 abbrev pub is_store : Id → Stamp → Body → Bool
 is_store id s (Store i t) = if same_id i id then same_stamp t s else false
 is_store id s _ = false

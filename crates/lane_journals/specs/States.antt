@@ -10,6 +10,6 @@ state_of [] v n = false
 state_of (Published w set ∷ J) v n = if w == v then set n else state_of J v n
 state_of (_ ∷ J) v n = state_of J v n
 
-abbrev pub IsLegal : ℕ → Journal → Type 0
-IsLegal acks [] = Unit {0}
-IsLegal acks (e ∷ J) = IsLegal acks J × Permits acks (state_of (e ∷ J)) J e
+abbrev pub LegalByStates : ℕ → Journal → Type 0
+LegalByStates acks [] = Unit {0}
+LegalByStates acks (e ∷ J) = LegalByStates acks J × Permits acks (state_of (e ∷ J)) J e

@@ -1,15 +1,14 @@
--- Journals as they are kept: an entry is named by its stamp.
-use Rattle.std.specs.Prelude.{◌≡◌, ◌==◌, ℕ, Bool, true, false, List, [], ◌∷◌, Option, Some, None, if◌then◌else◌, is_some}
+-- What kept events mean: an entry that is named by its stamp is the one that was written with it, a set of
+-- nodes is the test of its members.
+use Rattle.std.specs.Prelude.{◌==◌, ℕ, Bool, true, false, List, [], ◌∷◌, Option, Some, None, if◌then◌else◌, is_some}
+use Rattle.node_sets.specs.Members.{has_node}
+use Rattle.cluster_states.specs.Publishing.{serves}
+use Rattle.entry_maps.specs.declared.entry.Entry.{Entry}
 use Rattle.lane_journals.specs.Stamps.{Stamp, newer, same_stamp}
 use Rattle.lane_journals.specs.Buckets.{Id, same_id, Bucket, same_bucket}
 use Rattle.lane_journals.specs.Events as plain
 use Rattle.lane_journals.specs.Events.{Content, Event, Body, Reply, Decision}
-use Rattle.lane_journals.specs.Readers.{Journal, or_else, only_if, Beginning, began, Message, sent, store}
-use Rattle.lane_journals.specs.Legal.{Permits}
-use Rattle.lane_journals.specs.Below.{kept}
-use Rattle.lane_journals.specs.States.{state_of}
-use Rattle.node_sets.specs.Members.{has_node}
-use Rattle.cluster_states.specs.Publishing.{serves}
+use Rattle.lane_journals.specs.Readers.{Journal, or_else, only_if}
 use Rattle.lane_journals.specs.declared.outcome.Outcome.{Outcome}
 use Rattle.lane_journals.specs.declared.outcome.Outcome.TheVariants.{Acked, OwnedElsewhere}
 use Rattle.lane_journals.specs.declared.piece.Piece.{Piece}
@@ -22,15 +21,25 @@ use Rattle.lane_journals.specs.declared.decision.Decision.TheVariants as choice
 use Rattle.lane_journals.specs.declared.event.LaneEvent.{LaneEvent}
 use Rattle.lane_journals.specs.declared.event.LaneEvent.TheVariants.{Published, Heard, Begun, Refused, Opened, Prepared, Wrote, Sent, Delivered, Returned, Closed, Decided, Stopped, Started}
 
+-- the members of a set of nodes
 abbrev pub nodes : ℕ → ℕ → Bool
 nodes bits n = has_node bits n
 
+-- the entry that was written with a stamp
+abbrev pub entry_at : Stamp → List LaneEvent → Option Entry
+entry_at s [] = None
+entry_at s (Wrote l entry ∷ J) = or_else (entry_at s J) (only_if (same_stamp entry.stamp s) entry)
+entry_at s (_ ∷ J) = entry_at s J
+
+abbrev pub id_in : Option Entry → Option Id
+id_in None = None
+id_in (Some e) = Some e.id
+
 -- the document that was written with a stamp
 abbrev pub written : Stamp → List LaneEvent → Option Id
-written s [] = None
-written s (Wrote l entry ∷ J) = or_else (written s J) (only_if (same_stamp entry.stamp s) entry.id)
-written s (_ ∷ J) = written s J
+written s J = id_in (entry_at s J)
 
+-- the stamp, where it is of the document
 abbrev pub entry_of : Id → Stamp → Option Id → Option Stamp
 entry_of id s None = None
 entry_of id s (Some i) = if same_id i id then Some s else None
@@ -40,9 +49,11 @@ abbrev pub pick : List LaneEvent → Id → List Stamp → Option Stamp
 pick J id [] = None
 pick J id (s ∷ ss) = newer (entry_of id s (written s J)) (pick J id ss)
 
+-- what the stamps name, as a content
 abbrev pub content : List LaneEvent → List Stamp → Content
 content J ss id = pick J id ss
 
+-- the pieces name the bucket with the serial
 abbrev pub names : List Piece → Bucket → ℕ → Bool
 names [] b s = false
 names (p ∷ ps) b s = if same_bucket p.bucket b then (if p.serial == s then true else names ps b s) else names ps b s
@@ -106,58 +117,7 @@ meaning J (Decided d v x) = plain.Decided d v (meaning_decision x)
 meaning J (Stopped n) = plain.Stopped n
 meaning J (Started n) = plain.Started n
 
+-- what the kept events mean
 abbrev pub history : List LaneEvent → Journal
 history [] = []
 history (e ∷ J) = meaning J e ∷ history J
-
--- the stamp names an entry of the list
-pub record IsEntry (J : List LaneEvent) (ss : List Stamp) (s : Stamp) : Type 0 where
-  pub id : Id
-  pub wrote : written s J ≡ Some id
-  pub newest : pick J id ss ≡ Some s
-
--- the stamp names what the receiver holds
-pub record IsHeld (J : List LaneEvent) (n : ℕ) (s : Stamp) : Type 0 where
-  pub id : Id
-  pub wrote : written s J ≡ Some id
-  pub holds : store n id (history J) ≡ Some s
-
-pub record IsOwn (J : List LaneEvent) (l : ℕ) (s : Stamp) (i : Id) : Type 0 where
-  pub begin : Beginning
-  pub begun : began l (history J) ≡ Some begin
-  pub stamped : begin.stamp ≡ Some s
-  pub same_id : begin.id ≡ i
-
-abbrev pub Each : (Stamp → Type 0) → List Stamp → Type 0
-Each P [] = Unit {0}
-Each P (s ∷ ss) = P s × Each P ss
-
-abbrev pub WellSent : List LaneEvent → NotedBody → Type 0
-WellSent J (Store s) = (i : Id) × (written s J ≡ Some i)
-WellSent J (Apply b ss) = Each (λ s. IsEntry J ss s) ss
-WellSent J _ = Unit {0}
-
-abbrev pub WellReplied : List LaneEvent → ℕ → NotedReply → Type 0
-WellReplied J k (Answer ps ss) = (m : Message) → sent k (history J) ≡ Some m → Each (λ s. IsHeld J m.receiver s) ss
-WellReplied J k _ = Unit {0}
-
--- the stamps of the event are of entries that were written before
-abbrev pub WellNoted : List LaneEvent → LaneEvent → Type 0
-WellNoted J (Wrote l entry) = IsOwn J l entry.stamp entry.id
-WellNoted J (Sent k v d n b) = WellSent J b
-WellNoted J (Delivered k r) = WellReplied J k r
-WellNoted J _ = Unit {0}
-
-abbrev pub NotedLegal : ℕ → (ℕ → ℕ → Bool) → List LaneEvent → Type 0
-NotedLegal acks P [] = Unit {0}
-NotedLegal acks P (e ∷ J) = NotedLegal acks P J × WellNoted J e × Permits acks P (history J) (meaning J e)
-
--- the events of versions below v
-abbrev pub noted_below : ℕ → List LaneEvent → List LaneEvent
-noted_below v [] = []
-noted_below v (e ∷ J) = if kept v (history J) (meaning J e) then e ∷ noted_below v J else noted_below v J
-
--- the same with the states read off the journal
-abbrev pub KeptLegal : ℕ → List LaneEvent → Type 0
-KeptLegal acks [] = Unit {0}
-KeptLegal acks (e ∷ J) = KeptLegal acks J × WellNoted J e × Permits acks (state_of (history (e ∷ J))) (history J) (meaning J e)
