@@ -21,7 +21,7 @@ use Rattle.doc_types.specs.declared.values.FieldType.TheVariants as kind
 use Rattle.doc_types.specs.declared.values.FieldValue.{FieldValue}
 use Rattle.documents.specs.declared.field.Field.{Field}
 use Rattle.documents.specs.Fields.{pairs}
-use Rattle.documents.specs.Json.{Kinds, value_of, value_by, value_in, with_value, values_in, value_json, members_json}
+use Rattle.documents.specs.Json.{value_of, value_by, with_value, said, value_json, members_json}
 
 both : (a b : Bool) → T a → T b → T (a && b)
 both true b p q = q
@@ -86,27 +86,28 @@ json_more xs i d lt sorted =
     put_last (pairs (take i xs)) (pair (get_or xs i d)) (pairs (drop (suc i) xs)) (subst (λ l. T (fin.is_sorted name_cmp l)) (middle xs i d lt) sorted)
     ∙ ap members_json (sym (until xs i d lt))
 
-below_values : (kinds : Kinds) (x : String Global) (es : List Entry) → AllByRecursion (λ y. string_cmp x y ≡ Less) (keys_of es) → T (below_all name_cmp (string_bytes x) (values_in kinds (members_view es)))
-below_values kinds x [] h = tt
-below_values kinds x (e ∷ es) h =
-    let rest = below_values kinds x es h.1 in
-    elim (value_in kinds (string_bytes e.0) (view e.1)) as (λ v. T (below_all name_cmp (string_bytes x) (with_value (string_bytes e.0) v (values_in kinds (members_view es))))) [
-      | None ↦ rest
-      | Some v ↦ both _ _ (subst (λ o. T (is_lt o)) (sym h.0) tt) rest
-    ]
+module _ {X : Type 0} (read : List ℕ → Data → Option X) where
+  below_values : (x : String Global) (es : List Entry) → AllByRecursion (λ y. string_cmp x y ≡ Less) (keys_of es) → T (below_all name_cmp (string_bytes x) (said read (members_view es)))
+  below_values x [] h = tt
+  below_values x (e ∷ es) h =
+      let rest = below_values x es h.1 in
+      elim (read (string_bytes e.0) (view e.1)) as (λ v. T (below_all name_cmp (string_bytes x) (with_value (string_bytes e.0) v (said read (members_view es))))) [
+        | None ↦ rest
+        | Some v ↦ both _ _ (subst (λ o. T (is_lt o)) (sym h.0) tt) rest
+      ]
 
--- what an object says stands in the order of the names
-pub values_sorted : (kinds : Kinds) (es : List Entry) → IsStrictlySortedBy string_cmp (keys_of es) → T (fin.is_sorted name_cmp (values_in kinds (members_view es)))
-unfolding IsStrictlySortedBy
-values_sorted kinds [] h = tt
-values_sorted kinds (e ∷ es) h =
-    let rest = values_sorted kinds es h.1 in
-    elim (value_in kinds (string_bytes e.0) (view e.1)) as (λ v. T (fin.is_sorted name_cmp (with_value (string_bytes e.0) v (values_in kinds (members_view es))))) [
-      | None ↦ rest
-      | Some v ↦ both _ _ (below_values kinds e.0 es h.0) rest
-    ]
+  -- what an object says stands in the order of the names
+  pub said_sorted : (es : List Entry) → IsStrictlySortedBy string_cmp (keys_of es) → T (fin.is_sorted name_cmp (said read (members_view es)))
+  unfolding IsStrictlySortedBy
+  said_sorted [] h = tt
+  said_sorted (e ∷ es) h =
+      let rest = said_sorted es h.1 in
+      elim (read (string_bytes e.0) (view e.1)) as (λ v. T (fin.is_sorted name_cmp (with_value (string_bytes e.0) v (said read (members_view es))))) [
+        | None ↦ rest
+        | Some v ↦ both _ _ (below_values e.0 es h.0) rest
+      ]
 
 -- a list in order is the map of its entries
-pub of_sorted : (es : List (List ℕ × FieldValue)) → T (fin.is_sorted name_cmp es) → fin.from_sorted {R = name_cmp} es ≡ fin.from_entries es
+pub of_sorted : {X : Type 0} (es : List (List ℕ × X)) → T (fin.is_sorted name_cmp es) → fin.from_sorted {R = name_cmp} es ≡ fin.from_entries es
 of_sorted es sorted = same_map nat_list_cmp_total (slice_cmp-IsAntisymmetric nat_cmp-IsAntisymmetric) _ _
     (λ q. get-from_sorted name_cmp es q sorted ∙ sym (get-from_entries nat_list_cmp_total es q))

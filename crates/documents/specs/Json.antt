@@ -59,14 +59,19 @@ value_by (Some k) d = value_of k d
 abbrev pub value_in : Kinds → List ℕ → Data → Option FieldValue
 value_in kinds name d = value_by (kinds name) d
 
--- the fields that an object says; `null` says none
-abbrev pub with_value : List ℕ → Option FieldValue → List (List ℕ × FieldValue) → List (List ℕ × FieldValue)
-with_value name None rest = rest
-with_value name (Some v) rest = (name, v) ∷ rest
+-- what the members of an object say, each read by its name; a member may say nothing
+module _ {X : Type 0} where
+  abbrev pub with_value : List ℕ → Option X → List (List ℕ × X) → List (List ℕ × X)
+  with_value name None rest = rest
+  with_value name (Some x) rest = (name, x) ∷ rest
 
+  abbrev pub said : (List ℕ → Data → Option X) → Members → List (List ℕ × X)
+  said read no_members = []
+  said read (member name d ms) = with_value name (read name d) (said read ms)
+
+-- the fields that an object says; `null` says none
 abbrev pub values_in : Kinds → Members → List (List ℕ × FieldValue)
-values_in kinds no_members = []
-values_in kinds (member name d ms) = with_value name (value_in kinds name d) (values_in kinds ms)
+values_in kinds ms = said (value_in kinds) ms
 
 abbrev pub fields_in : Kinds → Members → FieldMap
 fields_in kinds ms = fin.from_entries (values_in kinds ms)

@@ -17,7 +17,7 @@ pub mod fault;
 pub mod field;
 mod field_lists;
 pub mod laws;
-mod members;
+pub mod members;
 mod sizes;
 pub mod values;
 

@@ -68,8 +68,9 @@ fn few_texts(alloc: Global, items: &[Value]) -> Result<Option<TextList>, NoMemor
     texts_of(alloc, items)
 }
 
-/// A list of numbers that a value says.
-fn numbers_in(alloc: Global, value: &Value) -> Result<Option<IntList>, NoMemory>
+/// A list of numbers that a value says; none where it is no list of at most 256 whole numbers. The only
+/// error is want of memory.
+pub fn numbers_in(alloc: Global, value: &Value) -> Result<Option<IntList>, NoMemory>
     ensures { IfOk result (λ list. list ≡ list_in whole (view value.now)) }
 {
     match value.as_array() {
@@ -78,8 +79,9 @@ fn numbers_in(alloc: Global, value: &Value) -> Result<Option<IntList>, NoMemory>
     }
 }
 
-/// A list of texts that a value says.
-fn texts_in(alloc: Global, value: &Value) -> Result<Option<TextList>, NoMemory>
+/// A list of texts that a value says; none where it is no list of at most 256 texts. The only error is
+/// want of memory.
+pub fn texts_in(alloc: Global, value: &Value) -> Result<Option<TextList>, NoMemory>
     ensures { IfOk result (λ list. list ≡ list_in as_str (view value.now)) }
 {
     match value.as_array() {

@@ -1,0 +1,17 @@
+use Rattle.std.proofs.Common.{◌≡◌, subst, sym, arith, rules}
+use Rattle.std.specs.FinMap as fin
+use Rattle.std.specs.Prelude.{T}
+use Rattle.std.proofs.lemmas.Grind.{common_steps}
+use Rattle.serde_json.specs.View.{members_view}
+use Rattle.doc_types.specs.SchemaCodes.{name_cmp}
+use Rattle.documents.specs.Json.{kinds_of, said}
+use Rattle.documents.proofs.JsonLaws.{said_sorted}
+use Rattle.doc_updates.specs.Updates.{pairs}
+use Rattle.doc_updates.specs.Words.{change_in}
+use Rattle.doc_updates.proofs.words.changes_said.Goals as goal
+
+pub returns-clause-sorted : goal.returns-clause-sorted
+returns-clause-sorted c =
+    let kinds = kinds_of c.args.schema.now c.args.type_name.now in
+    let all : pairs c.loop-name.list.items ≡ said (change_in kinds) (members_view c.args.members.now.entries) = first_of (search rules, grind (arith, common_steps)) in
+    subst (λ l. T (fin.is_sorted name_cmp l)) (sym all) (said_sorted (change_in kinds) c.args.members.now.entries c.len.ensures.ordered)
