@@ -6,14 +6,14 @@ use Rattle.std.proofs.lemmas.List.{length-append, length-take, append-nil}
 use Rattle.std.proofs.lemmas.Fmt.{decimal_digit}
 use Rattle.std.specs.Prelude.{⊤}
 use Rattle.std.specs.Fmt.{decimal}
+use Rattle.cluster_states.specs.ClusterStates.{State, IsState}
 use Rattle.cluster_states.specs.declared.marks.Mark.{Mark}
 use Rattle.cluster_states.specs.declared.marks.Mark.TheVariants.{Up, Down, Retired}
-use Rattle.cluster_states.specs.declared.cluster_state.ClusterState.{ClusterState}
 use Rattle.cluster_states.specs.declared.places.Number.{Number}
 use Rattle.cluster_states.specs.declared.places.Number.TheVariants.{Version, Distributors, Nodes, Marked}
 use Rattle.cluster_states.specs.declared.places.Role.{Role}
 use Rattle.cluster_states.specs.declared.places.Role.TheVariants.{Distributor, Storage}
-use Rattle.cluster_states.specs.StateTexts.{IsState, after_counts, marks_text}
+use Rattle.cluster_states.specs.StateTexts.{after_counts, marks_text}
 use Rattle.cluster_states.specs.Scanning.{value_from, Continues, can_begin, least_of, end_of, marks_of, role_word, Takes, Numbered, Counting, Signed, IsKnown, IsWithin}
 use Rattle.cluster_states.proofs.Numerals.{starts, continued, value_from-le}
 
@@ -21,14 +21,14 @@ use Rattle.cluster_states.proofs.Numerals.{starts, continued, value_from-le}
 abbrev pub IsNarrow : ℕ → ℕ → Type 0
 IsNarrow least end = (least ≤ 1) ⊎ (end ≤ 100)
 
-pub narrow : (number : Number) (known : ClusterState) → IsKnown number known → IsNarrow (least_of number) (end_of number known)
+pub narrow : (number : Number) (known : State) → IsKnown number known → IsNarrow (least_of number) (end_of number known)
 narrow Version known k = inl (omega arith)
 narrow Distributors known k = inl (omega arith)
 narrow Nodes known k = inl (omega arith)
 narrow (Marked Distributor least) known k = inr (let few = k.1.state.few_distributors in omega arith)
 narrow (Marked Storage least) known k = inr (let few = k.1.state.few_nodes in omega arith)
 
-pub few_numbers : (number : Number) (known : ClusterState) → IsKnown number known → end_of number known ≤ 2 ^ 32
+pub few_numbers : (number : Number) (known : State) → IsKnown number known → end_of number known ≤ 2 ^ 32
 few_numbers Version known k = omega arith
 few_numbers Distributors known k = omega arith
 few_numbers Nodes known k = omega arith
@@ -98,12 +98,12 @@ reached least end value some can = elim (within_or_before (nat_le least value &&
       ]
 ]
 
-pub signed_within : (role : Role) (n : ℕ) (known : ClusterState) (more : List ℕ) (s : ClusterState) → Signed role n known more s → n < length (marks_of role known)
+pub signed_within : (role : Role) (n : ℕ) (known : State) (more : List ℕ) (s : State) → Signed role n known more s → n < length (marks_of role known)
 signed_within role n known more s g =
     omega (arith, g.size, ap length g.marks, length-append (take n (marks_of role known)) (g.mark ∷ g.rest), length-take n (marks_of role known))
 
 -- a number that is taken stands in its bounds
-pub takes_within : (number : Number) (known : ClusterState) (n : ℕ) (after : List ℕ) (s : ClusterState) → IsState s → Takes number known n after s → IsWithin number known n
+pub takes_within : (number : Number) (known : State) (n : ℕ) (after : List ℕ) (s : State) → IsState s → Takes number known n after s → IsWithin number known n
 takes_within Version known n after s state h = (omega arith, omega (arith, state.version, h.0))
 takes_within Distributors known n after s state h = (omega (arith, state.some_distributors, h.1.0), omega (arith, state.few_distributors, h.1.0))
 takes_within Nodes known n after s state h = (omega (arith, state.some_nodes, h.1.1.0), omega (arith, state.few_nodes, h.1.1.0))
@@ -122,10 +122,10 @@ marks_no_digit Storage n (Down ∷ ms) tail h = inl (omega arith)
 marks_no_digit Distributor n (Retired ∷ ms) tail h = inl (omega arith)
 marks_no_digit Storage n (Retired ∷ ms) tail h = inl (omega arith)
 
-pub counts_no_digit : (s : ClusterState) → NoDigit (after_counts s)
+pub counts_no_digit : (s : State) → NoDigit (after_counts s)
 counts_no_digit s = marks_no_digit Distributor 0 s.distributors _ (subst NoDigit (append-nil _) (marks_no_digit Storage 0 s.nodes [] tt))
 
-pub takes_no_digit : (number : Number) (known : ClusterState) (n : ℕ) (after : List ℕ) (s : ClusterState) → Takes number known n after s → NoDigit after
+pub takes_no_digit : (number : Number) (known : State) (n : ℕ) (after : List ℕ) (s : State) → Takes number known n after s → NoDigit after
 takes_no_digit Version known n after s h = subst NoDigit (sym h.1) (inl (omega arith))
 takes_no_digit Distributors known n after s h = subst NoDigit (sym h.1.1) (inl (omega arith))
 takes_no_digit Nodes known n after s h = subst NoDigit (sym h.1.1.1) (counts_no_digit s)
@@ -162,13 +162,13 @@ digit_goes_on value letter more (c ∷ cs) after v low high none h e =
 goes_back : (value letter : ℕ) (digits : List ℕ) (v : ℕ) → 48 ≤ letter → letter < 58 → 1 ≤ value → Continues (10 * value + (letter - 48)) digits v → Continues value (letter ∷ digits) v
 goes_back value letter digits v low high some h = record { digits = (low, (high, h.digits)); value = h.value; no_zero = λ z. absurd (omega (arith, some, z)) }
 
-pub counting_digit : (number : Number) (value letter : ℕ) (known : ClusterState) (more : List ℕ) (s : ClusterState) → 48 ≤ letter → letter < 58
+pub counting_digit : (number : Number) (value letter : ℕ) (known : State) (more : List ℕ) (s : State) → 48 ≤ letter → letter < 58
     → Counting number value known (letter ∷ more) s → (1 ≤ value) × Counting number (10 * value + (letter - 48)) known more s
 counting_digit number value letter known more s low high h =
     let g = digit_goes_on value letter more h.digits h.after h.whole low high (takes_no_digit number known h.whole h.after s h.takes) h.continues h.text in
     (g.0, record { whole = h.whole; digits = g.1.digits; after = h.after; continues = g.1.continues; text = g.1.text; takes = h.takes })
 
-pub digit_counting : (number : Number) (value letter : ℕ) (known : ClusterState) (more : List ℕ) (s : ClusterState) → 48 ≤ letter → letter < 58 → 1 ≤ value
+pub digit_counting : (number : Number) (value letter : ℕ) (known : State) (more : List ℕ) (s : State) → 48 ≤ letter → letter < 58 → 1 ≤ value
     → Counting number (10 * value + (letter - 48)) known more s → Counting number value known (letter ∷ more) s
 digit_counting number value letter known more s low high some h = record {
   whole = h.whole;
@@ -180,7 +180,7 @@ digit_counting number value letter known more s low high some h = record {
 }
 
 -- what can't begin a number of the bounds has nothing behind it
-pub counting_begins : (number : Number) (value : ℕ) (known : ClusterState) (more : List ℕ) (s : ClusterState) → IsKnown number known → IsState s → Counting number value known more s
+pub counting_begins : (number : Number) (value : ℕ) (known : State) (more : List ℕ) (s : State) → IsKnown number known → IsState s → Counting number value known more s
     → can_begin (least_of number) (end_of number known) value ≡ true
 counting_begins number value known more s k state h =
     let within = takes_within number known h.whole h.after s state h.takes in
@@ -193,7 +193,7 @@ ends_there value letter more (c ∷ cs) after v out h e =
     let same = head_same letter c more (cs ++ after) e in
     elim out [ inl below ↦ absurd (omega (arith, same, below, h.digits.0)) | inr past ↦ absurd (omega (arith, same, past, h.digits.1.0)) ]
 
-pub counting_ends : (number : Number) (value letter : ℕ) (known : ClusterState) (more : List ℕ) (s : ClusterState) → (letter < 48) ⊎ (58 ≤ letter)
+pub counting_ends : (number : Number) (value letter : ℕ) (known : State) (more : List ℕ) (s : State) → (letter < 48) ⊎ (58 ≤ letter)
     → Counting number value known (letter ∷ more) s → Takes number known value (letter ∷ more) s
 counting_ends number value letter known more s out h =
     let g = ends_there value letter more h.digits h.after h.whole out h.continues h.text in
@@ -203,12 +203,12 @@ ends_empty : (value : ℕ) (cs after : List ℕ) (v : ℕ) → Continues value c
 ends_empty value [] after v h e = (h.value, e)
 ends_empty value (c ∷ cs) after v h e = absurd (omega (arith, ap length e))
 
-pub counting_over : (number : Number) (value : ℕ) (known : ClusterState) (s : ClusterState) → Counting number value known [] s → Takes number known value [] s
+pub counting_over : (number : Number) (value : ℕ) (known : State) (s : State) → Counting number value known [] s → Takes number known value [] s
 counting_over number value known s h =
     let g = ends_empty value h.digits h.after h.whole h.continues h.text in
     subst (λ v. Takes number known v [] s) g.0 (subst (λ l. Takes number known h.whole l s) (sym g.1) h.takes)
 
-pub takes_counting : (number : Number) (value : ℕ) (known : ClusterState) (more : List ℕ) (s : ClusterState) → Takes number known value more s → Counting number value known more s
+pub takes_counting : (number : Number) (value : ℕ) (known : State) (more : List ℕ) (s : State) → Takes number known value more s → Counting number value known more s
 takes_counting number value known more s h = record {
   whole = value;
   digits = [];
@@ -219,7 +219,7 @@ takes_counting number value known more s h = record {
 }
 
 -- the first digit of a number
-pub numbered_digit : (number : Number) (letter : ℕ) (known : ClusterState) (more : List ℕ) (s : ClusterState) → IsKnown number known → IsState s → Numbered number known (letter ∷ more) s
+pub numbered_digit : (number : Number) (letter : ℕ) (known : State) (more : List ℕ) (s : State) → IsKnown number known → IsState s → Numbered number known (letter ∷ more) s
     → (48 ≤ letter) × ((letter < 58) × Counting number (letter - 48) known more s)
 numbered_digit number letter known more s k state h =
     let within = takes_within number known h.value h.after s state h.takes in
@@ -240,7 +240,7 @@ numbered_digit number letter known more s k state h =
       ),
     )
 
-pub digit_numbered : (number : Number) (letter : ℕ) (known : ClusterState) (more : List ℕ) (s : ClusterState) → IsKnown number known → IsState s → 48 ≤ letter → letter < 58
+pub digit_numbered : (number : Number) (letter : ℕ) (known : State) (more : List ℕ) (s : State) → IsKnown number known → IsState s → 48 ≤ letter → letter < 58
     → Counting number (letter - 48) known more s → Numbered number known (letter ∷ more) s
 digit_numbered number letter known more s k state low high h =
     let within = takes_within number known h.whole h.after s state h.takes in

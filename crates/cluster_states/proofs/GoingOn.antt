@@ -4,15 +4,15 @@ use Rattle.std.specs.Fmt.{decimal}
 use Rattle.std.specs.List.{All}
 use Rattle.std.proofs.lemmas.List.{length-set, length-replicate, set_split}
 use Rattle.std.proofs.lemmas.List.Elements.{All-replicate}
+use Rattle.cluster_states.specs.ClusterStates.{State, IsState}
 use Rattle.cluster_states.specs.declared.marks.Mark.TheVariants.{Up, Down, Retired}
-use Rattle.cluster_states.specs.declared.cluster_state.ClusterState.{ClusterState}
 use Rattle.cluster_states.specs.declared.places.Role.{Role}
 use Rattle.cluster_states.specs.declared.places.Role.TheVariants.{Distributor, Storage}
 use Rattle.cluster_states.specs.declared.places.Number.{Number}
 use Rattle.cluster_states.specs.declared.places.Number.TheVariants.{Version, Distributors, Nodes, Marked}
 use Rattle.cluster_states.specs.declared.places.Place.{Place}
 use Rattle.cluster_states.specs.declared.places.Place.TheVariants.{Word, Digits, Sign, Gap, Space}
-use Rattle.cluster_states.specs.StateTexts.{IsState, marks_text, after_version, after_distributors, after_counts}
+use Rattle.cluster_states.specs.StateTexts.{marks_text, after_version, after_distributors, after_counts}
 use Rattle.cluster_states.specs.Scanning.{marks_of, role_word, word_of, tail_of, letter_of, least_of, end_of, with_mark, Others, Signed, Takes, IsKnown, IsPlace, IsWithin, At}
 use Rattle.cluster_states.proofs.Counting.{reached}
 use Rattle.cluster_states.proofs.MarkTexts.{down_is_not_up}
@@ -26,18 +26,18 @@ all_up : (n : ℕ) → All (λ m. m ≢ Retired) (replicate n Up)
 all_up n = All-replicate (λ m. m ≢ Retired) n Up up_is_not_retired
 
 -- what can follow a number of the bounds
-pub record Follower (number : Number) (known : ClusterState) (n : ℕ) : Type 0 where
+pub record Follower (number : Number) (known : State) (n : ℕ) : Type 0 where
   pub after : List ℕ
-  pub state : ClusterState
+  pub state : State
   pub is : IsState state
   pub takes : Takes number known n after state
 
-others_itself : (role : Role) (known : ClusterState) → Others role known known
+others_itself : (role : Role) (known : State) → Others role known known
 others_itself Distributor known = (refl, refl)
 others_itself Storage known = (refl, refl)
 
 -- a mark that is down can stand at each number
-pub signed_some : (role : Role) (n : ℕ) (known : ClusterState) → n < length (marks_of role known)
+pub signed_some : (role : Role) (n : ℕ) (known : State) → n < length (marks_of role known)
     → Signed role n known (letter_of Down ∷ (marks_text (role_word role) (n + 1) (drop (suc n) (marks_of role known)) ++ tail_of role (with_mark known role n Down))) (with_mark known role n Down)
 signed_some role n known lt = record {
   mark = Down;
@@ -49,16 +49,16 @@ signed_some role n known lt = record {
   text = refl;
 }
   where
-    turned : (role : Role) (n : ℕ) (known : ClusterState) → Others role known (with_mark known role n Down)
+    turned : (role : Role) (n : ℕ) (known : State) → Others role known (with_mark known role n Down)
     turned Distributor n known = (refl, refl)
     turned Storage n known = (refl, refl)
 
-state_marked : (role : Role) (n : ℕ) (known : ClusterState) → IsState known → IsState (with_mark known role n Down)
+state_marked : (role : Role) (n : ℕ) (known : State) → IsState known → IsState (with_mark known role n Down)
 state_marked role n known h = state_with known role n Down (λ _. down_is_not_retired) h
 
-pub takes_some : (number : Number) (known : ClusterState) (n : ℕ) → IsKnown number known → IsWithin number known n → Follower number known n
+pub takes_some : (number : Number) (known : State) (n : ℕ) → IsKnown number known → IsWithin number known n → Follower number known n
 takes_some Version known n k w =
-    let s : ClusterState = record { version = n; distributors = replicate 1 Up; nodes = replicate 1 Up } in
+    let s : State = record { version = n; distributors = replicate 1 Up; nodes = replicate 1 Up } in
     record {
       after = after_version s;
       state = s;
@@ -66,7 +66,7 @@ takes_some Version known n k w =
       takes = (refl, refl);
     }
 takes_some Distributors known n k w =
-    let s : ClusterState = record { version = known.version; distributors = replicate n Up; nodes = replicate 1 Up } in
+    let s : State = record { version = known.version; distributors = replicate n Up; nodes = replicate 1 Up } in
     let size = length-replicate n Up in
     record {
       after = after_distributors s;
@@ -75,7 +75,7 @@ takes_some Distributors known n k w =
       takes = (refl, (size, refl));
     }
 takes_some Nodes known n k w =
-    let s : ClusterState = record { version = known.version; distributors = known.distributors; nodes = replicate n Up } in
+    let s : State = record { version = known.version; distributors = known.distributors; nodes = replicate n Up } in
     let size = length-replicate n Up in
     record {
       after = after_counts s;
@@ -99,20 +99,20 @@ takes_some (Marked role least) known n k w =
       takes = (w.0, (more, (refl, signed_some role n known w.1)));
     }
 
-some_number : (number : Number) (known : ClusterState) → IsKnown number known → least_of number < end_of number known
+some_number : (number : Number) (known : State) → IsKnown number known → least_of number < end_of number known
 some_number Version known k = omega arith
 some_number Distributors known k = omega arith
 some_number Nodes known k = omega arith
 some_number (Marked role least) known k = k.0
 
 -- a text that goes on from a place
-pub record GoesOn (place : Place) (known : ClusterState) : Type 0 where
+pub record GoesOn (place : Place) (known : State) : Type 0 where
   pub more : List ℕ
-  pub state : ClusterState
+  pub state : State
   pub is : IsState state
   pub at : At place known more state
 
-word_goes_on : (number : Number) (at : ℕ) (known : ClusterState) → IsKnown number known → GoesOn (Word number at) known
+word_goes_on : (number : Number) (at : ℕ) (known : State) → IsKnown number known → GoesOn (Word number at) known
 word_goes_on number at known k =
     let f = takes_some number known (least_of number) k (omega arith, some_number number known k) in
     record {
@@ -122,7 +122,7 @@ word_goes_on number at known k =
       at = (decimal (least_of number) ++ f.after, (refl, record { value = least_of number; after = f.after; text = refl; takes = f.takes }));
     }
 
-pub goes_on : (place : Place) (known : ClusterState) → IsPlace place known → GoesOn place known
+pub goes_on : (place : Place) (known : State) → IsPlace place known → GoesOn place known
 goes_on (Word number at) known k = word_goes_on number at known k.0
 goes_on (Digits number value) known k =
     let r = reached (least_of number) (end_of number known) value (some_number number known k.0) k.1 in

@@ -1,17 +1,17 @@
 -- How marks move a scan on.
-use Rattle.std.proofs.Common.{◌≡◌, ◌≢◌, ℕ, suc, ◌<◌, ◌≤◌, true, false, List, [], ◌∷◌, ◌++◌, length, take, drop, get_or, set, codes, nat_eq, refl, sym, ap, ap₂, subst, ◌∙◌, arith, Option, Some, None, cond, is_some}
+use Rattle.std.proofs.Common.{◌≡◌, ◌≢◌, ℕ, suc, ◌+◌, ◌<◌, ◌≤◌, true, false, List, [], ◌∷◌, ◌++◌, length, take, drop, get_or, set, codes, nat_eq, refl, sym, ap, ap₂, subst, ◌∙◌, arith, Option, Some, None, cond, is_some}
 use Rattle.std.specs.Option.{unwrap_or}
 use mathlib.Core.Bool.{true≢false}
 use Rattle.std.proofs.lemmas.Bool.Decides.{nat_tests}
 use Rattle.std.proofs.lemmas.List.{append_assoc, length-append, length-set, drop_all}
 use Rattle.std.proofs.lemmas.List.Elements.{All-set}
+use Rattle.cluster_states.specs.ClusterStates.{State, IsState}
 use Rattle.cluster_states.specs.declared.marks.Mark.{Mark}
 use Rattle.cluster_states.specs.declared.marks.Mark.TheVariants.{Up, Down, Retired}
-use Rattle.cluster_states.specs.declared.cluster_state.ClusterState.{ClusterState}
 use Rattle.cluster_states.specs.declared.places.Role.{Role}
 use Rattle.cluster_states.specs.declared.places.Role.TheVariants.{Distributor, Storage}
 use Rattle.cluster_states.specs.declared.places.Place.TheVariants.{Sign, Gap}
-use Rattle.cluster_states.specs.StateTexts.{IsState, marks_text}
+use Rattle.cluster_states.specs.StateTexts.{marks_text}
 use Rattle.cluster_states.specs.Scanning.{marks_of, role_word, tail_of, letter_of, mark_by, with_mark, Others, Signed, Follows, IsReady, Others_up, IsPlace, Moves}
 use Rattle.cluster_states.proofs.Counting.{head_same, tail_same}
 use Rattle.cluster_states.proofs.Moving.{scan_at}
@@ -78,23 +78,23 @@ read_back Distributor Retired marked plain = absurd (plain refl refl)
 read_back Storage Retired marked plain = refl
 
 -- a state with another mark
-pub marks_with : (known : ClusterState) (role : Role) (n : ℕ) (m : Mark) → marks_of role (with_mark known role n m) ≡ set (marks_of role known) n m
+pub marks_with : (known : State) (role : Role) (n : ℕ) (m : Mark) → marks_of role (with_mark known role n m) ≡ set (marks_of role known) n m
 marks_with known Distributor n m = refl
 marks_with known Storage n m = refl
 
-pub others_with : (known : ClusterState) (role : Role) (n : ℕ) (m : Mark) (s : ClusterState) → Others role known s → Others role (with_mark known role n m) s
+pub others_with : (known : State) (role : Role) (n : ℕ) (m : Mark) (s : State) → Others role known s → Others role (with_mark known role n m) s
 others_with known Distributor n m s h = h
 others_with known Storage n m s h = h
 
-others_without : (known : ClusterState) (role : Role) (n : ℕ) (m : Mark) (s : ClusterState) → Others role (with_mark known role n m) s → Others role known s
+others_without : (known : State) (role : Role) (n : ℕ) (m : Mark) (s : State) → Others role (with_mark known role n m) s → Others role known s
 others_without known Distributor n m s h = h
 others_without known Storage n m s h = h
 
-up_with : (known : ClusterState) (role : Role) (n : ℕ) (m : Mark) → Others_up role known → Others_up role (with_mark known role n m)
+up_with : (known : State) (role : Role) (n : ℕ) (m : Mark) → Others_up role known → Others_up role (with_mark known role n m)
 up_with known Distributor n m h = h
 up_with known Storage n m h = h
 
-pub state_with : (known : ClusterState) (role : Role) (n : ℕ) (m : Mark) → (role ≡ Distributor → m ≢ Retired) → IsState known → IsState (with_mark known role n m)
+pub state_with : (known : State) (role : Role) (n : ℕ) (m : Mark) → (role ≡ Distributor → m ≢ Retired) → IsState known → IsState (with_mark known role n m)
 state_with known Distributor n m plain h = record {
   version = h.version;
   some_distributors = omega (arith, h.some_distributors, length-set known.distributors n m);
@@ -112,7 +112,7 @@ state_with known Storage n m plain h = record {
   plain = h.plain;
 }
 
-ready_with : (known : ClusterState) (role : Role) (n : ℕ) (m : Mark) → (role ≡ Distributor → m ≢ Retired) → n < length (marks_of role known) → IsReady role n known → IsReady role (suc n) (with_mark known role n m)
+ready_with : (known : State) (role : Role) (n : ℕ) (m : Mark) → (role ≡ Distributor → m ≢ Retired) → n < length (marks_of role known) → IsReady role n known → IsReady role (suc n) (with_mark known role n m)
 ready_with known role n m plain lt r = record {
   state = state_with known role n m plain r.state;
   few = rw (marks_with known role n m) (omega (arith, lt, length-set (marks_of role known) n m));
@@ -120,14 +120,14 @@ ready_with known role n m plain lt r = record {
   others = up_with known role n m r.others;
 }
 
-take_with : (known : ClusterState) (role : Role) (n : ℕ) (m : Mark) (rest : List Mark) → n < length (marks_of role known)
+take_with : (known : State) (role : Role) (n : ℕ) (m : Mark) (rest : List Mark) → n < length (marks_of role known)
     → take n (marks_of role known) ++ m ∷ rest ≡ take (suc n) (marks_of role (with_mark known role n m)) ++ rest
 take_with known role n m rest lt =
     sym (append_assoc (take n (marks_of role known)) (m ∷ []) rest)
     ∙ ap (λ l. l ++ rest) (sym (take_marked n (marks_of role known) m lt) ∙ ap (take (suc n)) (sym (marks_with known role n m)))
 
 -- the letter of a mark
-signed_follows : (known : ClusterState) (role : Role) (n letter : ℕ) (m : Mark) (more : List ℕ) (s : ClusterState) → n < length (marks_of role known) → Reads role letter m
+signed_follows : (known : State) (role : Role) (n letter : ℕ) (m : Mark) (more : List ℕ) (s : State) → n < length (marks_of role known) → Reads role letter m
     → Signed role n known (letter ∷ more) s → Follows role (suc n) (with_mark known role n m) more s
 signed_follows known role n letter m more s lt r g =
     let same : g.mark ≡ m = letter_tells g.mark m g.marked r.marked (sym (head_same letter (letter_of g.mark) more _ g.text) ∙ r.letter) in
@@ -139,7 +139,7 @@ signed_follows known role n letter m more s lt r g =
       text = tail_same letter (letter_of g.mark) more _ g.text ∙ ap (λ k. marks_text (role_word role) k g.rest ++ tail_of role s) (omega arith);
     }
 
-follows_signed : (known : ClusterState) (role : Role) (n letter : ℕ) (m : Mark) (more : List ℕ) (s : ClusterState) → n < length (marks_of role known) → Reads role letter m
+follows_signed : (known : State) (role : Role) (n letter : ℕ) (m : Mark) (more : List ℕ) (s : State) → n < length (marks_of role known) → Reads role letter m
     → Follows role (suc n) (with_mark known role n m) more s → Signed role n known (letter ∷ more) s
 follows_signed known role n letter m more s lt r f = record {
   mark = m;
@@ -154,11 +154,11 @@ follows_signed known role n letter m more s lt r f = record {
 sign_over : (at : ℕ) (rest more : List ℕ) → 3 ≤ at → more ≡ drop at (codes ".s:") ++ rest → more ≡ rest
 sign_over at rest more le e = e ∙ ap (λ l. l ++ rest) (drop_all at (codes ".s:") le)
 
-pub mark_moves : (known : ClusterState) (role : Role) (n at letter : ℕ) (m : Mark) (next : ℕ) → 3 ≤ at → (n < 32 → next ≡ suc n) → mark_by role letter ≡ Some m → IsPlace (Sign role n at) known
-    → Moves (scan_at (Sign role n at) known) letter (Some (scan_at (Gap role next) (with_mark known role n m)))
-mark_moves known role n at letter m next le after e k =
+pub mark_moves : (known : State) (role : Role) (n at letter : ℕ) (m : Mark) → 3 ≤ at → mark_by role letter ≡ Some m → IsPlace (Sign role n at) known
+    → Moves (scan_at (Sign role n at) known) letter (Some (scan_at (Gap role (n + 1)) (with_mark known role n m)))
+mark_moves known role n at letter m le e k =
     let r = reads role letter m e in
-    let on : suc n ≡ next = sym (after (few_marks role k.1.0 k.0)) in
+    let on : suc n ≡ n + 1 = omega arith in
     subst (λ j. Moves (scan_at (Sign role n at) known) letter (Some (scan_at (Gap role j) (with_mark known role n m)))) on (
       ready_with known role n m r.plain k.0 k.1.0,
       λ more s. (
@@ -166,21 +166,17 @@ mark_moves known role n at letter m next le after e k =
         (λ h. (h.0, (letter ∷ more, (sym (ap (λ l. l ++ letter ∷ more) (drop_all at (codes ".s:") le)), follows_signed known role n letter m more s k.0 r h.1)))),
       ),
     )
-  where
-    few_marks : (role : Role) → IsReady role n known → n < length (marks_of role known) → n < 32
-    few_marks Distributor r lt = let few = r.state.few_distributors in omega arith
-    few_marks Storage r lt = let few = r.state.few_nodes in omega arith
 
 -- a distributor is never retired
-signed_plain : (known : ClusterState) (role : Role) (n : ℕ) (more : List ℕ) (s : ClusterState) → IsState s → (g : Signed role n known more s) → role ≡ Distributor → g.mark ≢ Retired
+signed_plain : (known : State) (role : Role) (n : ℕ) (more : List ℕ) (s : State) → IsState s → (g : Signed role n known more s) → role ≡ Distributor → g.mark ≢ Retired
 signed_plain known Storage n more s state g e retired = absurd (storage_is_not_distributor e)
 signed_plain known Distributor n more s state g e retired =
     let size = ap length g.marks ∙ length-append (take n known.distributors) (g.mark ∷ g.rest) in
     state.plain (length (take n known.distributors)) Up (omega (arith, size))
     (ap (λ l. get_or l (length (take n known.distributors)) Up) g.marks ∙ get_or_middle (take n known.distributors) g.mark g.rest Up ∙ retired)
 
-pub mark_stops : (known : ClusterState) (role : Role) (n at letter : ℕ) → 3 ≤ at → mark_by role letter ≡ None → IsPlace (Sign role n at) known → Moves (scan_at (Sign role n at) known) letter None
-mark_stops known role n at letter le e k = λ more s h.
+pub mark_stops : (known : State) (role : Role) (n at letter : ℕ) → 3 ≤ at → mark_by role letter ≡ None → Moves (scan_at (Sign role n at) known) letter None
+mark_stops known role n at letter le e = λ more s h.
     let g : Signed role n known (letter ∷ more) s = subst (λ l. Signed role n known l s) (sym (sign_over at h.1.0 (letter ∷ more) le h.1.1.0)) h.1.1.1 in
     let is : letter ≡ letter_of g.mark = head_same letter (letter_of g.mark) more _ g.text in
     not_none g.mark (sym (sym (read_back role g.mark g.marked (signed_plain known role n (letter ∷ more) s h.0 g)) ∙ ap (mark_by role) (sym is) ∙ e))

@@ -1,7 +1,7 @@
 -- The size of a set counts the numbers that pass its test.
 use Rattle.std.proofs.Common.{◌≡◌, ℕ, zero, suc, ◌+◌, ◌≤◌, Bool, List, ◌&&◌, not, cond, ap, ap₂, ◌∙◌, arith}
 use Rattle.node_sets.specs.Members.{has_node, size_below}
-use Rattle.cluster_states.specs.declared.cluster_state.ClusterState.{ClusterState}
+use Rattle.cluster_states.specs.ClusterStates.{State}
 use Rattle.cluster_states.specs.Publishing.{how_many, is_known, serves, out_of}
 
 -- how sizes grow, and their bound
@@ -16,6 +16,6 @@ size_is grows bounded set p same zero = let few = bounded set 0 in omega arith
 size_is grows bounded set p same (suc k) =
     ap (size_below set) (omega arith) ∙ grows set k ∙ ap₂ (λ n b. n + cond b 1 0) (size_is grows bounded set p same k) (same k)
 
-pub size_is_out : Grows → Bounded → (set : ℕ) (states : List ClusterState) (s : ClusterState) → ((n : ℕ) → has_node set n ≡ (is_known states n && not (serves s n))) → size_below set 32 ≡ out_of states s
+pub size_is_out : Grows → Bounded → (set : ℕ) (states : List State) (s : State) → ((n : ℕ) → has_node set n ≡ (is_known states n && not (serves s n))) → size_below set 32 ≡ out_of states s
 unfolding out_of
 size_is_out grows bounded set states s same = size_is grows bounded set (λ n. is_known states n && not (serves s n)) same 32

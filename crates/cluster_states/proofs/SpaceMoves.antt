@@ -1,21 +1,20 @@
 -- How a space and the letter behind it move a scan on, and where a text may end.
-use Rattle.std.proofs.Common.{◌≡◌, ◌⊎◌, ℕ, min, ◌+◌, ◌-◌, ◌<◌, ◌≤◌, true, false, List, [], ◌∷◌, ◌++◌, length, take, drop, replicate, codes, nat_lt, nat_eq, inl, inr, refl, sym, ap, ap₂, subst, ◌∙◌, arith, Option, Some, None, cond}
+use Rattle.std.proofs.Common.{◌≡◌, ◌⊎◌, ℕ, ◌+◌, ◌-◌, ◌<◌, ◌≤◌, true, false, List, [], ◌∷◌, ◌++◌, length, take, drop, replicate, codes, nat_lt, nat_eq, inl, inr, refl, sym, ap, ap₂, subst, ◌∙◌, arith, Option, Some, None, cond}
 use mathlib.Core.Bool.{true≢false}
 use Rattle.std.specs.Prelude.{⊤}
 use Rattle.std.specs.Fmt.{decimal}
 use Rattle.std.proofs.lemmas.Bool.Decides.{nat_tests}
 use Rattle.std.proofs.lemmas.List.{append_assoc, append-nil, length-append, length-take, length-replicate, take-append-drop, take_all}
+use Rattle.cluster_states.specs.ClusterStates.{State}
 use Rattle.cluster_states.specs.declared.marks.Mark.{Mark}
 use Rattle.cluster_states.specs.declared.marks.Mark.TheVariants.{Up, Down, Retired}
-use Rattle.cluster_states.specs.declared.cluster_state.ClusterState.{ClusterState}
 use Rattle.cluster_states.specs.declared.places.Role.{Role}
 use Rattle.cluster_states.specs.declared.places.Role.TheVariants.{Distributor, Storage}
 use Rattle.cluster_states.specs.declared.places.Number.{Number}
 use Rattle.cluster_states.specs.declared.places.Number.TheVariants.{Version, Distributors, Marked}
 use Rattle.cluster_states.specs.declared.places.Place.TheVariants.{Word, Sign, Gap, Space}
-use Rattle.cluster_states.specs.declared.places.Scan.{Scan}
-use Rattle.cluster_states.specs.StateTexts.{IsState, marks_text, after_distributors}
-use Rattle.cluster_states.specs.Scanning.{marks_of, role_word, word_of, tail_of, letter_of, number_by, has_room, Others, Follows, Numbered, AreUpFrom, IsReady, Others_up, IsKnown, IsPlace, IsWithin, IsBehind, Moves, Ends, At}
+use Rattle.cluster_states.specs.StateTexts.{marks_text, after_distributors}
+use Rattle.cluster_states.specs.Scanning.{Scan, marks_of, role_word, word_of, tail_of, letter_of, number_by, has_room, Others, Follows, Numbered, AreUpFrom, IsReady, Others_up, IsKnown, IsPlace, IsWithin, IsBehind, Moves, Ends, At}
 use Rattle.std.proofs.lemmas.Fmt.{decimal_nonempty}
 use Rattle.cluster_states.proofs.Counting.{signed_within, takes_within, few_numbers, head_same, tail_same}
 use Rattle.cluster_states.proofs.Moving.{scan_at}
@@ -34,15 +33,15 @@ marks_spaced Storage n (Down ∷ ms) tail h = refl
 marks_spaced Distributor n (Retired ∷ ms) tail h = refl
 marks_spaced Storage n (Retired ∷ ms) tail h = refl
 
-tail_spaced : (role : Role) (s : ClusterState) → Spaced (tail_of role s)
+tail_spaced : (role : Role) (s : State) → Spaced (tail_of role s)
 tail_spaced Distributor s = subst Spaced (append-nil _) (marks_spaced Storage 0 s.nodes [] tt)
 tail_spaced Storage s = tt
 
-pub gap_letter : (role : Role) (least : ℕ) (known : ClusterState) (letter : ℕ) → (letter ≡ 32 → ⊥) → Moves (scan_at (Gap role least) known) letter None
+pub gap_letter : (role : Role) (least : ℕ) (known : State) (letter : ℕ) → (letter ≡ 32 → ⊥) → Moves (scan_at (Gap role least) known) letter None
 gap_letter role least known letter other = λ more s h. other (subst Spaced (sym h.1.text) (marks_spaced role least h.1.rest (tail_of role s) (tail_spaced role s)))
 
 -- there is nothing behind the last number
-no_rest : (role : Role) (least : ℕ) (known : ClusterState) (more : List ℕ) (s : ClusterState) → length (marks_of role known) ≤ least → (f : Follows role least known more s) → f.rest ≡ []
+no_rest : (role : Role) (least : ℕ) (known : State) (more : List ℕ) (s : State) → length (marks_of role known) ≤ least → (f : Follows role least known more s) → f.rest ≡ []
 no_rest role least known more s le f =
     empty f.rest (omega (arith, f.size, ap length f.marks, length-append (take least (marks_of role known)) f.rest, length-take least (marks_of role known), le))
   where
@@ -53,7 +52,7 @@ no_rest role least known more s le f =
 not_nothing : (c : ℕ) (cs : List ℕ) → c ∷ cs ≡ [] → ⊥
 not_nothing c cs e = absurd (omega (arith, ap length e))
 
-pub gap_room : (role : Role) (least : ℕ) (known : ClusterState) (letter : ℕ) → has_room role least known ≡ false → Moves (scan_at (Gap role least) known) letter None
+pub gap_room : (role : Role) (least : ℕ) (known : State) (letter : ℕ) → has_room role least known ≡ false → Moves (scan_at (Gap role least) known) letter None
 gap_room Distributor least known letter e = absurd (true≢false e)
 gap_room Storage least known letter e = λ more s h.
     let le : length known.nodes ≤ least = grind (arith, nat_tests, e) in
@@ -72,7 +71,7 @@ inner : (w d : List ℕ) (l : ℕ) (m t : List ℕ) → (w ++ (d ++ (46 ∷ 115 
 inner w d l m t = append_assoc w (d ++ (46 ∷ 115 ∷ 58 ∷ l ∷ m)) t ∙ ap (λ x. w ++ x) (append_assoc d (46 ∷ 115 ∷ 58 ∷ l ∷ m) t)
 
 -- a mark that is found is the next number's
-found_numbered : (role : Role) (least : ℕ) (known : ClusterState) (text : List ℕ) (s : ClusterState) → IsReady role least known → (f : Follows role least known text s) → FirstMark role least f.rest
+found_numbered : (role : Role) (least : ℕ) (known : State) (text : List ℕ) (s : State) → IsReady role least known → (f : Follows role least known text s) → FirstMark role least f.rest
     → (more : List ℕ) × ((text ≡ 32 ∷ role_letter role ∷ (word_of (Marked role least) ++ more)) × Numbered (Marked role least) known more s)
 found_numbered role least known text s r f fm =
     let n : ℕ = least + fm.skipped in
@@ -112,7 +111,7 @@ found_numbered role least known text s r f fm =
     )
 
 -- and the other way round
-numbered_follows : (role : Role) (least : ℕ) (known : ClusterState) (more : List ℕ) (s : ClusterState) → IsReady role least known → Numbered (Marked role least) known more s
+numbered_follows : (role : Role) (least : ℕ) (known : State) (more : List ℕ) (s : State) → IsReady role least known → Numbered (Marked role least) known more s
     → Follows role least known (32 ∷ role_letter role ∷ (word_of (Marked role least) ++ more)) s
 numbered_follows role least known more s r h =
     let g = h.takes.1.1.1 in
@@ -135,7 +134,7 @@ numbered_follows role least known more s r h =
     }
 
 -- what no mark leaves of the marks of a role
-pub unmarked : (role : Role) (least : ℕ) (known : ClusterState) (text : List ℕ) (s : ClusterState) → IsReady role least known → (f : Follows role least known text s) → NoMark role least f.rest
+pub unmarked : (role : Role) (least : ℕ) (known : State) (text : List ℕ) (s : State) → IsReady role least known → (f : Follows role least known text s) → NoMark role least f.rest
     → marks_of role s ≡ marks_of role known
 unmarked role least known text s r f none =
     let size = ap length f.marks ∙ length-append (take least (marks_of role known)) f.rest in
@@ -144,7 +143,7 @@ unmarked role least known text s r f none =
     ∙ sym (take_up least (length f.rest) (marks_of role known) r.up (omega (arith, all)))
     ∙ ap (λ j. take j (marks_of role known)) all ∙ take_all (length (marks_of role known)) (marks_of role known) (omega arith)
 
-space_found : (role : Role) (least : ℕ) (known : ClusterState) (l : ℕ) (more : List ℕ) (s : ClusterState) → IsReady role least known → (f : Follows role least known (32 ∷ l ∷ more) s) → FirstMark role least f.rest
+space_found : (role : Role) (least : ℕ) (known : State) (l : ℕ) (more : List ℕ) (s : State) → IsReady role least known → (f : Follows role least known (32 ∷ l ∷ more) s) → FirstMark role least f.rest
     → (l ≡ role_letter role) × At (Word (Marked role least) 0) known more s
 space_found role least known l more s r f fm =
     let g = found_numbered role least known (32 ∷ l ∷ more) s r f fm in
@@ -153,21 +152,21 @@ space_found role least known l more s r f fm =
       (g.0, (tail_same l (role_letter role) more (word_of (Marked role least) ++ g.0) behind, g.1.1)),
     )
 
-space_word : (role : Role) (least : ℕ) (known : ClusterState) (more : List ℕ) (s : ClusterState) → IsReady role least known → At (Word (Marked role least) 0) known more s
+space_word : (role : Role) (least : ℕ) (known : State) (more : List ℕ) (s : State) → IsReady role least known → At (Word (Marked role least) 0) known more s
     → Follows role least known (32 ∷ role_letter role ∷ more) s
 space_word role least known more s r h = subst (λ t. Follows role least known (32 ∷ role_letter role ∷ t) s) (sym h.1.0) (numbered_follows role least known h.0 s r h.1.1)
 
-storage_space : (least : ℕ) (known : ClusterState) (l : ℕ) (more : List ℕ) (s : ClusterState) → IsReady Storage least known → Follows Storage least known (32 ∷ l ∷ more) s
+storage_space : (least : ℕ) (known : State) (l : ℕ) (more : List ℕ) (s : State) → IsReady Storage least known → Follows Storage least known (32 ∷ l ∷ more) s
     → (l ≡ 115) × At (Word (Marked Storage least) 0) known more s
 storage_space least known l more s r f = elim (first_mark Storage least f.rest) [
   | inl none ↦ absurd (not_nothing 32 (l ∷ more) (f.text ∙ ap (λ t. t ++ []) none.text))
   | inr found ↦ space_found Storage least known l more s r f found
 ]
 
-storage_ready : (least : ℕ) (known : ClusterState) → IsReady Distributor least known → IsReady Storage 0 known
+storage_ready : (least : ℕ) (known : State) → IsReady Distributor least known → IsReady Storage 0 known
 storage_ready least known r = record { state = r.state; few = omega arith; up = r.others; others = tt }
 
-nodes_follow : (least : ℕ) (known : ClusterState) (text : List ℕ) (s : ClusterState) → IsReady Distributor least known → (f : Follows Distributor least known text s) → NoMark Distributor least f.rest
+nodes_follow : (least : ℕ) (known : State) (text : List ℕ) (s : State) → IsReady Distributor least known → (f : Follows Distributor least known text s) → NoMark Distributor least f.rest
     → Follows Storage 0 known text s
 nodes_follow least known text s r f none = record {
   rest = s.nodes;
@@ -177,7 +176,7 @@ nodes_follow least known text s r f none = record {
   text = f.text ∙ ap (λ t. t ++ tail_of Distributor s) none.text ∙ sym (append-nil _);
 }
 
-follow_nodes : (least : ℕ) (known : ClusterState) (text : List ℕ) (s : ClusterState) → IsReady Distributor least known → Follows Storage 0 known text s → Follows Distributor least known text s
+follow_nodes : (least : ℕ) (known : State) (text : List ℕ) (s : State) → IsReady Distributor least known → Follows Storage 0 known text s → Follows Distributor least known text s
 follow_nodes least known text s r f =
     let none : marks_text (role_word Distributor) least (drop least known.distributors) ≡ [] =
     ap (marks_text (role_word Distributor) least) (r.up ∙ sym (append-nil (replicate (length known.distributors - least) Up))) ∙ skip_up Distributor least (length known.distributors - least) [] in
@@ -189,7 +188,7 @@ follow_nodes least known text s r f =
       text = f.text ∙ append-nil _ ∙ ap (marks_text (role_word Storage) 0) (sym f.marks) ∙ ap (λ t. t ++ tail_of Distributor s) (sym none);
     }
 
-distributor_space : (least : ℕ) (known : ClusterState) (l : ℕ) (more : List ℕ) (s : ClusterState) → IsReady Distributor least known → Follows Distributor least known (32 ∷ l ∷ more) s
+distributor_space : (least : ℕ) (known : State) (l : ℕ) (more : List ℕ) (s : State) → IsReady Distributor least known → Follows Distributor least known (32 ∷ l ∷ more) s
     → ((l ≡ 100) × At (Word (Marked Distributor least) 0) known more s) ⊎ ((l ≡ 115) × At (Word (Marked Storage 0) 0) known more s)
 distributor_space least known l more s r f = elim (first_mark Distributor least f.rest) [
   | inl none ↦ inr (storage_space 0 known l more s (storage_ready least known r) (nodes_follow least known (32 ∷ l ∷ more) s r f none))
@@ -197,7 +196,7 @@ distributor_space least known l more s r f = elim (first_mark Distributor least 
 ]
 
 -- what a letter behind the space leads to
-to_distributor : (least : ℕ) (known : ClusterState) (l : ℕ) → l ≡ 100 → least < length known.distributors → IsReady Distributor least known
+to_distributor : (least : ℕ) (known : State) (l : ℕ) → l ≡ 100 → least < length known.distributors → IsReady Distributor least known
     → Moves (scan_at (Space Distributor least) known) l (Some (scan_at (Word (Marked Distributor least) 0) known))
 to_distributor least known l e lt r = (
   ((lt, r), omega arith),
@@ -207,7 +206,7 @@ to_distributor least known l e lt r = (
   ),
 )
 
-pub to_nodes : (least : ℕ) (known : ClusterState) (l : ℕ) → l ≡ 115 → IsReady Distributor least known
+pub to_nodes : (least : ℕ) (known : State) (l : ℕ) → l ≡ 115 → IsReady Distributor least known
     → Moves (scan_at (Space Distributor least) known) l (Some (scan_at (Word (Marked Storage 0) 0) known))
 to_nodes least known l e r = (
   ((omega (arith, r.state.some_nodes), storage_ready least known r), omega arith),
@@ -217,7 +216,7 @@ to_nodes least known l e r = (
   ),
 )
 
-pub to_node : (least : ℕ) (known : ClusterState) (l : ℕ) → l ≡ 115 → least < length known.nodes → IsReady Storage least known
+pub to_node : (least : ℕ) (known : State) (l : ℕ) → l ≡ 115 → least < length known.nodes → IsReady Storage least known
     → Moves (scan_at (Space Storage least) known) l (Some (scan_at (Word (Marked Storage least) 0) known))
 to_node least known l e lt r = (
   ((lt, r), omega arith),
@@ -227,16 +226,16 @@ to_node least known l e lt r = (
   ),
 )
 
-no_distributor : (least : ℕ) (known : ClusterState) (l : ℕ) → ((l ≡ 100) → length known.distributors ≤ least) → (l ≡ 115 → ⊥) → IsReady Distributor least known → Moves (scan_at (Space Distributor least) known) l None
+no_distributor : (least : ℕ) (known : State) (l : ℕ) → ((l ≡ 100) → length known.distributors ≤ least) → (l ≡ 115 → ⊥) → IsReady Distributor least known → Moves (scan_at (Space Distributor least) known) l None
 no_distributor least known l full other r = λ more s h. elim (distributor_space least known l more s r h.1) [
   | inl g ↦ (let n = signed_within Distributor _ known _ s g.1.1.1.takes.1.1.1 in absurd (omega (arith, n, g.1.1.1.takes.0, full g.0)))
   | inr g ↦ other g.0
 ]
 
-no_node : (least : ℕ) (known : ClusterState) (l : ℕ) → (l ≡ 115 → ⊥) → IsReady Storage least known → Moves (scan_at (Space Storage least) known) l None
+no_node : (least : ℕ) (known : State) (l : ℕ) → (l ≡ 115 → ⊥) → IsReady Storage least known → Moves (scan_at (Space Storage least) known) l None
 no_node least known l other r = λ more s h. other (storage_space least known l more s r h.1).0
 
-abbrev led : ClusterState → Option Number → Option Scan
+abbrev led : State → Option Number → Option Scan
 led known None = None
 led known (Some number) = Some (scan_at (Word number 0) known)
 
@@ -249,7 +248,7 @@ no_letter l c e is = true≢false (sym (same l c is) ∙ e)
     same : (l c : ℕ) → l ≡ c → nat_eq l c ≡ true
     same l c is = grind (arith, nat_tests, is)
 
-pub space_leads : (role : Role) (least : ℕ) (known : ClusterState) (l : ℕ) → IsPlace (Space role least) known → Moves (scan_at (Space role least) known) l (led known (number_by role least known l))
+pub space_leads : (role : Role) (least : ℕ) (known : State) (l : ℕ) → IsPlace (Space role least) known → Moves (scan_at (Space role least) known) l (led known (number_by role least known l))
 space_leads Distributor least known l k =
     elim (nat_eq l 100) as (λ b. nat_eq l 100 ≡ b → Moves (scan_at (Space Distributor least) known) l (led known (cond b (cond (nat_lt least (length known.distributors)) (Some (Marked Distributor least)) None) (cond (nat_eq l 115) (Some (Marked Storage 0)) None)))) [
       | true ↦ (λ e. elim (nat_lt least (length known.distributors)) as (λ b. nat_lt least (length known.distributors) ≡ b → Moves (scan_at (Space Distributor least) known) l (led known (cond b (Some (Marked Distributor least)) None))) [
@@ -267,15 +266,15 @@ space_leads Storage least known l k =
       | false ↦ (λ e. no_node least known l (no_letter l 115 e) k.0)
     ] refl
 
-pub space_moves : (role : Role) (least : ℕ) (known : ClusterState) (l : ℕ) (number : Number) → Some number ≡ number_by role least known l → IsPlace (Space role least) known
+pub space_moves : (role : Role) (least : ℕ) (known : State) (l : ℕ) (number : Number) → Some number ≡ number_by role least known l → IsPlace (Space role least) known
     → Moves (scan_at (Space role least) known) l (Some (scan_at (Word number 0) known))
 space_moves role least known l number e k = subst (λ o. Moves (scan_at (Space role least) known) l (led known o)) (sym e) (space_leads role least known l k)
 
-pub space_stops : (role : Role) (least : ℕ) (known : ClusterState) (l : ℕ) → None ≡ number_by role least known l → IsPlace (Space role least) known → Moves (scan_at (Space role least) known) l None
+pub space_stops : (role : Role) (least : ℕ) (known : State) (l : ℕ) → None ≡ number_by role least known l → IsPlace (Space role least) known → Moves (scan_at (Space role least) known) l None
 space_stops role least known l e k = subst (λ o. Moves (scan_at (Space role least) known) l (led known o)) (sym e) (space_leads role least known l k)
 
 -- where a text may end
-pub gap_ends : (role : Role) (least : ℕ) (known : ClusterState) → IsPlace (Gap role least) known → Ends (scan_at (Gap role least) known) (Some known)
+pub gap_ends : (role : Role) (least : ℕ) (known : State) → IsPlace (Gap role least) known → Ends (scan_at (Gap role least) known) (Some known)
 gap_ends role least known r =
     let none : marks_text (role_word role) least (drop least (marks_of role known)) ≡ [] =
     ap (marks_text (role_word role) least) (r.up ∙ sym (append-nil (replicate (length (marks_of role known) - least) Up))) ∙ skip_up role least (length (marks_of role known) - least) [] in (
@@ -289,23 +288,23 @@ gap_ends role least known r =
       },
     )
   where
-    itself : (role : Role) (known : ClusterState) → Others role known known
+    itself : (role : Role) (known : State) → Others role known known
     itself Distributor known = (refl, refl)
     itself Storage known = (refl, refl)
 
-    no_tail : (role : Role) (known : ClusterState) → Others_up role known → tail_of role known ≡ []
+    no_tail : (role : Role) (known : State) → Others_up role known → tail_of role known ≡ []
     no_tail Distributor known up = ap (marks_text (role_word Storage) 0) (up ∙ sym (append-nil (replicate (length known.nodes - 0) Up))) ∙ skip_up Storage 0 (length known.nodes - 0) []
     no_tail Storage known up = refl
 
 -- and where it can't
-pub space_ends : (role : Role) (least : ℕ) (known : ClusterState) → IsPlace (Space role least) known → Ends (scan_at (Space role least) known) None
+pub space_ends : (role : Role) (least : ℕ) (known : State) → IsPlace (Space role least) known → Ends (scan_at (Space role least) known) None
 space_ends Distributor least known k = λ s h.
     elim (first_mark Distributor least h.1.rest) [
       | inl none ↦ no_node_text (nodes_follow least known (32 ∷ []) s k.0 h.1 none) (storage_ready least known k.0)
       | inr found ↦ (let g = found_numbered Distributor least known (32 ∷ []) s k.0 h.1 found in absurd (omega (arith, ap length g.1.0)))
     ]
   where
-    no_node_text : {s : ClusterState} → Follows Storage 0 known (32 ∷ []) s → IsReady Storage 0 known → ⊥
+    no_node_text : {s : State} → Follows Storage 0 known (32 ∷ []) s → IsReady Storage 0 known → ⊥
     no_node_text {s} f r = elim (first_mark Storage 0 f.rest) [
       | inl none ↦ not_nothing 32 [] (f.text ∙ ap (λ t. t ++ []) none.text)
       | inr found ↦ (let g = found_numbered Storage 0 known (32 ∷ []) s r f found in absurd (omega (arith, ap length g.1.0)))
@@ -316,12 +315,12 @@ space_ends Storage least known k = λ s h.
       | inr found ↦ (let g = found_numbered Storage least known (32 ∷ []) s k.0 h.1 found in absurd (omega (arith, ap length g.1.0)))
     ]
 
-pub sign_ends : (role : Role) (n at : ℕ) (known : ClusterState) → Ends (scan_at (Sign role n at) known) None
+pub sign_ends : (role : Role) (n at : ℕ) (known : State) → Ends (scan_at (Sign role n at) known) None
 sign_ends role n at known = λ s h.
     let e : [] ≡ drop at (codes ".s:") ++ h.1.0 = h.1.1.0 in
     absurd (omega (arith, ap length e, length-append (drop at (codes ".s:")) h.1.0, ap length h.1.1.1.text))
 
-pub word_ends : (number : Number) (at : ℕ) (known : ClusterState) → IsPlace (Word number at) known → Ends (scan_at (Word number at) known) None
+pub word_ends : (number : Number) (at : ℕ) (known : State) → IsPlace (Word number at) known → Ends (scan_at (Word number at) known) None
 word_ends number at known k = λ s h.
     let n = h.1.1.1 in
     let within = takes_within number known n.value n.after s h.0 n.takes in
@@ -329,40 +328,33 @@ word_ends number at known k = λ s h.
     absurd (omega (arith, ap length h.1.1.0, length-append (drop at (word_of number)) h.1.0, ap length n.text, length-append (decimal n.value) n.after, some))
 
 -- where a number ends
-pub behind_version : (known : ClusterState) (value v : ℕ) → v ≡ min value 4294967295 → IsKnown Version known → IsWithin Version known value
-    → IsBehind Version known value (scan_at (Word Distributors 0) (record { version = v; distributors = known.distributors; nodes = known.nodes }))
-behind_version known value v e k w =
-    let same : v ≡ value = omega (arith, e, w.1) in (
-      tt,
-      (
-        (omega (arith, same, w.1), omega arith),
-        λ more s. (
-          (λ h. (h.0, (decimal (length s.distributors) ++ after_distributors s, (h.1.1, record { value = length s.distributors; after = after_distributors s; text = refl; takes = (h.1.0 ∙ sym same, (refl, refl)) })))),
-          (λ h. let n = h.1.1.1 in (h.0, (n.takes.0 ∙ same, h.1.1.0 ∙ ap (λ t. codes " distributor:" ++ t) (n.text ∙ ap₂ (λ a b. decimal a ++ b) (sym n.takes.1.0) n.takes.1.1)))),
-        ),
-      ),
-    )
+pub behind_version : (known : State) (value : ℕ) → IsWithin Version known value
+    → IsBehind Version known value (scan_at (Word Distributors 0) (record { version = value; distributors = known.distributors; nodes = known.nodes }))
+behind_version known value w = (
+  tt,
+  (
+    (w.1, omega arith),
+    λ more s. (
+      (λ h. (h.0, (decimal (length s.distributors) ++ after_distributors s, (h.1.1, record { value = length s.distributors; after = after_distributors s; text = refl; takes = (h.1.0, (refl, refl)) })))),
+      (λ h. let n = h.1.1.1 in (h.0, (n.takes.0, h.1.1.0 ∙ ap (λ t. codes " distributor:" ++ t) (n.text ∙ ap₂ (λ a b. decimal a ++ b) (sym n.takes.1.0) n.takes.1.1)))),
+    ),
+  ),
+)
 
-ready_later : (role : Role) (least n : ℕ) (known : ClusterState) → least ≤ n → n ≤ length (marks_of role known) → IsReady role least known → IsReady role n known
+ready_later : (role : Role) (least n : ℕ) (known : State) → least ≤ n → n ≤ length (marks_of role known) → IsReady role least known → IsReady role n known
 ready_later role least n known le few r =
     let at : least + (n - least) ≡ n = omega arith in
     record { state = r.state; few = few; up = subst (λ j. AreUpFrom j (marks_of role known)) at (up_later least (n - least) (marks_of role known) r.up); others = r.others }
 
-few_marks : (role : Role) (known : ClusterState) → IsState known → length (marks_of role known) ≤ 32
-few_marks Distributor known h = h.few_distributors
-few_marks Storage known h = h.few_nodes
-
-pub behind_marked : (role : Role) (least : ℕ) (known : ClusterState) (value n : ℕ) → n ≡ min value 255 → IsKnown (Marked role least) known → IsWithin (Marked role least) known value
-    → IsBehind (Marked role least) known value (scan_at (Sign role n 0) known)
-behind_marked role least known value n e k w =
-    let same : value ≡ n = omega (arith, e, w.1, few_marks role known k.1.state) in
-    subst (λ j. IsBehind (Marked role least) known value (scan_at (Sign role j 0) known)) same (
-      tt,
-      (
-        (w.1, (ready_later role least value known w.0 (omega (arith, w.1)) k.1, omega arith)),
-        λ more s. (
-          (λ h. (h.0, h.1.1)),
-          (λ h. (h.0, (w.0, h.1))),
-        ),
-      ),
-    )
+pub behind_marked : (role : Role) (least : ℕ) (known : State) (value : ℕ) → IsKnown (Marked role least) known → IsWithin (Marked role least) known value
+    → IsBehind (Marked role least) known value (scan_at (Sign role value 0) known)
+behind_marked role least known value k w = (
+  tt,
+  (
+    (w.1, (ready_later role least value known w.0 (omega (arith, w.1)) k.1, omega arith)),
+    λ more s. (
+      (λ h. (h.0, h.1.1)),
+      (λ h. (h.0, (w.0, h.1))),
+    ),
+  ),
+)

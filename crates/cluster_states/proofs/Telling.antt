@@ -4,12 +4,12 @@ use Rattle.std.specs.Prelude.{⊤}
 use Rattle.std.specs.Fmt.{decimal}
 use Rattle.std.proofs.lemmas.Fmt.{decimal_injective}
 use Rattle.std.proofs.lemmas.List.{append_assoc, append-nil, length-append, length-replicate}
+use Rattle.cluster_states.specs.ClusterStates.{State, IsState}
 use Rattle.cluster_states.specs.declared.marks.Mark.{Mark}
 use Rattle.cluster_states.specs.declared.marks.Mark.TheVariants.{Up, Down, Retired}
-use Rattle.cluster_states.specs.declared.cluster_state.ClusterState.{ClusterState}
 use Rattle.cluster_states.specs.declared.places.Role.{Role}
 use Rattle.cluster_states.specs.declared.places.Role.TheVariants.{Distributor, Storage}
-use Rattle.cluster_states.specs.StateTexts.{IsState, IsStateText, marks_text, after_counts, after_distributors, after_version, state_text}
+use Rattle.cluster_states.specs.StateTexts.{IsStateText, marks_text, after_counts, after_distributors, after_version, state_text}
 use Rattle.cluster_states.specs.Scanning.{AreDigits, role_word, letter_of}
 use Rattle.cluster_states.proofs.Numerals.{starts}
 use Rattle.cluster_states.proofs.Counting.{NoDigit, counts_no_digit, head_same, tail_same}
@@ -119,7 +119,7 @@ nodes_apart n (Up ∷ ms) = nodes_apart (n + 1) ms
 nodes_apart n (Down ∷ ms) = λ e. absurd (omega (arith, e))
 nodes_apart n (Retired ∷ ms) = λ e. absurd (omega (arith, e))
 
-pub same_text : (s t : ClusterState) → IsState s → IsState t → state_text s ≡ state_text t → s ≡ t
+pub same_text : (s t : State) → IsState s → IsState t → state_text s ≡ state_text t → s ≡ t
 unfolding state_text
 same_text s t a b e =
     let v = numbers_cut s.version t.version (after_version s) (after_version t) (omega (arith, a.version)) (omega (arith, b.version)) (inl (omega arith)) (inl (omega arith)) (ap (drop 8) e) in
@@ -129,5 +129,5 @@ same_text s t a b e =
     let ns = marks_cut Storage 0 s.nodes t.nodes [] [] n.0 (omega (arith, a.few_nodes)) tt tt (append-nil _ ∙ ds.1 ∙ sym (append-nil _)) in
     λ i. record { version = v.0 i; distributors = ds.0 i; nodes = ns.0 i }
 
-pub tells_one : (text : List ℕ) (s t : ClusterState) → IsStateText text s → IsStateText text t → s ≡ t
+pub tells_one : (text : List ℕ) (s t : State) → IsStateText text s → IsStateText text t → s ≡ t
 tells_one text s t a b = same_text s t a.0 b.0 (sym a.1 ∙ b.1)

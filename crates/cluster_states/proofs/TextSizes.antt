@@ -4,10 +4,10 @@ use Rattle.std.specs.Fmt.{decimal}
 use Rattle.std.proofs.lemmas.Fmt.{length-decimal-le}
 use Rattle.std.proofs.lemmas.List.{append_assoc, append-nil, length-append, length-take, take_more}
 use Rattle.text_scanners.specs.Refusals.{IsRefusedAt}
+use Rattle.cluster_states.specs.ClusterStates.{State, IsState}
 use Rattle.cluster_states.specs.declared.marks.Mark.{Mark}
 use Rattle.cluster_states.specs.declared.marks.Mark.TheVariants.{Up, Down, Retired}
-use Rattle.cluster_states.specs.declared.cluster_state.ClusterState.{ClusterState}
-use Rattle.cluster_states.specs.StateTexts.{IsState, IsStateText, mark_text, marks_text, after_counts, after_distributors, after_version, state_text}
+use Rattle.cluster_states.specs.StateTexts.{IsStateText, mark_text, marks_text, after_counts, after_distributors, after_version, state_text}
 
 few_digits : (n : ℕ) → n < 100 → length (decimal n) ≤ 2
 few_digits n lt = length-decimal-le 2 n (omega arith) (omega arith) (omega arith)
@@ -22,7 +22,7 @@ marks_short role n [] lt le = omega arith
 marks_short role n (m ∷ ms) lt le =
     omega (arith, length-append (mark_text role n m) (marks_text role (n + 1) ms), mark_short role n m (omega arith) le, marks_short role (n + 1) ms (omega arith) le)
 
-text_short : (s : ClusterState) → IsState s → length (state_text s) < 4000
+text_short : (s : State) → IsState s → length (state_text s) < 4000
 unfolding state_text
 text_short s h =
     let a = length-append (codes "version:") (decimal s.version ++ after_version s) in
@@ -75,10 +75,22 @@ behind v d n t =
     ap (λ l. codes "version:" ++ l) (append_assoc v (codes " distributor:" ++ (d ++ (codes " storage:" ++ n))) t)
     ∙ ap (λ l. codes "version:" ++ (v ++ (codes " distributor:" ++ l))) (append_assoc d (codes " storage:" ++ n) t)
 
-pub written : (s : ClusterState) (text first second : List ℕ) → text ≡ codes "version:" ++ (decimal s.version ++ (codes " distributor:" ++ (decimal (length s.distributors) ++ (codes " storage:" ++ decimal (length s.nodes)))))
+written : (s : State) (text first second : List ℕ) → text ≡ codes "version:" ++ (decimal s.version ++ (codes " distributor:" ++ (decimal (length s.distributors) ++ (codes " storage:" ++ decimal (length s.nodes)))))
     → first ≡ text ++ marks_text (codes " distributor.") 0 s.distributors → second ≡ first ++ marks_text (codes " storage.") 0 s.nodes → second ≡ state_text s
 unfolding state_text
 written s text first second a b c =
     let d = marks_text (codes " distributor.") 0 s.distributors in
     let n = marks_text (codes " storage.") 0 s.nodes in
     c ∙ ap (λ l. l ++ n) (b ∙ ap (λ l. l ++ d) a) ∙ append_assoc (codes "version:" ++ (decimal s.version ++ (codes " distributor:" ++ (decimal (length s.distributors) ++ (codes " storage:" ++ decimal (length s.nodes)))))) d n ∙ behind (decimal s.version) (decimal (length s.distributors)) (decimal (length s.nodes)) (d ++ n)
+
+-- the same where the parts were taken out of the state before
+pub written_of : (s : State) (v d n : ℕ) (ds ns : List Mark) (text first second : List ℕ) → v ≡ s.version → ds ≡ s.distributors → ns ≡ s.nodes → d ≡ length ds → n ≡ length ns
+    → text ≡ codes "version:" ++ (decimal v ++ (codes " distributor:" ++ (decimal d ++ (codes " storage:" ++ decimal n))))
+    → first ≡ text ++ marks_text (codes " distributor.") 0 ds → second ≡ first ++ marks_text (codes " storage.") 0 ns → second ≡ state_text s
+written_of s v d n ds ns text first second vs dss nss dl nl a b c =
+    let d_is = dl ∙ ap length dss in
+    let n_is = nl ∙ ap length nss in
+    written s text first second
+    (a ∙ (λ i. codes "version:" ++ (decimal (vs i) ++ (codes " distributor:" ++ (decimal (d_is i) ++ (codes " storage:" ++ decimal (n_is i)))))))
+    (b ∙ ap (λ l. text ++ marks_text (codes " distributor.") 0 l) dss)
+    (c ∙ ap (λ l. first ++ marks_text (codes " storage.") 0 l) nss)

@@ -3,18 +3,17 @@ use Rattle.std.specs.Prelude.{◌≡◌, ◌≢◌, ℕ, ◌+◌, ◌-◌, ◌*�
 use Rattle.std.specs.Fmt.{decimal}
 use Rattle.cluster_states.specs.declared.marks.Mark.{Mark}
 use Rattle.cluster_states.specs.declared.marks.Mark.TheVariants.{Up, Down, Retired}
-use Rattle.cluster_states.specs.declared.cluster_state.ClusterState.{ClusterState}
 use Rattle.cluster_states.specs.declared.places.Role.{Role}
 use Rattle.cluster_states.specs.declared.places.Role.TheVariants.{Distributor, Storage}
 use Rattle.cluster_states.specs.declared.places.Number.{Number}
 use Rattle.cluster_states.specs.declared.places.Number.TheVariants.{Version, Distributors, Nodes, Marked}
 use Rattle.cluster_states.specs.declared.places.Place.{Place}
 use Rattle.cluster_states.specs.declared.places.Place.TheVariants.{Word, Digits, Sign, Gap, Space}
-use Rattle.cluster_states.specs.declared.places.Scan.{Scan}
-use Rattle.cluster_states.specs.StateTexts.{IsState, IsStateText, marks_text, after_version, after_distributors, after_counts}
+use Rattle.cluster_states.specs.ClusterStates.{State, IsState}
+use Rattle.cluster_states.specs.StateTexts.{IsStateText, marks_text, after_version, after_distributors, after_counts}
 
 -- the marks of a role
-abbrev pub marks_of : Role → ClusterState → List Mark
+abbrev pub marks_of : Role → State → List Mark
 marks_of Distributor s = s.distributors
 marks_of Storage s = s.nodes
 
@@ -24,7 +23,7 @@ role_word Distributor = codes " distributor."
 role_word Storage = codes " storage."
 
 -- what follows the marks of a role
-abbrev pub tail_of : Role → ClusterState → List ℕ
+abbrev pub tail_of : Role → State → List ℕ
 tail_of Distributor s = marks_text (codes " storage.") 0 s.nodes
 tail_of Storage s = []
 
@@ -49,7 +48,7 @@ least_of Distributors = 1
 least_of Nodes = 1
 least_of (Marked role least) = least
 
-abbrev pub end_of : Number → ClusterState → ℕ
+abbrev pub end_of : Number → State → ℕ
 end_of Version s = 2 ^ 32
 end_of Distributors s = 33
 end_of Nodes s = 33
@@ -75,12 +74,12 @@ pub record Continues (n : ℕ) (cs : List ℕ) (v : ℕ) : Type 0 where
   pub no_zero : n ≡ 0 → cs ≡ []
 
 -- a state has of the other role what is known of it
-abbrev pub Others : Role → ClusterState → ClusterState → Type 0
+abbrev pub Others : Role → State → State → Type 0
 Others Distributor known s = (s.version ≡ known.version) × (length s.nodes ≡ length known.nodes)
 Others Storage known s = (s.version ≡ known.version) × (s.distributors ≡ known.distributors)
 
 -- a number of a role has a mark, whose letter and all behind it follow
-pub record Signed (role : Role) (number : ℕ) (known : ClusterState) (more : List ℕ) (s : ClusterState) : Type 0 where
+pub record Signed (role : Role) (number : ℕ) (known : State) (more : List ℕ) (s : State) : Type 0 where
   pub mark : Mark
   pub rest : List Mark
   pub others : Others role known s
@@ -90,7 +89,7 @@ pub record Signed (role : Role) (number : ℕ) (known : ClusterState) (more : Li
   pub text : more ≡ letter_of mark ∷ (marks_text (role_word role) (number + 1) rest ++ tail_of role s)
 
 -- the marks of a role from a number on follow
-pub record Follows (role : Role) (least : ℕ) (known : ClusterState) (more : List ℕ) (s : ClusterState) : Type 0 where
+pub record Follows (role : Role) (least : ℕ) (known : State) (more : List ℕ) (s : State) : Type 0 where
   pub rest : List Mark
   pub others : Others role known s
   pub size : length (marks_of role s) ≡ length (marks_of role known)
@@ -98,21 +97,21 @@ pub record Follows (role : Role) (least : ℕ) (known : ClusterState) (more : Li
   pub text : more ≡ marks_text (role_word role) least rest ++ tail_of role s
 
 -- a number is this one, and so much follows
-abbrev pub Takes : Number → ClusterState → ℕ → List ℕ → ClusterState → Type 0
+abbrev pub Takes : Number → State → ℕ → List ℕ → State → Type 0
 Takes Version known n after s = (s.version ≡ n) × (after ≡ after_version s)
 Takes Distributors known n after s = (s.version ≡ known.version) × ((length s.distributors ≡ n) × (after ≡ after_distributors s))
 Takes Nodes known n after s = (s.version ≡ known.version) × ((length s.distributors ≡ length known.distributors) × ((length s.nodes ≡ n) × (after ≡ after_counts s)))
 Takes (Marked role least) known n after s = (least ≤ n) × ((more : List ℕ) × ((after ≡ codes ".s:" ++ more) × Signed role n known more s))
 
 -- a number and what is behind it follow
-pub record Numbered (number : Number) (known : ClusterState) (more : List ℕ) (s : ClusterState) : Type 0 where
+pub record Numbered (number : Number) (known : State) (more : List ℕ) (s : State) : Type 0 where
   pub value : ℕ
   pub after : List ℕ
   pub text : more ≡ decimal value ++ after
   pub takes : Takes number known value after s
 
 -- the rest of a number and what is behind it follow
-pub record Counting (number : Number) (value : ℕ) (known : ClusterState) (more : List ℕ) (s : ClusterState) : Type 0 where
+pub record Counting (number : Number) (value : ℕ) (known : State) (more : List ℕ) (s : State) : Type 0 where
   pub whole : ℕ
   pub digits : List ℕ
   pub after : List ℕ
@@ -121,14 +120,20 @@ pub record Counting (number : Number) (value : ℕ) (known : ClusterState) (more
   pub takes : Takes number known whole after s
 
 -- what may follow a place, and the state that is said then
-abbrev pub At : Place → ClusterState → List ℕ → ClusterState → Type 0
+abbrev pub At : Place → State → List ℕ → State → Type 0
 At (Word number at) known more s = (rest : List ℕ) × ((more ≡ drop at (word_of number) ++ rest) × Numbered number known rest s)
 At (Digits number value) known more s = Counting number value known more s
 At (Sign role number at) known more s = (rest : List ℕ) × ((more ≡ drop at (codes ".s:") ++ rest) × Signed role number known rest s)
 At (Gap role least) known more s = Follows role least known more s
 At (Space role least) known more s = Follows role least known (32 ∷ more) s
 
-abbrev pub Rests : Scan → List ℕ → ClusterState → Type 0
+-- where a reader stands, and the state so far, in which all that has no mark yet is up
+pub record Scan : Type 0 where
+  pub place : Place
+  pub state : State
+
+-- what may follow a scan, and the state that is said then
+abbrev pub Rests : Scan → List ℕ → State → Type 0
 Rests x more s = IsState s × At x.place x.state more s
 
 -- from a number on all are up
@@ -136,31 +141,31 @@ abbrev pub AreUpFrom : ℕ → List Mark → Type 0
 AreUpFrom least ms = drop least ms ≡ replicate (length ms - least) Up
 
 -- of the other role all is known, or all are up
-abbrev pub Others_up : Role → ClusterState → Type 0
+abbrev pub Others_up : Role → State → Type 0
 Others_up Distributor known = AreUpFrom 0 known.nodes
 Others_up Storage known = ⊤
 
 -- the marks of a role are known below a number, and up from there on
-pub record IsReady (role : Role) (least : ℕ) (known : ClusterState) : Type 0 where
+pub record IsReady (role : Role) (least : ℕ) (known : State) : Type 0 where
   pub state : IsState known
   pub few : least ≤ length (marks_of role known)
   pub up : AreUpFrom least (marks_of role known)
   pub others : Others_up role known
 
 -- what is known before a number
-abbrev pub IsKnown : Number → ClusterState → Type 0
+abbrev pub IsKnown : Number → State → Type 0
 IsKnown Version known = ⊤
 IsKnown Distributors known = known.version < 2 ^ 32
 IsKnown Nodes known = (known.version < 2 ^ 32) × ((1 ≤ length known.distributors) × ((length known.distributors ≤ 32) × AreUpFrom 0 known.distributors))
 IsKnown (Marked role least) known = (least < length (marks_of role known)) × IsReady role least known
 
 -- there is room for a mark
-abbrev pub HasRoom : Role → ℕ → ClusterState → Type 0
+abbrev pub HasRoom : Role → ℕ → State → Type 0
 HasRoom Distributor least known = ⊤
 HasRoom Storage least known = least < length known.nodes
 
 -- a place that is reached
-abbrev pub IsPlace : Place → ClusterState → Type 0
+abbrev pub IsPlace : Place → State → Type 0
 IsPlace (Word number at) known = IsKnown number known × (at ≤ length (word_of number))
 IsPlace (Digits number value) known = IsKnown number known × (can_begin (least_of number) (end_of number known) value ≡ true)
 IsPlace (Sign role number at) known = (number < length (marks_of role known)) × (IsReady role number known × (at ≤ 3))
@@ -172,20 +177,20 @@ IsScan x = IsPlace x.place x.state
 
 -- a letter moves a scan on, or nothing goes on so
 abbrev pub Moves : Scan → ℕ → Option Scan → Type 0
-Moves x letter (Some y) = IsScan y × ((more : List ℕ) (s : ClusterState) → Rests x (letter ∷ more) s ↔ Rests y more s)
-Moves x letter None = (more : List ℕ) (s : ClusterState) → Rests x (letter ∷ more) s → ⊥
+Moves x letter (Some y) = IsScan y × ((more : List ℕ) (s : State) → Rests x (letter ∷ more) s ↔ Rests y more s)
+Moves x letter None = (more : List ℕ) (s : State) → Rests x (letter ∷ more) s → ⊥
 
 -- what a text says that ends here
-abbrev pub Ends : Scan → Option ClusterState → Type 0
+abbrev pub Ends : Scan → Option State → Type 0
 Ends x (Some s) = Rests x [] s
-Ends x None = (s : ClusterState) → Rests x [] s → ⊥
+Ends x None = (s : State) → Rests x [] s → ⊥
 
 -- a number may end here
-abbrev pub IsWithin : Number → ClusterState → ℕ → Type 0
+abbrev pub IsWithin : Number → State → ℕ → Type 0
 IsWithin number known value = (least_of number ≤ value) × (value < end_of number known)
 
 -- a number may end here
-abbrev pub is_within : Number → ClusterState → ℕ → Bool
+abbrev pub is_within : Number → State → ℕ → Bool
 is_within number known value = nat_le (least_of number) value && nat_lt value (end_of number known)
 
 -- the mark that a letter stands for
@@ -194,12 +199,12 @@ mark_by Distributor letter = if nat_eq letter 100 then Some Down else None
 mark_by Storage letter = if nat_eq letter 100 then Some Down else (if nat_eq letter 114 then Some Retired else None)
 
 -- a state with another mark for a number
-abbrev pub with_mark : ClusterState → Role → ℕ → Mark → ClusterState
+abbrev pub with_mark : State → Role → ℕ → Mark → State
 with_mark s Distributor number mark = record { version = s.version; distributors = slice_set s.distributors number mark; nodes = s.nodes }
 with_mark s Storage number mark = record { version = s.version; distributors = s.distributors; nodes = slice_set s.nodes number mark }
 
 -- there is room for a mark
-abbrev pub has_room : Role → ℕ → ClusterState → Bool
+abbrev pub has_room : Role → ℕ → State → Bool
 has_room Distributor least known = true
 has_room Storage least known = nat_lt least (length known.nodes)
 
@@ -215,19 +220,19 @@ abbrev pub IsOutside : Scan → Type 0
 IsOutside x = IsOutsidePlace x.place
 
 -- a scan stands behind a number
-abbrev pub IsBehind : Number → ClusterState → ℕ → Scan → Type 0
-IsBehind number known value y = IsOutside y × (IsScan y × ((more : List ℕ) (s : ClusterState) → (IsState s × Takes number known value more s) ↔ Rests y more s))
+abbrev pub IsBehind : Number → State → ℕ → Scan → Type 0
+IsBehind number known value y = IsOutside y × (IsScan y × ((more : List ℕ) (s : State) → (IsState s × Takes number known value more s) ↔ Rests y more s))
 
 -- the place behind the digits of a number so far, where a number may begin so
-abbrev pub digits_of : Number → ClusterState → ℕ → Option Scan
+abbrev pub digits_of : Number → State → ℕ → Option Scan
 digits_of number known value = if can_begin (least_of number) (end_of number known) value then Some (record { place = Digits number value; state = known }) else None
 
 -- the number of a mark whose role begins with a letter
-abbrev pub number_by : Role → ℕ → ClusterState → ℕ → Option Number
+abbrev pub number_by : Role → ℕ → State → ℕ → Option Number
 number_by Distributor least known letter = if nat_eq letter 100 then (if nat_lt least (length known.distributors) then Some (Marked Distributor least) else None)
     else (if nat_eq letter 115 then Some (Marked Storage 0) else None)
 number_by Storage least known letter = if nat_eq letter 115 then Some (Marked Storage least) else None
 
 -- a place is reached by reading these letters: the texts that begin so are those that go on from it
 abbrev pub IsReached : Scan → List ℕ → Type 0
-IsReached x letters = IsScan x × ((more : List ℕ) (s : ClusterState) → IsStateText (letters ++ more) s ↔ Rests x more s)
+IsReached x letters = IsScan x × ((more : List ℕ) (s : State) → IsStateText (letters ++ more) s ↔ Rests x more s)

@@ -1,25 +1,55 @@
-ghost use Rattle.std.specs.Prelude.{◌≡◌, ℕ, true, false, slice_index_or};
+ghost use Rattle.std.specs.Prelude.{◌≡◌, ◌≢◌, ◌≤◌, ◌<◌, ℕ, true, false, length, replicate, slice_index_or};
 ghost use Rattle.node_sets.specs.Members.{has_node};
+ghost use Rattle.cluster_states.specs.ClusterStates.{IsState, first_state};
 ghost use Rattle.cluster_states.specs.MarkTests.{is_up, counts};
-ghost use Rattle.cluster_states.specs.declared.marks.Mark.TheVariants.{Down};
+ghost use Rattle.cluster_states.specs.Scanning.{marks_of, with_mark};
+ghost use Rattle.cluster_states.specs.declared.marks.Mark.TheVariants.{Up, Down, Retired};
+ghost use Rattle.cluster_states.specs.declared.places.Role.TheVariants.{Distributor};
 
 use crate::marks::{Mark, Marks};
+use crate::places::Role;
 use node_sets::NodeSet;
+use std::marker::Model;
 
-/// Which distributors and storage nodes there are under a version, and how each is marked.
-#[derive(Clone, Copy, Debug, Default, PartialEq, Eq)]
+/// Which distributors and storage nodes there are under a version, 1 to 32 of each, and how each is
+/// marked.
+#[derive(Clone, Copy, Debug, PartialEq, Eq)]
 pub struct ClusterState {
-    pub version: u32,
-    /// The marks of the distributors, from number 0 on.
-    pub distributors: Marks,
-    /// The marks of the storage nodes, from number 0 on.
-    pub nodes: Marks,
+    version: u32,
+    distributors: Marks,
+    nodes: Marks,
+}
+
+impl Model for ClusterState {
+    ghost use Rattle.cluster_states.specs.ClusterStates.{State, IsState};
+
+    ghost Value = { State };
+
+    ghost view = { λ s. record { version = s.version; distributors = s.distributors; nodes = s.nodes } };
+
+    ghost invariant = { λ s. IsState (record { version = s.version; distributors = s.distributors; nodes = s.nodes }) };
+
+    ghost inverse = { λ s. record { version = s.version; distributors = s.distributors; nodes = s.nodes } };
+}
+
+impl Default for ClusterState {
+    /// Version 0 with one distributor and one storage node, both up.
+    fn default() -> ClusterState
+        ensures { result ≡ first_state }
+    {
+        ClusterState {
+            version: 0,
+            distributors: Marks::all_up(1),
+            nodes: Marks::all_up(1),
+        }
+    }
 }
 
 impl ClusterState {
     /// The version; takes no memory, as no call here but `print` does.
     pub fn version(&self) -> u32
-        ensures { result ≡ self.now.version }
+        ensures value { result ≡ self.now.version }
+        ensures valid { IsState self.now }
     {
         self.version
     }
@@ -57,5 +87,63 @@ impl ClusterState {
         ensures { (n : ℕ) → has_node result n ≡ counts false (slice_index_or self.now.distributors n Down) }
     {
         self.distributors.set(false)
+    }
+
+    /// The marks of a role.
+    pub(crate) fn marks_of(&self, role: Role) -> Marks
+        ensures { result ≡ marks_of role self.now }
+    {
+        match role {
+            Role::Distributor => self.distributors,
+            Role::Storage => self.nodes,
+        }
+    }
+
+    /// The state with another version.
+    pub(crate) fn with_version(self, version: u32) -> ClusterState
+        ensures { result ≡ record { version = version; distributors = self.distributors; nodes = self.nodes } }
+    {
+        ClusterState { version, ..self }
+    }
+
+    /// The state with so many distributors, all up.
+    pub(crate) fn with_distributors(self, count: u8) -> ClusterState
+        requires some { 1 ≤ count }
+        requires few { count ≤ 32 }
+        ensures { result ≡ record { version = self.version; distributors = replicate count Up; nodes = self.nodes } }
+    {
+        ClusterState {
+            distributors: Marks::all_up(count),
+            ..self
+        }
+    }
+
+    /// The state with so many storage nodes, all up.
+    pub(crate) fn with_nodes(self, count: u8) -> ClusterState
+        requires some { 1 ≤ count }
+        requires few { count ≤ 32 }
+        ensures { result ≡ record { version = self.version; distributors = self.distributors; nodes = replicate count Up } }
+    {
+        ClusterState {
+            nodes: Marks::all_up(count),
+            ..self
+        }
+    }
+
+    /// The state with another mark for a number; no distributor is retired.
+    pub(crate) fn with_mark(self, role: Role, number: u8, mark: Mark) -> ClusterState
+        requires { role ≡ Distributor → mark ≢ Retired }
+        ensures { result ≡ with_mark self role number mark }
+    {
+        match role {
+            Role::Distributor => ClusterState {
+                distributors: self.distributors.with(number, mark),
+                ..self
+            },
+            Role::Storage => ClusterState {
+                nodes: self.nodes.with(number, mark),
+                ..self
+            },
+        }
     }
 }

@@ -1,8 +1,9 @@
 //! Cluster states: which distributors and storage nodes there are, and how each is marked, after
 //! Vespa's cluster controller.
 //!
-//! A contract sees a `ClusterState` as its version and two lists of marks, from number 0 on
-//! (`specs/StateTexts.antt`), and `States` as the list of the states that were published, oldest first.
+//! A contract sees a `ClusterState` as its version and two lists of marks, from number 0 on, of 1 to 32
+//! numbers each (`specs/ClusterStates.antt`), and `States` as the list of the states that were published,
+//! oldest first. Only `parse` and the default make a state, and each state is read again from its text.
 //!
 //! ```text
 //! let state = ClusterState::parse("version:1 distributor:1 storage:4 storage.3.s:d")?;
@@ -12,14 +13,16 @@
 #![tactic(auto)]
 
 pub mod cluster_state;
-pub mod marks;
+mod counts;
+mod marks;
 mod places;
 mod reader;
-mod scan;
+mod signs;
 pub mod states;
 pub mod texts;
 
 pub use cluster_state::ClusterState;
-pub use marks::{Mark, Marks};
+pub use marks::Mark;
+pub use node_sets::NodeSet;
 pub use states::{PublishFault, States};
 pub use texts::BadState;

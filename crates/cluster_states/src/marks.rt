@@ -63,13 +63,6 @@ impl Model for Marks {
     ghost inverse_ok = { λ m h i. record { marks = same_marks m.count m.marks h.0 h.1.0 h.1.1 i; count = same_count m.count m.marks h.0 h.1.0 i } };
 }
 
-impl Default for Marks {
-    /// The marks of no number.
-    fn default() -> Marks {
-        Marks::all_up(0)
-    }
-}
-
 impl Marks {
     /// All numbers below a count, up.
     pub fn all_up(count: u8) -> Marks

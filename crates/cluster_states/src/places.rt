@@ -1,5 +1,3 @@
-use crate::cluster_state::ClusterState;
-
 /// What a mark is of.
 #[derive(Clone, Copy)]
 pub enum Role {
@@ -33,12 +31,4 @@ pub enum Place {
     Gap { role: Role, least: u8 },
     /// Behind the space before a mark.
     Space { role: Role, least: u8 },
-}
-
-/// A reader of a state text: where it stands, and the state so far, in which all that has no mark yet
-/// is up.
-#[derive(Clone, Copy)]
-pub struct Scan {
-    pub place: Place,
-    pub state: ClusterState,
 }

@@ -4,6 +4,7 @@ ghost use Rattle.node_sets.specs.Members.{has_node};
 ghost use Rattle.cluster_states.specs.Publishing.{Told, version_is, newest_of, is_known, publish_fault, older_fault, out_of};
 
 use crate::cluster_state::ClusterState;
+use crate::places::Role;
 use arrayvec::ArrayVec;
 use node_sets::NodeSet;
 use node_sets::laws::sets_are_their_members;
@@ -73,7 +74,7 @@ impl States {
     {
         self.states
             .iter()
-            .find(|state| state.version == version)
+            .find(|state| state.version() == version)
             .copied()
     }
 
@@ -107,10 +108,10 @@ impl States {
         if let Some(fault) = older_fault(self.newest(), state) {
             return Some(fault);
         }
-        if state.distributors.up() == 0 {
+        if state.marks_of(Role::Distributor).up() == 0 {
             return Some(PublishFault::NoDistributor);
         }
-        let (up, acks) = (state.nodes.up(), self.acks);
+        let (up, acks) = (state.marks_of(Role::Storage).up(), self.acks);
         if up < acks {
             return Some(PublishFault::TooFewUp { up, acks });
         }
@@ -139,10 +140,9 @@ fn older_fault(newest: Option<ClusterState>, state: &ClusterState) -> Option<Pub
 {
     match newest {
         Some(newest) => {
-            if state.version <= newest.version {
-                Some(PublishFault::NotNewer {
-                    have: newest.version,
-                })
+            let have = newest.version();
+            if state.version() <= have {
+                Some(PublishFault::NotNewer { have })
             } else {
                 None
             }

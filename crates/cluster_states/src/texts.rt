@@ -1,12 +1,13 @@
 ghost use Rattle.std.specs.Prelude.{◌≡◌, ◌++◌, Ok, IfOk, IfErr, OnOk};
 ghost use Rattle.std.specs.String.{string_bytes};
 ghost use Rattle.text_scanners.specs.Refusals.{IsRefusedAt};
-ghost use Rattle.cluster_states.specs.declared.cluster_state.ClusterState.{ClusterState};
+ghost use Rattle.cluster_states.specs.ClusterStates.{State};
 ghost use Rattle.cluster_states.specs.StateTexts.{IsStateText, state_text, mark_text, marks_text};
 
 use crate::cluster_state::ClusterState;
 use crate::marks::{Mark, Marks};
-use crate::reader::start;
+use crate::places::Role;
+use crate::reader::StateReader;
 use std::alloc::Global;
 use text_scanners::scan;
 use thiserror::Error;
@@ -26,10 +27,10 @@ impl ClusterState {
     /// `storage.i.s:r`, distributors first and numbers rising within a role. Takes no memory.
     pub fn parse(text: &str) -> Result<ClusterState, BadState>
         ensures read { IfOk result (λ state. IsStateText text.now state) }
-        ensures exact { (state : ClusterState) → IsStateText text.now state → result ≡ Ok state }
+        ensures exact { (state : State) → IsStateText text.now state → result ≡ Ok state }
         ensures refused { IfErr result (λ bad. IsRefusedAt IsStateText text.now bad.offset) }
     {
-        match scan(start(), text.as_bytes()) {
+        match scan(StateReader::start(), text.as_bytes()) {
             Ok(state) => Ok(state),
             Err(refused) => Err(BadState {
                 offset: refused.offset as u32,
@@ -37,19 +38,22 @@ impl ClusterState {
         }
     }
 
-    /// The text of the state. The only error is want of memory.
+    /// The text of the state, which `parse` reads as this state. The only error is want of memory.
     #[tactic(auto, unfolding(crate::specs::StateTexts::state_text))]
     pub fn print(&self, alloc: Global) -> Result<String, NoMemory>
-        ensures { IfOk result (λ text. string_bytes text ≡ state_text self.now) }
+        ensures { IfOk result (λ text. IsStateText (string_bytes text) self.now) }
     {
-        let version = self.version;
-        let distributors = self.distributors.len();
-        let nodes = self.nodes.len();
+        let version = self.version();
+        let (distributors, nodes) = (
+            self.marks_of(Role::Distributor),
+            self.marks_of(Role::Storage),
+        );
+        let (distributor_count, node_count) = (distributors.len(), nodes.len());
         let mut text = format!(in alloc;
-            "version:{version} distributor:{distributors} storage:{nodes}"
+            "version:{version} distributor:{distributor_count} storage:{node_count}"
         )?;
-        push_marks(alloc, &mut text, " distributor.", self.distributors)?;
-        push_marks(alloc, &mut text, " storage.", self.nodes)?;
+        push_marks(alloc, &mut text, " distributor.", distributors)?;
+        push_marks(alloc, &mut text, " storage.", nodes)?;
         Ok(text)
     }
 }

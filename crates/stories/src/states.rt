@@ -4,6 +4,7 @@ use bucket_ids::Bucket;
 use cluster_states::{BadState, ClusterState, Mark, PublishFault, States};
 use ideal_nodes::{ideal, ideal_among, owner};
 use node_sets::NodeSet;
+use std::alloc::Global;
 
 #[test]
 fn texts_are_refused_behind_their_longest_prefix(rt: HostRuntime) {
@@ -158,25 +159,41 @@ fn states_are_published_in_order(rt: HostRuntime) -> anyhow::Result<()> {
     Ok(())
 }
 
+/// A state of this version with two storage nodes.
+fn of_version(alloc: Global, version: u32) -> anyhow::Result<ClusterState> {
+    let text = format!(in alloc; "version:{version} distributor:1 storage:2")?;
+    Ok(ClusterState::parse(text.as_str())?)
+}
+
 #[test]
 fn there_is_room_for_65_states(rt: HostRuntime) -> anyhow::Result<()> {
     let mut states = States::new(1);
-    let mut state = ClusterState::parse("version:0 distributor:1 storage:2")?;
     for version in 0..65u32 {
-        state.version = version;
+        let state = of_version(rt.alloc(), version)?;
         assert_eq!(rt; states.publish(&state), Ok(()), "at {version}");
     }
-    state.version = 64;
     assert_eq!(rt;
-        states.publish(&state),
+        states.publish(&of_version(rt.alloc(), 64)?),
         Err(PublishFault::NotNewer { have: 64 })
     );
-    state.version = 65;
-    assert_eq!(rt; states.publish(&state), Err(PublishFault::TooManyStates));
+    assert_eq!(rt;
+        states.publish(&of_version(rt.alloc(), 65)?),
+        Err(PublishFault::TooManyStates)
+    );
     match states.newest() {
         Some(newest) => assert_eq!(rt; newest.version(), 64),
         None => assert!(rt; false, "the newest is lost"),
     }
+    Ok(())
+}
+
+#[test]
+fn the_default_has_one_of_each(rt: HostRuntime) -> anyhow::Result<()> {
+    let state = ClusterState::default();
+    assert_eq!(rt;
+        state,
+        ClusterState::parse("version:0 distributor:1 storage:1")?
+    );
     Ok(())
 }
 

@@ -1,9 +1,0 @@
-use Rattle.std.proofs.Common.{◌∙◌, sym}
-use Rattle.cluster_states.proofs.Moving.{behind_moves, behind_stops}
-use Rattle.cluster_states.proofs.scan.past_digits.Goals as goal
-
-pub returns-then-is_within : goal.returns-then-is_within
-returns-then-is_within c = behind_moves _ _ _ _ c.behind.result _ c.requires (sym c.is_within.ensures ∙ c.if-is_within.true) c.behind.ensures c.past_number.ensures
-
-pub returns-else-is_within : goal.returns-else-is_within
-returns-else-is_within c = behind_stops _ _ _ _ c.requires (sym c.is_within.ensures ∙ c.if-is_within.false)
