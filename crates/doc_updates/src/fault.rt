@@ -1,8 +1,9 @@
 ghost use Rattle.std.specs.Prelude.{◌≡◌};
 ghost use Rattle.doc_updates.specs.declared.fault.UpdateFault.TheVariants as update_fault;
 
+use std::alloc::Global;
 use thiserror::Error;
-use value_lists::{NoMemory, TextValue};
+use value_lists::{NoMemory, TextValue, TryCopy};
 
 /// Why an update leaves a document as it is: the fault of its first field that has one, and else the
 /// size.
@@ -30,6 +31,24 @@ impl From<NoMemory> for UpdateFault {
 
     fn from(_error: NoMemory) -> UpdateFault {
         UpdateFault::NoMemory
+    }
+}
+
+impl TryCopy for UpdateFault {
+    fn copy(&self, alloc: Global) -> Result<UpdateFault, NoMemory> {
+        match self {
+            UpdateFault::ZeroDivisor { field } => Ok(UpdateFault::ZeroDivisor {
+                field: field.copy(alloc)?,
+            }),
+            UpdateFault::Overflow { field } => Ok(UpdateFault::Overflow {
+                field: field.copy(alloc)?,
+            }),
+            UpdateFault::TooMany { field } => Ok(UpdateFault::TooMany {
+                field: field.copy(alloc)?,
+            }),
+            UpdateFault::TooLarge { size } => Ok(UpdateFault::TooLarge { size: *size }),
+            UpdateFault::NoMemory => Ok(UpdateFault::NoMemory),
+        }
     }
 }
 
