@@ -7,7 +7,7 @@ use Rattle.std.proofs.Math.Pow.{mod-mod-pow}
 use Rattle.std.proofs.Common.{◌/◌, add_comm, mod-eq_of_lt, pow_pos, pow-suc, add-one}
 use Rattle.std.proofs.lemmas.Nat.{mod-pow-add, mod_below, mod_low}
 
-low_of_low : (key i j : ℕ) → i ≤ j → key % 2 ^ j % 2 ^ i ≡ key % 2 ^ i
+pub low_of_low : (key i j : ℕ) → i ≤ j → key % 2 ^ j % 2 ^ i ≡ key % 2 ^ i
 low_of_low key i j h =
     let e : j ≡ (j - i) + i = omega arith in
     subst (λ m. key % 2 ^ m % 2 ^ i ≡ key % 2 ^ i) (sym e) (mod-mod-pow key (j - i) i)

@@ -11,4 +11,10 @@ pub mod Parted
 pub mod Pieces
 pub mod States
 pub mod Meant
+pub mod Walking
 pub mod SerialsAgain
+pub mod LifeFacts
+pub mod LifeOne
+pub mod LifeTwo
+pub mod Wrong
+pub mod InLane

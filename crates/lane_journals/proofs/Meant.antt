@@ -1,12 +1,11 @@
 -- Journals as they are kept mean legal journals.
-use Rattle.std.proofs.Common.{◌≡◌, ℕ, ◌<◌, Bool, true, false, cond, List, [], ◌∷◌, Option, Some, None, refl, sym, ap, ◌∙◌, arith, inl, inr, eqb, eq-eqb}
-use Rattle.std.proofs.lemmas.Bool.{eqb-true}
+use Rattle.std.proofs.Common.{◌≡◌, ℕ, ◌<◌, Bool, true, false, List, [], ◌∷◌, Some, refl, sym, ap, ◌∙◌, arith, inl, inr, eqb}
 use Rattle.std.proofs.lemmas.Bool.Decides.{nat_tests}
 use Rattle.cluster_states.specs.declared.cluster_state.ClusterState.{ClusterState}
 use Rattle.cluster_states.specs.Publishing.{serves}
 use Rattle.lane_journals.specs.Readers.{published}
 use Rattle.lane_journals.specs.Legal.{Legal}
-use Rattle.lane_journals.specs.States.{state_of}
+use Rattle.lane_journals.specs.States.{state_of, LegalByStates}
 use Rattle.lane_journals.specs.Meanings.{history, meaning}
 use Rattle.lane_journals.specs.Places.{Setting, state_in}
 use Rattle.lane_journals.specs.KeptJournals.{IsLegalStep, IsLegal}
@@ -51,3 +50,8 @@ state-serves S (e ∷ J) l v n s h = by_event e l.1 h (state-serves S J l.0 v n 
       | inr new ↦ (let o = only_if-some _ _ s new.1 in rw o.0 (ap (λ (x : ClusterState). serves x n) o.1))
     ]
     by_event e p h ih = ih h
+
+-- the steps alone
+pub by-states : (S : Setting) (J : List LaneEvent) → IsLegal S J → LegalByStates S.acks (history J)
+by-states S [] l = tt
+by-states S (e ∷ J) l = (by-states S J l.0, (l.1).permitted)

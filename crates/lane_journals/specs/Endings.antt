@@ -1,7 +1,7 @@
 -- What the outcome of an operation says of its journal.
-use Rattle.std.specs.Prelude.{◌≡◌, ◌⊎◌, ◌↔◌, ◌<◌, ℕ, Bool, true, false, List, [], ◌∷◌, Option, Some, None, IsSome}
+use Rattle.std.specs.Prelude.{◌≡◌, ◌⊎◌, ◌↔◌, ◌<◌, ℕ, Bool, true, false, List, Option, Some, None, IsSome}
 use Rattle.entry_maps.specs.declared.entry.Entry.{Entry}
-use Rattle.lane_journals.specs.Sets.{count, AtLeast}
+use Rattle.lane_journals.specs.Sets.{count}
 use Rattle.lane_journals.specs.Stamps.{Stamp, Le}
 use Rattle.lane_journals.specs.Buckets.{Bucket, key_of}
 use Rattle.lane_journals.specs.Events.{Content}
@@ -76,7 +76,7 @@ pub record UnpreparedFellShort (S : Setting) (J : List LaneEvent) (line : ℕ) (
   pub unprepared : prepared line (history J) ≡ None
   pub short : ((opened b.version (history J) ≡ false) × OpeningFellShort (history J) b.version answered needed absent)
       ⊎ ((row : Bucket) × (row_at b.version (key_of b.id) (history J) ≡ Some row)
-        × (RoundFellShort (history J) b.version row answered needed absent ⊎ UnionFellShort S J b.version (key_of b.id) row answered needed absent))
+      × (RoundFellShort (history J) b.version row answered needed absent ⊎ UnionFellShort S J b.version (key_of b.id) row answered needed absent))
 
 pub record PreparedFellShort (acks : ℕ) (J : Journal) (line : ℕ) (b : Beginning) (answered needed absent : ℕ) : Type 0 where
   pub preparing : Preparing

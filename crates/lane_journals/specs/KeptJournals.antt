@@ -1,5 +1,5 @@
 -- Legal journals as they are kept.
-use Rattle.std.specs.Prelude.{ℕ, Bool, List, [], ◌∷◌, reverse}
+use Rattle.std.specs.Prelude.{List, [], ◌∷◌, reverse}
 use Rattle.lane_journals.specs.Legal.{Permits}
 use Rattle.lane_journals.specs.States.{state_of}
 use Rattle.lane_journals.specs.Meanings.{history, meaning}

@@ -14,3 +14,5 @@ pub mod Naming
 pub mod Places
 pub mod Endings
 pub mod KeptJournals
+pub mod Lives
+pub mod WrongSteps

@@ -1,6 +1,6 @@
 -- What a kept event names: entries that were written before, by their stamps in rising order; in an answer
 -- just what was asked for.
-use Rattle.std.specs.Prelude.{◌≡◌, ◌==◌, ℕ, Bool, true, List, [], ◌∷◌, Option, Some, None, Contains}
+use Rattle.std.specs.Prelude.{◌≡◌, ℕ, Bool, true, List, [], ◌∷◌, Some, Contains}
 use Rattle.stamps.specs.Order.{IsBefore}
 use Rattle.lane_journals.specs.Stamps.{Stamp}
 use Rattle.lane_journals.specs.Buckets.{Id, Bucket, meets, key_of}

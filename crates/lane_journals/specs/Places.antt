@@ -1,14 +1,13 @@
 -- What the cluster states say of places: who owns the lane, which nodes are the targets of a row and in which
 -- order they come, into which rows an opening parts the lane.
-use Rattle.std.specs.Prelude.{◌≡◌, ◌≢◌, ◌==◌, ◌⊎◌, ◌↔◌, ◌≤◌, ℕ, Bool, true, List, [], ◌∷◌, Option, Some, None, take, codes, is_some, Contains, if◌then◌else◌}
+use Rattle.std.specs.Prelude.{◌≡◌, ◌≢◌, ◌==◌, ◌⊎◌, ◌↔◌, ◌≤◌, ℕ, true, List, [], ◌∷◌, Option, Some, None, take, codes, is_some, Contains, if◌then◌else◌}
 use Rattle.bucket_ids.specs.Buckets.{IsBucket, parent_of}
 use Rattle.node_sets.specs.Members.{has_node}
 use Rattle.cluster_states.specs.declared.cluster_state.ClusterState.{ClusterState}
 use Rattle.cluster_states.specs.Publishing.{distributor_fault, up_fault}
 use Rattle.ideal_nodes.specs.Scores.{score_of, Ranks, Has}
 use Rattle.ideal_nodes.specs.Placement.{IsIdeal, IsOwner}
-use Rattle.lane_journals.specs.Buckets.{Id, Bucket, contains, same_bucket, covers, first_child, second_child, key_of}
-use Rattle.lane_journals.specs.Events as plain
+use Rattle.lane_journals.specs.Buckets.{Bucket, contains, same_bucket, covers, first_child, second_child, key_of}
 use Rattle.lane_journals.specs.Readers.{Journal, or_else, only_if, row_in, active, Given, asked}
 use Rattle.lane_journals.specs.Facts.{AnsweredReady, IsRow, IsMember}
 use Rattle.lane_journals.specs.States.{state_of}
