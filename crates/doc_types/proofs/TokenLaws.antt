@@ -7,7 +7,8 @@ use Rattle.std.proofs.lemmas.List.{take-append-drop, length-take}
 use Rattle.doc_types.specs.declared.symbols.Language.{Language}
 use Rattle.doc_types.specs.declared.symbols.Symbol.{Symbol}
 use Rattle.doc_types.specs.Symbols.{single_symbol, pair_symbol}
-use Rattle.doc_types.specs.Tokens.{Token, word, integer, quoted, signs, cut_by, is_digit, is_letter, is_name, is_numeral, is_quote, is_escaped, word_at, digits_at, body_at, with_byte, literal_at, pair_or, symbol_at, token_at}
+use Rattle.std.specs.Char.{is_ascii_digit, is_ascii_alphabetic}
+use Rattle.doc_types.specs.Tokens.{Token, word, integer, quoted, signs, cut_by, is_name, is_numeral, is_quote, is_escaped, word_at, digits_at, body_at, with_byte, literal_at, pair_or, symbol_at, token_at}
 use Rattle.doc_types.specs.Fronts.{IsFront, BeginsNot}
 use Rattle.doc_types.proofs.Runs.{some_run, letter_is_name, some_digit}
 
@@ -84,15 +85,15 @@ Fronted : List ℕ → Read → Type 0
 Fronted text None = Unit {0}
 Fronted text (Some p) = IsFront text p.1
 
-word_fronted : (c : ℕ) (rest : List ℕ) → is_letter c ≡ true → Fronted (c ∷ rest) (Some (word_at (c ∷ rest)))
+word_fronted : (c : ℕ) (rest : List ℕ) → is_ascii_alphabetic c ≡ true → Fronted (c ∷ rest) (Some (word_at (c ∷ rest)))
 unfolding Fronted
 word_fronted c rest e = run_front (prefix_len is_name (c ∷ rest)) (c ∷ rest) (some_run is_name (c ∷ rest) (omega arith) (letter_is_name c e)) (prefix_within is_name (c ∷ rest))
 
-number_fronted : (negative : Bool) (bs : List ℕ) (numeral : Bool) (read : Option ℤ) → is_numeral (take (prefix_len is_digit bs) bs) ≡ numeral
-    → Fronted bs (option_map (λ z. cut_by (prefix_len is_digit bs) (integer z) bs) (cond numeral read None))
+number_fronted : (negative : Bool) (bs : List ℕ) (numeral : Bool) (read : Option ℤ) → is_numeral (take (prefix_len is_ascii_digit bs) bs) ≡ numeral
+    → Fronted bs (option_map (λ z. cut_by (prefix_len is_ascii_digit bs) (integer z) bs) (cond numeral read None))
 unfolding Fronted
 number_fronted negative bs true None e = tt
-number_fronted negative bs true (Some z) e = run_front (prefix_len is_digit bs) bs (some_digit bs e) (prefix_within is_digit bs)
+number_fronted negative bs true (Some z) e = run_front (prefix_len is_ascii_digit bs) bs (some_digit bs e) (prefix_within is_ascii_digit bs)
 number_fronted negative bs false read e = tt
 
 behind_sign : (c : ℕ) (bs : List ℕ) (read : Read) → Fronted bs read → Fronted (c ∷ bs) read
@@ -123,10 +124,10 @@ token_fronted : (language : Language) (text : List ℕ) → Fronted text (token_
 unfolding Fronted
 token_fronted language [] = tt
 token_fronted language (c ∷ rest) =
-    elim (is_letter c) as (λ t. is_letter c ≡ t → Fronted (c ∷ rest) (cond t (Some (word_at (c ∷ rest))) (cond (is_digit c) (digits_at false (c ∷ rest))
+    elim (is_ascii_alphabetic c) as (λ t. is_ascii_alphabetic c ≡ t → Fronted (c ∷ rest) (cond t (Some (word_at (c ∷ rest))) (cond (is_ascii_digit c) (digits_at false (c ∷ rest))
     (cond (c == 45) (digits_at true rest) (cond (is_quote c) (literal_at c rest) (symbol_at language c rest)))))) [
       | true ↦ (λ e. word_fronted c rest e)
-      | false ↦ (λ e. elim (is_digit c) as (λ t. Fronted (c ∷ rest) (cond t (digits_at false (c ∷ rest)) (cond (c == 45) (digits_at true rest) (cond (is_quote c) (literal_at c rest) (symbol_at language c rest))))) [
+      | false ↦ (λ e. elim (is_ascii_digit c) as (λ t. Fronted (c ∷ rest) (cond t (digits_at false (c ∷ rest)) (cond (c == 45) (digits_at true rest) (cond (is_quote c) (literal_at c rest) (symbol_at language c rest))))) [
         | true ↦ number_fronted false (c ∷ rest) _ _ refl
         | false ↦ elim (c == 45) as (λ t. Fronted (c ∷ rest) (cond t (digits_at true rest) (cond (is_quote c) (literal_at c rest) (symbol_at language c rest)))) [
           | true ↦ behind_sign c rest (digits_at true rest) (number_fronted true rest _ _ refl)
@@ -145,7 +146,7 @@ token_front language text rest t e = subst (Fronted text) e (token_fronted langu
 -- each token is the longest at its place
 Longest : List ℕ → Token → List ℕ → Type 0
 Longest text (word w) rest = (text ≡ w ++ rest) × BeginsNot is_name rest
-Longest text (integer z) rest = BeginsNot is_digit rest
+Longest text (integer z) rest = BeginsNot is_ascii_digit rest
 Longest text (quoted b) rest = Unit {0}
 Longest text (signs s) rest = Unit {0}
 
@@ -157,10 +158,10 @@ longest_word : (bs : List ℕ) → LongestRead bs (Some (word_at bs))
 unfolding LongestRead Longest
 longest_word bs = (sym (take-append-drop (prefix_len is_name bs) bs), run_stops is_name bs)
 
-longest_number : (text bs : List ℕ) (read : Option ℤ) → LongestRead text (option_map (λ z. cut_by (prefix_len is_digit bs) (integer z) bs) read)
+longest_number : (text bs : List ℕ) (read : Option ℤ) → LongestRead text (option_map (λ z. cut_by (prefix_len is_ascii_digit bs) (integer z) bs) read)
 unfolding LongestRead Longest
 longest_number text bs None = tt
-longest_number text bs (Some z) = run_stops is_digit bs
+longest_number text bs (Some z) = run_stops is_ascii_digit bs
 
 longest_literal : (text : List ℕ) (read : Option (List ℕ × List ℕ)) → LongestRead text (option_map (λ p. (quoted p.0, p.1)) read)
 unfolding LongestRead Longest
@@ -185,10 +186,10 @@ longest : (language : Language) (text : List ℕ) → LongestRead text (token_at
 unfolding LongestRead
 longest language [] = tt
 longest language (c ∷ rest) =
-    elim (is_letter c) as (λ t. LongestRead (c ∷ rest) (cond t (Some (word_at (c ∷ rest))) (cond (is_digit c) (digits_at false (c ∷ rest))
+    elim (is_ascii_alphabetic c) as (λ t. LongestRead (c ∷ rest) (cond t (Some (word_at (c ∷ rest))) (cond (is_ascii_digit c) (digits_at false (c ∷ rest))
     (cond (c == 45) (digits_at true rest) (cond (is_quote c) (literal_at c rest) (symbol_at language c rest)))))) [
       | true ↦ longest_word (c ∷ rest)
-      | false ↦ elim (is_digit c) as (λ t. LongestRead (c ∷ rest) (cond t (digits_at false (c ∷ rest)) (cond (c == 45) (digits_at true rest) (cond (is_quote c) (literal_at c rest) (symbol_at language c rest))))) [
+      | false ↦ elim (is_ascii_digit c) as (λ t. LongestRead (c ∷ rest) (cond t (digits_at false (c ∷ rest)) (cond (c == 45) (digits_at true rest) (cond (is_quote c) (literal_at c rest) (symbol_at language c rest))))) [
         | true ↦ longest_number (c ∷ rest) (c ∷ rest) _
         | false ↦ elim (c == 45) as (λ t. LongestRead (c ∷ rest) (cond t (digits_at true rest) (cond (is_quote c) (literal_at c rest) (symbol_at language c rest)))) [
           | true ↦ longest_number (c ∷ rest) rest _
@@ -204,6 +205,6 @@ pub word_longest : (language : Language) (text rest w : List ℕ) → token_at l
 unfolding LongestRead Longest
 word_longest language text rest w e = subst (LongestRead text) e (longest language text)
 
-pub number_longest : (language : Language) (text rest : List ℕ) (z : ℤ) → token_at language text ≡ Some (integer z, rest) → BeginsNot is_digit rest
+pub number_longest : (language : Language) (text rest : List ℕ) (z : ℤ) → token_at language text ≡ Some (integer z, rest) → BeginsNot is_ascii_digit rest
 unfolding LongestRead Longest
 number_longest language text rest z e = subst (LongestRead text) e (longest language text)

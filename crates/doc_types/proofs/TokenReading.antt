@@ -9,7 +9,8 @@ use Rattle.doc_types.specs.declared.symbols.Language.{Language}
 use Rattle.doc_types.specs.declared.symbols.Language.TheVariants.{Selection, Query}
 use Rattle.doc_types.specs.declared.symbols.Symbol.{Symbol}
 use Rattle.doc_types.specs.Symbols.{single_symbol, shared_symbol}
-use Rattle.doc_types.specs.Tokens.{quoted, body_at, is_digit, is_letter, is_numeral, is_quote, number_of, literal_at, token_at}
+use Rattle.std.specs.Char.{is_ascii_digit, is_ascii_alphabetic}
+use Rattle.doc_types.specs.Tokens.{quoted, body_at, is_numeral, is_quote, number_of, literal_at, token_at}
 use Rattle.doc_types.specs.Reading.{EndsInAscii}
 use Rattle.doc_types.proofs.Runs.{run_ascii, digit_ascii, some_digit}
 
@@ -17,11 +18,11 @@ some_by : (b : Bool) (o : Option ℤ) (z : ℤ) → cond b o None ≡ Some z →
 some_by true o z e = refl
 some_by false o z e = absurd (true≢false (sym (ap is_some e)))
 
-pub number_ends : (negative : Bool) (bytes : List ℕ) (size : ℕ) (z : ℤ) → size ≡ prefix_len is_digit bytes → size ≤ length bytes → number_of negative (take size bytes) ≡ Some z → EndsInAscii size bytes
+pub number_ends : (negative : Bool) (bytes : List ℕ) (size : ℕ) (z : ℤ) → size ≡ prefix_len is_ascii_digit bytes → size ≤ length bytes → number_of negative (take size bytes) ≡ Some z → EndsInAscii size bytes
 number_ends negative bytes size z run within e =
-    let numeral : is_numeral (take (prefix_len is_digit bytes) bytes) ≡ true = ap (λ n. is_numeral (take n bytes)) (sym run) ∙ some_by _ _ z e in
+    let numeral : is_numeral (take (prefix_len is_ascii_digit bytes) bytes) ≡ true = ap (λ n. is_numeral (take n bytes)) (sym run) ∙ some_by _ _ z e in
     let some = some_digit bytes numeral in
-    record { some = omega (arith, some, run); within = within; ascii = rw run (run_ascii is_digit bytes digit_ascii some) }
+    record { some = omega (arith, some, run); within = within; ascii = rw run (run_ascii is_ascii_digit bytes digit_ascii some) }
 
 -- no symbol has a byte past ASCII
 no_test : (a k : ℕ) → k < 128 → 128 ≤ a → (a == k) ≡ false
@@ -41,7 +42,7 @@ symbol_ascii language a s e = elim (cases_lt a 128) [
 ]
 
 -- a quote begins a literal
-quote_is : (c : ℕ) → is_quote c ≡ true → (is_letter c ≡ false) × ((is_digit c ≡ false) × ((c == 45) ≡ false))
+quote_is : (c : ℕ) → is_quote c ≡ true → (is_ascii_alphabetic c ≡ false) × ((is_ascii_digit c ≡ false) × ((c == 45) ≡ false))
 quote_is c e = (grind (arith, nat_tests, e), (grind (arith, nat_tests, e), grind (arith, nat_tests, e)))
 
 pub token_quote : (language : Language) (text : List ℕ) → 0 < length text → is_quote (get_or text 0 0) ≡ true → token_at language text ≡ literal_at (get_or text 0 0) (drop 1 text)

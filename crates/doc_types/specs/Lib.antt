@@ -1,9 +1,12 @@
+-- What a caller needs: `Tokens`, `Symbols` and `Fronts` (tokens), `Values` (the order of values), `SchemaCodes`
+-- (what a schema is) and `Schemas` (which texts are schemas, and what they say). `Bodies`, `Reading` and
+-- `SchemaMaps` serve the code alone.
 pub mod Symbols
 pub mod Tokens
-pub mod Bodies
-pub mod Reading
+pub mod Fronts
 pub mod Values
 pub mod SchemaCodes
-pub mod SchemaMaps
 pub mod Schemas
-pub mod Fronts
+pub mod Bodies
+pub mod Reading
+pub mod SchemaMaps

@@ -7,11 +7,12 @@ use Rattle.doc_types.specs.declared.symbols.Symbol.{Symbol}
 use Rattle.doc_types.specs.declared.tokens.Lexeme.{Lexeme}
 use Rattle.doc_types.specs.declared.tokens.Lexeme.TheVariants as lexeme
 use Rattle.doc_types.specs.Symbols.{pair_symbol, single_symbol}
-use Rattle.doc_types.specs.Tokens.{Token, word, integer, quoted, signs, is_digit, number_of}
+use Rattle.std.specs.Char.{is_ascii_digit}
+use Rattle.doc_types.specs.Tokens.{Token, word, integer, quoted, signs, number_of}
 
 -- a number, and how many digits it has
 abbrev pub number_size : Bool → List ℕ → Option (ℤ × ℕ)
-number_size negative bytes = option_map (λ z. (z, prefix_len is_digit bytes)) (number_of negative (take (prefix_len is_digit bytes) bytes))
+number_size negative bytes = option_map (λ z. (z, prefix_len is_ascii_digit bytes)) (number_of negative (take (prefix_len is_ascii_digit bytes) bytes))
 
 abbrev pub single_size : Language → ℕ → Option (Symbol × ℕ)
 single_size language a = option_map (λ s. (s, 1)) (single_symbol language a)

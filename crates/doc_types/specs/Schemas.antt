@@ -7,7 +7,7 @@ use Rattle.serde_json.specs.Data.{Data, Members, no_members, member}
 use Rattle.serde_json.specs.Events.{members_len}
 use Rattle.serde_json.specs.Find.{as_object, as_str}
 use Rattle.doc_types.specs.SchemaCodes.{Fields, Types}
-use Rattle.doc_types.specs.Tokens.{is_letter}
+use Rattle.std.specs.Char.{is_ascii_alphabetic}
 use Rattle.doc_types.specs.Tokens as tokens
 use Rattle.doc_types.specs.declared.values.FieldType.{FieldType}
 use Rattle.doc_types.specs.declared.values.FieldType.TheVariants as kind
@@ -28,13 +28,13 @@ is_query_word w = bytes_eq w (codes "all") || bytes_eq w (codes "contains") || b
     || bytes_eq w (codes "select") || bytes_eq w (codes "where") || is_output_word w
 
 -- an ASCII letter and then up to 63 ASCII letters, digits and `_`
-unfoldable pub is_plain : List ℕ → Bool
-is_plain [] = false
-is_plain (c ∷ cs) = is_letter c && (nat_lt (length cs) 64 && list_all tokens.is_name cs)
+unfoldable pub is_identifier : List ℕ → Bool
+is_identifier [] = false
+is_identifier (c ∷ cs) = is_ascii_alphabetic c && (nat_lt (length cs) 64 && list_all tokens.is_name cs)
 
 -- the name of a type or a field: no word of either language
 unfoldable pub is_name : List ℕ → Bool
-is_name name = is_plain name && (not (is_selection_word name) && not (is_query_word name))
+is_name name = is_identifier name && (not (is_selection_word name) && not (is_query_word name))
 
 abbrev pub is_object : Data → Bool
 is_object d = is_some (as_object d)

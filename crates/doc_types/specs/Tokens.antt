@@ -1,6 +1,8 @@
 -- The token at the front of a text, and what is behind it.
-use Rattle.std.specs.Prelude.{◌==◌, ◌&&◌, ◌||◌, ℕ, ℤ, pos, neg_ℤ, ◌+◌, ◌-◌, ◌*◌, ◌^◌, Bool, true, false, List, [], ◌∷◌, take, drop, Option, Some, None, option_map, nat_le, nat_lt, if◌then◌else◌}
+use Rattle.std.specs.Prelude.{◌==◌, ◌||◌, ℕ, ℤ, pos, neg_ℤ, ◌^◌, Bool, true, false, List, [], ◌∷◌, take, drop, Option, Some, None, option_map, nat_le, nat_lt, if◌then◌else◌}
 use Rattle.std.specs.List.{prefix_len}
+use Rattle.std.specs.Char.{is_ascii_digit, is_ascii_alphabetic}
+use Rattle.std.specs.Str.Parse.{digits_value}
 use Rattle.doc_types.specs.declared.symbols.Language.{Language}
 use Rattle.doc_types.specs.declared.symbols.Symbol.{Symbol}
 use Rattle.doc_types.specs.Symbols.{pair_symbol, single_symbol}
@@ -16,15 +18,9 @@ pub data Token : Type 0 where
 abbrev pub is_blank : ℕ → Bool
 is_blank c = c == 32 || c == 9 || c == 10 || c == 13
 
-abbrev pub is_digit : ℕ → Bool
-is_digit c = nat_le 48 c && nat_lt c 58
-
-abbrev pub is_letter : ℕ → Bool
-is_letter c = (nat_le 65 c && nat_lt c 91) || (nat_le 97 c && nat_lt c 123)
-
 -- a letter, a digit or `_`
 abbrev pub is_name : ℕ → Bool
-is_name c = is_letter c || is_digit c || c == 95
+is_name c = is_ascii_alphabetic c || is_ascii_digit c || c == 95
 
 -- the text behind its blanks
 abbrev pub skip_blanks : List ℕ → List ℕ
@@ -38,11 +34,6 @@ cut_by n t bytes = (t, drop n bytes)
 abbrev pub word_at : List ℕ → Token × List ℕ
 word_at bytes = cut_by (prefix_len is_name bytes) (word (take (prefix_len is_name bytes) bytes)) bytes
 
--- the number of a run of digits, read on from a value
-abbrev pub read_on : ℕ → List ℕ → ℕ
-read_on v [] = v
-read_on v (d ∷ ds) = read_on (10 * v + (d - 48)) ds
-
 -- with its sign in the signed 64-bit range
 abbrev pub signed : Bool → ℕ → Option ℤ
 signed true v = if nat_le v (2 ^ 63) then Some (neg_ℤ (pos v)) else None
@@ -55,11 +46,11 @@ is_numeral (d ∷ []) = true
 is_numeral (d ∷ e ∷ ds) = nat_lt 48 d
 
 abbrev pub number_of : Bool → List ℕ → Option ℤ
-number_of negative digits = if is_numeral digits then signed negative (read_on 0 digits) else None
+number_of negative digits = if is_numeral digits then signed negative (digits_value 10 digits) else None
 
 -- a run of digits, and what is behind it
 abbrev pub digits_at : Bool → List ℕ → Option (Token × List ℕ)
-digits_at negative bytes = option_map (λ z. cut_by (prefix_len is_digit bytes) (integer z) bytes) (number_of negative (take (prefix_len is_digit bytes) bytes))
+digits_at negative bytes = option_map (λ z. cut_by (prefix_len is_ascii_digit bytes) (integer z) bytes) (number_of negative (take (prefix_len is_ascii_digit bytes) bytes))
 
 -- what stands before the closing quote, and what is behind it; `\\`, `\"` and `\'` stand for the second character
 abbrev pub is_escaped : ℕ → Bool
@@ -94,8 +85,8 @@ is_quote c = c == 34 || c == 39
 
 -- by the first byte
 abbrev pub token_by : Language → ℕ → List ℕ → Option (Token × List ℕ)
-token_by language c rest = if is_letter c then Some (word_at (c ∷ rest))
-    else (if is_digit c then digits_at false (c ∷ rest)
+token_by language c rest = if is_ascii_alphabetic c then Some (word_at (c ∷ rest))
+    else (if is_ascii_digit c then digits_at false (c ∷ rest)
     else (if c == 45 then digits_at true rest
     else (if is_quote c then literal_at c rest else symbol_at language c rest)))
 

@@ -1,6 +1,7 @@
 ghost use Rattle.std.specs.Prelude.{◌≡◌, ◌-◌, ◌<◌, ◌≤◌, length, take, drop, slice_index_or};
 ghost use Rattle.std.specs.List.{prefix_len};
-ghost use Rattle.doc_types.specs.Tokens.{is_blank, is_digit, is_letter, is_name};
+ghost use Rattle.std.specs.Char.{is_ascii_digit, is_ascii_alphabetic};
+ghost use Rattle.doc_types.specs.Tokens.{is_blank, is_name};
 
 /// Whether a byte is a space, a tab, LF or CR.
 pub fn is_blank(byte: u8) -> bool
@@ -9,25 +10,11 @@ pub fn is_blank(byte: u8) -> bool
     byte == b' ' || byte == b'\t' || byte == b'\n' || byte == b'\r'
 }
 
-/// Whether a byte is a digit.
-pub fn is_digit(byte: u8) -> bool
-    ensures { result ≡ is_digit byte }
-{
-    byte >= b'0' && byte < 58
-}
-
-/// Whether a byte is an ASCII letter.
-pub fn is_letter(byte: u8) -> bool
-    ensures { result ≡ is_letter byte }
-{
-    (byte >= b'A' && byte < 91) || (byte >= b'a' && byte < 123)
-}
-
 /// Whether a byte is a letter, a digit or `_`.
 pub fn is_name(byte: u8) -> bool
     ensures { result ≡ is_name byte }
 {
-    is_letter(byte) || is_digit(byte) || byte == b'_'
+    byte.is_ascii_alphabetic() || byte.is_ascii_digit() || byte == b'_'
 }
 
 /// How many bytes at the front are blanks.
@@ -48,10 +35,13 @@ pub fn name_run(bytes: &[u8]) -> usize
 
 /// How many bytes at the front are digits.
 pub fn digit_run(bytes: &[u8]) -> usize
-    ensures run { result ≡ prefix_len is_digit bytes.now }
+    ensures run { result ≡ prefix_len is_ascii_digit bytes.now }
     ensures within { result ≤ length bytes.now }
 {
-    bytes.iter().take_while(|byte| is_digit(**byte)).count()
+    bytes
+        .iter()
+        .take_while(|byte| byte.is_ascii_digit())
+        .count()
 }
 
 /// A text cut behind so many bytes, of which the last is ASCII.

@@ -1,8 +1,10 @@
 ghost use Rattle.std.specs.Prelude.{◌≡◌, ◌<◌, ◌≤◌, ◌^◌, length, take, option_map, MatchOption, true};
 ghost use Rattle.std.specs.List.{prefix_len, list_all};
-ghost use Rattle.doc_types.specs.Tokens.{is_digit, is_numeral, read_on, signed, number_of};
+ghost use Rattle.std.specs.Char.{is_ascii_digit};
+ghost use Rattle.std.specs.Str.Parse.{digits_value};
+ghost use Rattle.doc_types.specs.Tokens.{is_numeral, signed, number_of};
 
-use crate::cuts::{digit_run, is_digit};
+use crate::cuts::digit_run;
 
 /// Whether digits are a numeral: some of them, and no leading zero but for `0` itself.
 fn is_numeral(digits: &[u8]) -> bool
@@ -17,8 +19,8 @@ fn is_numeral(digits: &[u8]) -> bool
 
 /// The number of these digits, where it is at most 2^63.
 fn magnitude(digits: &[u8]) -> Option<u64>
-    requires digits { list_all is_digit digits.now ≡ true }
-    ensures { MatchOption result (2 ^ 63 < read_on 0 digits.now) (λ v. (v ≡ read_on 0 digits.now) × (v ≤ 2 ^ 63)) }
+    requires digits { list_all is_ascii_digit digits.now ≡ true }
+    ensures { MatchOption result (2 ^ 63 < digits_value 10 digits.now) (λ v. (v ≡ digits_value 10 digits.now) × (v ≤ 2 ^ 63)) }
 {
     let mut value: u128 = 0;
     for digit in digits {
@@ -49,7 +51,7 @@ fn signed(negative: bool, value: u64) -> Option<i64>
 
 /// The number of a run of digits.
 pub fn number_of(negative: bool, digits: &[u8]) -> Option<i64>
-    requires digits { list_all is_digit digits.now ≡ true }
+    requires digits { list_all is_ascii_digit digits.now ≡ true }
     ensures { result ≡ number_of negative digits.now }
 {
     if !is_numeral(digits) {

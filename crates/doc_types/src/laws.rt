@@ -5,7 +5,8 @@ ghost use Rattle.std.specs.Ordering.{ordering_reverse};
 ghost use Rattle.std.specs.declared.cmp.Ordering.TheVariants.{Less, Equal};
 ghost use Rattle.doc_types.specs.declared.symbols.Language.{Language};
 ghost use Rattle.doc_types.specs.declared.values.FieldValue.{FieldValue};
-ghost use Rattle.doc_types.specs.Tokens.{Token, word, integer, is_digit, is_name, token_at};
+ghost use Rattle.std.specs.Char.{is_ascii_digit};
+ghost use Rattle.doc_types.specs.Tokens.{Token, word, integer, is_name, token_at};
 ghost use Rattle.doc_types.specs.Fronts.{IsFront, BeginsNot};
 ghost use Rattle.doc_types.specs.Values.{value_order};
 
@@ -14,7 +15,7 @@ ghost use Rattle.doc_types.specs.Values.{value_order};
 pub fn tokens_are_fronts()
     ensures front { (language : Language) (text rest : List ℕ) (t : Token) → token_at language text ≡ Some (t, rest) → IsFront text rest }
     ensures words { (language : Language) (text rest w : List ℕ) → token_at language text ≡ Some (word w, rest) → (text ≡ w ++ rest) × BeginsNot is_name rest }
-    ensures numbers { (language : Language) (text rest : List ℕ) (z : ℤ) → token_at language text ≡ Some (integer z, rest) → BeginsNot is_digit rest }
+    ensures numbers { (language : Language) (text rest : List ℕ) (z : ℤ) → token_at language text ≡ Some (integer z, rest) → BeginsNot is_ascii_digit rest }
 {}
 
 /// Numbers and texts have one order: what is alike is one value, turned round the order turns round,

@@ -26,4 +26,5 @@ pub use schema::{DEFAULT_SCHEMA, Schema};
 pub use schema_faults::SchemaFault;
 pub use symbols::{Language, Symbol};
 pub use tokens::{Lexeme, read_token, skip_blanks};
+pub use value_lists::TextValue;
 pub use values::{FieldType, FieldValue, IntList, TextList};

@@ -5,9 +5,9 @@ ghost use Rattle.serde_json.specs.Read.{read};
 ghost use Rattle.serde_json.specs.View.{view, members_view};
 ghost use Rattle.std.specs.List.{list_all};
 ghost use Rattle.doc_types.specs.Tokens as tokens;
-ghost use Rattle.doc_types.specs.Schemas.{is_name, is_plain, is_selection_word, is_output_word, is_query_word, name_fault, kind_named, kind_in, fields_fault, members_in, field_fault, has_many_fields, size_fault, members_fault};
+ghost use Rattle.doc_types.specs.Schemas.{is_name, is_identifier, is_selection_word, is_output_word, is_query_word, name_fault, kind_named, kind_in, fields_fault, members_in, field_fault, has_many_fields, size_fault, members_fault};
 
-use crate::cuts::{is_letter, is_name as is_name_byte};
+use crate::cuts::is_name as is_name_byte;
 use crate::values::FieldType;
 use serde_json::{Map, Value};
 use std::alloc::Global;
@@ -74,7 +74,7 @@ fn is_query_word(text: &str) -> bool
 fn is_name(text: &str) -> bool
     ensures { result ≡ is_name text.now }
 {
-    is_plain(text.as_bytes()) && !is_selection_word(text) && !is_query_word(text)
+    is_identifier(text.as_bytes()) && !is_selection_word(text) && !is_query_word(text)
 }
 
 /// A type's name that is wrong, or a type whose value is no object.
@@ -92,13 +92,13 @@ fn name_fault(members: &Map<String, Value>) -> Option<SchemaFault>
 }
 
 /// Whether bytes are an ASCII letter and then up to 63 ASCII letters, digits and `_`.
-#[tactic(auto, unfolding(crate::specs::Schemas::is_plain))]
-fn is_plain(bytes: &[u8]) -> bool
-    ensures { result ≡ is_plain bytes.now }
+#[tactic(auto, unfolding(crate::specs::Schemas::is_identifier))]
+fn is_identifier(bytes: &[u8]) -> bool
+    ensures { result ≡ is_identifier bytes.now }
 {
     match bytes {
         [] => false,
-        [first, rest @ ..] => { is_letter(*first) && rest.len() < 64 && all_names(rest) }
+        [first, rest @ ..] => { first.is_ascii_alphabetic() && rest.len() < 64 && all_names(rest) }
     }
 }
 

@@ -1,9 +1,10 @@
 ghost use Rattle.std.specs.Prelude.{◌≡◌, ◌∷◌, ◌≤◌, ◌<◌, ◌-◌, ℕ, true, ◌+◌, nat_eq, IfOk, IfSome, Some, option_map, take, drop, length, slice_index_or};
 ghost use Rattle.std.specs.List.{prefix_len};
-ghost use Rattle.doc_types.specs.Tokens.{is_digit, is_letter, is_name, skip_blanks, word_at, number_of, token_at, token_by, digits_at, literal_at, symbol_at, is_quote};
+ghost use Rattle.std.specs.Char.{is_ascii_digit, is_ascii_alphabetic};
+ghost use Rattle.doc_types.specs.Tokens.{is_name, skip_blanks, word_at, number_of, token_at, token_by, digits_at, literal_at, symbol_at, is_quote};
 ghost use Rattle.doc_types.specs.Reading.{number_size, symbol_size, token_of, told, EndsInAscii};
 
-use crate::cuts::{blank_run, cut, digit_run, is_digit, is_letter, name_run};
+use crate::cuts::{blank_run, cut, digit_run, name_run};
 use crate::integers::number_of;
 use crate::literals::body_at;
 use crate::symbols::{Language, Symbol, pair_symbol, single_symbol};
@@ -66,7 +67,7 @@ fn symbol_at(language: Language, sign: u8, rest: &[u8]) -> Option<(Symbol, usize
 /// The word at the front of a text that begins with a letter, and what is behind it.
 fn read_word(text: &str) -> (Lexeme<'_>, &str)
     requires some { 0 < length text.now }
-    requires letter { is_letter (slice_index_or text.now 0 0) ≡ true }
+    requires letter { is_ascii_alphabetic (slice_index_or text.now 0 0) ≡ true }
     ensures { (token_of result.0, result.1.now) ≡ word_at text.now }
 {
     let (word, rest) = cut(text, name_run(text.as_bytes()));
@@ -122,10 +123,10 @@ pub fn read_token(
         return Ok(None);
     };
     let first = *first;
-    if is_letter(first) {
+    if first.is_ascii_alphabetic() {
         return Ok(Some(read_word(text)));
     }
-    if is_digit(first) {
+    if first.is_ascii_digit() {
         return Ok(read_number(text, 0));
     }
     if first == b'-' {
