@@ -6,7 +6,7 @@ use Rattle.std.proofs.lemmas.List.{append_assoc}
 use Rattle.doc_types.specs.Tokens.{body_at, is_escaped, with_byte}
 use Rattle.doc_types.specs.Bodies.{content_at, with_front}
 
-same_test : (a b : ℕ) → a ≡ b → (a == b) ≡ true
+pub same_test : (a b : ℕ) → a ≡ b → (a == b) ≡ true
 same_test a b e = grind (arith, nat_tests, e)
 
 other_test : (a b : ℕ) → a ≢ b → (a == b) ≡ false
@@ -20,19 +20,19 @@ other_test a b other = by (a == b) refl
     by false e = e
 
 -- at the quote
-ends : (q c : ℕ) (rest : List ℕ) → c ≡ q → body_at q (c ∷ rest) ≡ Some ([], rest)
+pub ends : (q c : ℕ) (rest : List ℕ) → c ≡ q → body_at q (c ∷ rest) ≡ Some ([], rest)
 ends q c [] e = ap (λ t. cond t (Some ([], [])) None) (same_test c q e)
 ends q c (d ∷ rest) e = ap (λ t. cond t (Some ([], d ∷ rest)) (cond (c == 92) (cond (is_escaped d) (with_byte d (body_at q rest)) None) (with_byte c (body_at q (d ∷ rest))))) (same_test c q e)
 
 -- at another byte
-plain : (q c : ℕ) (rest : List ℕ) → c ≢ q → c ≢ 92 → body_at q (c ∷ rest) ≡ with_byte c (body_at q rest)
+pub plain : (q c : ℕ) (rest : List ℕ) → c ≢ q → c ≢ 92 → body_at q (c ∷ rest) ≡ with_byte c (body_at q rest)
 plain q c [] e n = ap (λ t. cond t (Some ([], [])) None) (other_test c q e)
 plain q c (d ∷ rest) e n =
     ap (λ t. cond t (Some ([], d ∷ rest)) (cond (c == 92) (cond (is_escaped d) (with_byte d (body_at q rest)) None) (with_byte c (body_at q (d ∷ rest))))) (other_test c q e)
     ∙ ap (λ t. cond t (cond (is_escaped d) (with_byte d (body_at q rest)) None) (with_byte c (body_at q (d ∷ rest)))) (other_test c 92 n)
 
 -- at a backslash
-escape : (q c d : ℕ) (rest : List ℕ) → c ≢ q → c ≡ 92 → body_at q (c ∷ d ∷ rest) ≡ cond (is_escaped d) (with_byte d (body_at q rest)) None
+pub escape : (q c d : ℕ) (rest : List ℕ) → c ≢ q → c ≡ 92 → body_at q (c ∷ d ∷ rest) ≡ cond (is_escaped d) (with_byte d (body_at q rest)) None
 escape q c d rest e n =
     ap (λ t. cond t (Some ([], d ∷ rest)) (cond (c == 92) (cond (is_escaped d) (with_byte d (body_at q rest)) None) (with_byte c (body_at q (d ∷ rest))))) (other_test c q e)
     ∙ ap (λ t. cond t (cond (is_escaped d) (with_byte d (body_at q rest)) None) (with_byte c (body_at q (d ∷ rest)))) (same_test c 92 n)

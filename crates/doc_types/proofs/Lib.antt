@@ -4,3 +4,5 @@ pub mod TokenReading
 pub mod Finding
 pub mod TokenLaws
 pub mod ValueLaws
+pub mod LiteralLaws
+pub mod IntegerLaws

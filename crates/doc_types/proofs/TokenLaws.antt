@@ -13,8 +13,21 @@ use Rattle.doc_types.specs.Fronts.{IsFront, BeginsNot}
 use Rattle.doc_types.proofs.Runs.{some_run, letter_is_name, some_digit}
 
 -- what was read, as a pair
-abbrev Read : Type 0
+abbrev pub Read : Type 0
 Read = Option (Token × List ℕ)
+
+-- a token by its first byte
+pub by_first : (language : Language) (c : ℕ) (rest : List ℕ) (P : Read → Type 0) → (is_ascii_alphabetic c ≡ true → P (Some (word_at (c ∷ rest)))) → (is_ascii_digit c ≡ true → P (digits_at false (c ∷ rest)))
+    → ((c == 45) ≡ true → P (digits_at true rest)) → P (literal_at c rest) → P (symbol_at language c rest) → P (token_at language (c ∷ rest))
+by_first language c rest P letter digit minus quote sign = by (is_ascii_alphabetic c) (is_ascii_digit c) (c == 45) (is_quote c) refl refl refl
+  where
+    by : (t u v w : Bool) → is_ascii_alphabetic c ≡ t → is_ascii_digit c ≡ u → (c == 45) ≡ v
+        → P (cond t (Some (word_at (c ∷ rest))) (cond u (digits_at false (c ∷ rest)) (cond v (digits_at true rest) (cond w (literal_at c rest) (symbol_at language c rest)))))
+    by true u v w e f g = letter e
+    by false true v w e f g = digit f
+    by false false true w e f g = minus g
+    by false false false true e f g = quote
+    by false false false false e f g = sign
 
 same_read : (a b : Token × List ℕ) → Some a ≡ Some b → a ≡ b
 same_read a b e = ap (λ o. unwrap_or o a) e
@@ -123,21 +136,12 @@ symbol_fronted language c (d ∷ rest) = pair_fronted c d rest (pair_symbol lang
 token_fronted : (language : Language) (text : List ℕ) → Fronted text (token_at language text)
 unfolding Fronted
 token_fronted language [] = tt
-token_fronted language (c ∷ rest) =
-    elim (is_ascii_alphabetic c) as (λ t. is_ascii_alphabetic c ≡ t → Fronted (c ∷ rest) (cond t (Some (word_at (c ∷ rest))) (cond (is_ascii_digit c) (digits_at false (c ∷ rest))
-    (cond (c == 45) (digits_at true rest) (cond (is_quote c) (literal_at c rest) (symbol_at language c rest)))))) [
-      | true ↦ (λ e. word_fronted c rest e)
-      | false ↦ (λ e. elim (is_ascii_digit c) as (λ t. Fronted (c ∷ rest) (cond t (digits_at false (c ∷ rest)) (cond (c == 45) (digits_at true rest) (cond (is_quote c) (literal_at c rest) (symbol_at language c rest))))) [
-        | true ↦ number_fronted false (c ∷ rest) _ _ refl
-        | false ↦ elim (c == 45) as (λ t. Fronted (c ∷ rest) (cond t (digits_at true rest) (cond (is_quote c) (literal_at c rest) (symbol_at language c rest)))) [
-          | true ↦ behind_sign c rest (digits_at true rest) (number_fronted true rest _ _ refl)
-          | false ↦ elim (is_quote c) as (λ t. Fronted (c ∷ rest) (cond t (literal_at c rest) (symbol_at language c rest))) [
-            | true ↦ literal_fronted c rest (body_at c rest) (body_front c rest)
-            | false ↦ symbol_fronted language c rest
-          ]
-        ]
-      ])
-    ] refl
+token_fronted language (c ∷ rest) = by_first language c rest (Fronted (c ∷ rest))
+    (word_fronted c rest)
+    (λ e. number_fronted false (c ∷ rest) _ _ refl)
+    (λ e. behind_sign c rest (digits_at true rest) (number_fronted true rest _ _ refl))
+    (literal_fronted c rest (body_at c rest) (body_front c rest))
+    (symbol_fronted language c rest)
 
 pub token_front : (language : Language) (text rest : List ℕ) (t : Token) → token_at language text ≡ Some (t, rest) → IsFront text rest
 unfolding Fronted
@@ -185,21 +189,12 @@ longest_symbol language c (d ∷ rest) = longest_pair (c ∷ d ∷ rest) rest (d
 longest : (language : Language) (text : List ℕ) → LongestRead text (token_at language text)
 unfolding LongestRead
 longest language [] = tt
-longest language (c ∷ rest) =
-    elim (is_ascii_alphabetic c) as (λ t. LongestRead (c ∷ rest) (cond t (Some (word_at (c ∷ rest))) (cond (is_ascii_digit c) (digits_at false (c ∷ rest))
-    (cond (c == 45) (digits_at true rest) (cond (is_quote c) (literal_at c rest) (symbol_at language c rest)))))) [
-      | true ↦ longest_word (c ∷ rest)
-      | false ↦ elim (is_ascii_digit c) as (λ t. LongestRead (c ∷ rest) (cond t (digits_at false (c ∷ rest)) (cond (c == 45) (digits_at true rest) (cond (is_quote c) (literal_at c rest) (symbol_at language c rest))))) [
-        | true ↦ longest_number (c ∷ rest) (c ∷ rest) _
-        | false ↦ elim (c == 45) as (λ t. LongestRead (c ∷ rest) (cond t (digits_at true rest) (cond (is_quote c) (literal_at c rest) (symbol_at language c rest)))) [
-          | true ↦ longest_number (c ∷ rest) rest _
-          | false ↦ elim (is_quote c) as (λ t. LongestRead (c ∷ rest) (cond t (literal_at c rest) (symbol_at language c rest))) [
-            | true ↦ longest_literal (c ∷ rest) (body_at c rest)
-            | false ↦ longest_symbol language c rest
-          ]
-        ]
-      ]
-    ]
+longest language (c ∷ rest) = by_first language c rest (LongestRead (c ∷ rest))
+    (λ e. longest_word (c ∷ rest))
+    (λ e. longest_number (c ∷ rest) (c ∷ rest) _)
+    (λ e. longest_number (c ∷ rest) rest _)
+    (longest_literal (c ∷ rest) (body_at c rest))
+    (longest_symbol language c rest)
 
 pub word_longest : (language : Language) (text rest w : List ℕ) → token_at language text ≡ Some (word w, rest) → (text ≡ w ++ rest) × BeginsNot is_name rest
 unfolding LongestRead Longest
