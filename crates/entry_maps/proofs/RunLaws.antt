@@ -1,40 +1,46 @@
 -- The slots of a bucket are one run of the list.
-use Rattle.std.proofs.Common.{◌≡◌, ℕ, ◌+◌, ◌-◌, ◌<◌, ◌≤◌, ◌^◌, ◌↔◌, Bool, true, false, cond, not, List, [], ◌∷◌, ◌++◌, length, take, drop, slice_range, refl, sym, ap, ap₂, subst, ◌∙◌, arith, eqb-true, eq-eqb, Option, None, Some}
+use Rattle.std.proofs.Common.{◌≡◌, ℕ, ◌+◌, ◌<◌, ◌≤◌, ◌^◌, ◌↔◌, Bool, true, false, cond, not, List, [], ◌∷◌, ◌++◌, length, take, drop, refl, sym, ap, ap₂, subst, ◌∙◌, arith, eqb-true, eq-eqb, Option, None, Some}
 use mathlib.Core.Bool.{true≢false}
 use Rattle.std.specs.List.{All, AllWithin, filter, count_by}
 use Rattle.std.specs.FinMap as fin
 use Rattle.std.specs.FinMap.{get-retain_keys, slice_cmp-IsAntisymmetric, nat_cmp-IsAntisymmetric}
-use Rattle.std.proofs.lemmas.List.{take-append-drop, get_or-take, get_or-drop, length-take, length-drop, append-nil, drop-drop, take_all}
+use Rattle.std.proofs.lemmas.List.{take-append-drop, get_or-take, get_or-drop, length-take, length-drop, append-nil, drop-drop}
 use Rattle.std.proofs.lemmas.List.Elements.{All-head, All-tail, All-drop, All-filter, filter-append}
-use Rattle.std.proofs.lemmas.List.Kept.{IsNonDecreasingBy-filter}
+use Rattle.std.proofs.lemmas.List.Kept.{IsStrictlySortedBy-filter}
 use Rattle.std.proofs.lemmas.List.Filters.{sum_by-filter_both}
-use Rattle.bucket_ids.specs.Buckets.{Low, IsBucket, IsIn, has_key}
+use Rattle.bucket_ids.specs.Buckets.{Low, IsBucket, IsIn}
 use Rattle.bucket_ids.specs.Paths.{path, first_path, last_path}
 use Rattle.global_ids.specs.Keys.{key_of}
 use Rattle.entry_maps.specs.declared.entry.Entry.{Entry}
 use Rattle.entry_maps.specs.declared.slots.Slot.{Slot}
-use Rattle.entry_maps.specs.Slots.{entries_of, entry_in, Apart, IsPlaced, IsKept, has_document, lies_in}
-use Rattle.entry_maps.proofs.SlotLists.{same_id, same_id-is, get-entries_of, cond_none}
+use Rattle.entry_maps.specs.declared.chunks.Chunks.{Chunks}
+use Rattle.entry_maps.specs.declared.runs.Run.{Run}
+use Rattle.entry_maps.specs.Chunks.{flat, place}
+use Rattle.entry_maps.specs.Entries.{in_bucket}
+use Rattle.entry_maps.specs.Order.{slot_cmp}
+use Rattle.entry_maps.specs.Runs.{IsRun}
+use Rattle.entry_maps.specs.Slots.{entries_of, entry_in, IsPlaced, IsKept, has_document, lies_in, path_by}
+use Rattle.entry_maps.proofs.SlotLists.{same_id, same_id-is, get-entries_of}
 use Rattle.entry_maps.proofs.StoredLaws.{same_entries}
+use Rattle.entry_maps.proofs.ChunkLaws.{fails}
 
 -- what the order of paths says of a bucket
 abbrev pub RunLaw : Type 0
-RunLaw = (b : Low) (key : ℕ) → IsBucket b → key < 2 ^ 58 → IsIn b key ↔ ((first_path b ≤ path key) × (path key ≤ last_path b))
+RunLaw = (b : Low) (id : List ℕ) → IsBucket b → (in_bucket b id ≡ true) ↔ ((first_path b ≤ path_by id) × (path_by id ≤ last_path b))
 
-not_in : (b : Low) (s : Slot) (t : Bool) → has_key b (key_of s.entry.id) ≡ t → (IsIn b (key_of s.entry.id) → ⊥) → IsPlaced s → has_key b (key_of s.entry.id) ≡ false
-not_in b s true e out placed = absurd (out (placed.small, eqb-true _ _ e))
-not_in b s false e out placed = e
+pub run_law : ((b : Low) (key : ℕ) → IsBucket b → key < 2 ^ 58 → IsIn b key ↔ ((first_path b ≤ path key) × (path key ≤ last_path b))) → ((id : List ℕ) → key_of id < 2 ^ 58) → RunLaw
+run_law run small b id bucket =
+    let law = run b (key_of id) bucket (small id) in
+    (λ t. law.0 (small id, eqb-true _ _ t), λ lies. eq-eqb _ _ (law.1 lies).1)
 
-pub in_below : RunLaw → (b : Low) (s : Slot) → IsBucket b → IsPlaced s → s.path < first_path b → lies_in b s ≡ false
-in_below law b s bucket placed below = not_in b s _ refl (λ i. let p = ((law b (key_of s.entry.id) bucket placed.small).0 i).0 in omega (arith, p, below, placed.place)) placed
+in_below : RunLaw → (b : Low) (s : Slot) → IsBucket b → IsPlaced s → s.path < first_path b → lies_in b s ≡ false
+in_below law b s bucket placed below = fails _ (λ t. omega (arith, ((law b s.entry.id bucket).0 t).0, below, placed))
 
-pub in_past : RunLaw → (b : Low) (s : Slot) → IsBucket b → IsPlaced s → last_path b < s.path → lies_in b s ≡ false
-in_past law b s bucket placed past = not_in b s _ refl (λ i. let p = ((law b (key_of s.entry.id) bucket placed.small).0 i).1 in omega (arith, p, past, placed.place)) placed
+in_past : RunLaw → (b : Low) (s : Slot) → IsBucket b → IsPlaced s → last_path b < s.path → lies_in b s ≡ false
+in_past law b s bucket placed past = fails _ (λ t. omega (arith, ((law b s.entry.id bucket).0 t).1, past, placed))
 
-pub in_between : RunLaw → (b : Low) (s : Slot) → IsBucket b → IsPlaced s → first_path b ≤ s.path → s.path ≤ last_path b → lies_in b s ≡ true
-in_between law b s bucket placed low high =
-    let i = (law b (key_of s.entry.id) bucket placed.small).1 (subst (λ p. first_path b ≤ p) placed.place low, subst (λ p. p ≤ last_path b) placed.place high) in
-    eq-eqb _ _ i.1
+in_between : RunLaw → (b : Low) (s : Slot) → IsBucket b → IsPlaced s → first_path b ≤ s.path → s.path ≤ last_path b → lies_in b s ≡ true
+in_between law b s bucket placed low high = (law b s.entry.id bucket).1 (omega (arith, low, placed), omega (arith, high, placed))
 
 -- the elements of three parts of which the test passes the middle one
 module _ (p : Slot → Bool) where
@@ -101,38 +107,13 @@ module _ (t : List ℕ → Bool) where
       get-entries_of (filter (λ s. t s.entry.id) slots) q ∙ entry_in-filter slots q ∙ ap (λ o. cond (t q) o None) (sym (get-entries_of slots q))
       ∙ sym (get-retain_keys (entries_of slots) t q (λ x e. ap t (sym (slice_cmp-IsAntisymmetric nat_cmp-IsAntisymmetric q x e)))))
 
--- a filter leaves the order, and no document twice
+-- a filter leaves the order
 module _ (p : Slot → Bool) where
-  pub none-filter : (slots : List Slot) (q : List ℕ) → entry_in slots q ≡ None → entry_in (filter p slots) q ≡ None
-  none-filter [] q none = refl
-  none-filter (s ∷ slots) q none =
-      let h = cond_none (same_id q s.entry.id) s.entry (entry_in slots q) none in
-      let rest = none-filter slots q h.1 in
-      elim (p s) as (λ b. entry_in (cond b (s ∷ filter p slots) (filter p slots)) q ≡ None) [
-        | true ↦ ap (λ b. cond b (Some s.entry) (entry_in (filter p slots) q)) h.0 ∙ rest
-        | false ↦ rest
-      ]
-
-  pub Apart-filter : (slots : List Slot) → Apart slots → Apart (filter p slots)
-  Apart-filter [] apart = tt
-  Apart-filter (s ∷ slots) apart =
-      elim (p s) as (λ b. Apart (cond b (s ∷ filter p slots) (filter p slots))) [
-        | true ↦ (none-filter slots s.entry.id apart.0, Apart-filter slots apart.1)
-        | false ↦ Apart-filter slots apart.1
-      ]
-
   pub IsKept-filter : (slots : List Slot) → IsKept slots → IsKept (filter p slots)
-  IsKept-filter slots kept = record {
-    placed = All-filter p IsPlaced slots kept.placed;
-    rising = IsNonDecreasingBy-filter (λ s. s.path) p slots kept.rising;
-    apart = Apart-filter slots kept.apart;
-  }
+  IsKept-filter slots kept = record { placed = All-filter p IsPlaced slots kept.placed; rising = IsStrictlySortedBy-filter slot_cmp p slots kept.rising }
 
   pub counts-filter : (slots : List Slot) → count_by has_document (filter p slots) + count_by has_document (filter (λ s. not (p s)) slots) ≡ count_by has_document slots
   counts-filter slots = sum_by-filter_both p (λ s. not (p s)) (λ s. refl) (λ s. cond (has_document s) 1 0) slots
-
-pub slice_range_is : (xs : List Slot) (i n : ℕ) → slice_range xs i (i + n) ≡ take n (drop i xs)
-slice_range_is xs i n = ap (λ k. take k (drop i xs)) (omega arith)
 
 -- between the first slot that lies no lower and the last that lies no higher are the bucket's
 module _ (law : RunLaw) (b : Low) (xs : List Slot) (i n : ℕ) (bucket : IsBucket b) (placed : All IsPlaced xs) (within : i ≤ length xs) (short : n ≤ length (drop i xs))
@@ -153,8 +134,8 @@ module _ (law : RunLaw) (b : Low) (xs : List Slot) (i n : ℕ) (bucket : IsBucke
   end : All (λ s. lies_in b s ≡ false) (drop n (drop i xs))
   end = rest_all (λ s. last_path b < s.path) (λ s. lies_in b s ≡ false) (drop i xs) rest (λ s p h. in_past law b s bucket p h) n past
 
-  pub run_inside : slice_range xs i (i + n) ≡ filter (lies_in b) xs
-  run_inside = slice_range_is xs i n ∙ middle_passes (lies_in b) xs i n front middle end
+  pub run_inside : take n (drop i xs) ≡ filter (lies_in b) xs
+  run_inside = middle_passes (lies_in b) xs i n front middle end
 
   turned : (t : Bool) (P : List Slot) → All (λ s. lies_in b s ≡ t) P → All (λ s. not (lies_in b s) ≡ not t) P
   turned t P h k d lt = ap not (h k d lt)
@@ -164,5 +145,24 @@ module _ (law : RunLaw) (b : Low) (xs : List Slot) (i n : ℕ) (bucket : IsBucke
       ap (λ l. take i xs ++ l) (sym (drop-drop n i xs))
       ∙ ends_pass (λ s. not (lies_in b s)) xs i n (turned false _ front) (turned true _ middle) (turned false _ end)
 
-pub range_to_end : (xs : List Slot) (i : ℕ) → slice_range xs i (length xs) ≡ drop i xs
-range_to_end xs i = take_all (length xs - i) (drop i xs) (omega (arith, length-drop i xs))
+-- the slots of a bucket's run are the bucket's, and the others are not
+module _ (law : RunLaw) (b : Low) (c : Chunks) (run : Run) (bucket : IsBucket b) (placed : All IsPlaced (flat c)) (r : IsRun c (first_path b) (last_path b) run) where
+  abbrev i : ℕ
+  i = place c run.from
+
+  short : run.entries ≤ length (drop i (flat c))
+  short = omega (arith, length-drop i (flat c), r.within, r.many)
+
+  high : AllWithin (λ s. s.path ≤ last_path b) (drop i (flat c)) 0 run.entries
+  high k d from to = subst (λ (s : Slot). s.path ≤ last_path b) (sym (get_or-drop i (flat c) k d)) (r.high (i + k) d (omega arith) (omega (arith, to, r.many)))
+
+  past : AllWithin (λ s. last_path b < s.path) (drop i (flat c)) run.entries (length (drop i (flat c)))
+  past k d from to = subst (λ (s : Slot). last_path b < s.path) (sym (get_or-drop i (flat c) k d)) (r.past (i + k) d (omega (arith, from, r.many)) (omega (arith, to, length-drop i (flat c))))
+
+  pub inside : take run.entries (drop i (flat c)) ≡ filter (lies_in b) (flat c)
+  inside = run_inside law b (flat c) i run.entries bucket placed (omega (arith, r.many, r.within)) short r.below r.low high past
+
+  pub outside : take i (flat c) ++ drop (place c run.to) (flat c) ≡ filter (λ s. not (lies_in b s)) (flat c)
+  outside =
+      ap (λ k. take i (flat c) ++ drop k (flat c)) (sym r.many)
+      ∙ run_outside law b (flat c) i run.entries bucket placed (omega (arith, r.many, r.within)) short r.below r.low high past

@@ -1,3 +1,9 @@
+-- `Entries` says what a map of entries has, and `EntryCodes` that it is data; a reader needs no more. How
+-- slots lie in it say `Order`, `Slots` and `Chunks`, and `Merging` and `Runs` what a merge and a bucket take of them.
 pub mod Entries
 pub mod EntryCodes
+pub mod Order
 pub mod Slots
+pub mod Chunks
+pub mod Merging
+pub mod Runs

@@ -1,7 +1,7 @@
--- Slots: entries in the order of the paths of their documents' keys.
-use Rattle.std.specs.Prelude.{◌≡◌, ℕ, ◌<◌, ◌^◌, Bool, List, [], ◌∷◌, map, Option, None, is_some, length, slice_index_or}
+-- Slots: entries in the order of the paths of their documents' keys, and of their ids where paths are one.
+use Rattle.std.specs.Prelude.{◌≡◌, ℕ, ◌<◌, ◌≤◌, ◌^◌, Bool, List, [], ◌∷◌, map, Option, None, is_some, length, slice_index_or}
 use Rattle.std.specs.List.{All, count_by}
-use Rattle.std.specs.List.Sorted.{IsNonDecreasingBy}
+use Rattle.std.specs.List.Sorted.{IsStrictlySortedBy}
 use Rattle.std.specs.FinMap as fin
 use Rattle.bucket_ids.specs.Buckets.{Low}
 use Rattle.bucket_ids.specs.Paths.{path}
@@ -9,8 +9,10 @@ use Rattle.global_ids.specs.Keys.{key_of}
 use Rattle.entry_maps.specs.declared.entry.Entry.{Entry}
 use Rattle.entry_maps.specs.declared.slots.Slot.{Slot}
 use Rattle.entry_maps.specs.declared.stored.Stored.{Stored}
-use Rattle.entry_maps.specs.Entries.{is_newer, with_entry, in_bucket}
+use Rattle.entry_maps.specs.Entries.{in_bucket}
 use Rattle.entry_maps.specs.EntryCodes.{Entries, id_cmp}
+use Rattle.entry_maps.specs.Order.{slot_cmp}
+use Rattle.entry_maps.specs.Chunks.{flat, AreSome}
 
 -- each slot's id with its entry
 abbrev pub pairs : List Slot → List (List ℕ × Entry)
@@ -34,15 +36,13 @@ abbrev pub path_by : List ℕ → ℕ
 path_by id = path (key_of id)
 
 -- a slot stands at the path of its document's key
-pub record IsPlaced (s : Slot) : Type 0 where
-  pub small : key_of s.entry.id < 2 ^ 58
-  pub place : s.path ≡ path_by s.entry.id
+abbrev pub IsPlaced : Slot → Type 0
+IsPlaced s = s.path ≡ path_by s.entry.id
 
--- one slot a document, in the order of paths
+-- each slot at its place, one slot a document
 pub record IsKept (slots : List Slot) : Type 0 where
   pub placed : All IsPlaced slots
-  pub rising : IsNonDecreasingBy (λ s. s.path) slots
-  pub apart : Apart slots
+  pub rising : IsStrictlySortedBy slot_cmp slots
 
 -- the slot holds a document, not a remove
 abbrev pub has_document : Slot → Bool
@@ -52,20 +52,23 @@ has_document s = is_some s.entry.body
 abbrev pub lies_in : Low → Slot → Bool
 lies_in bucket s = in_bucket bucket s.entry.id
 
--- the slot's entry is newer than what a map has
-abbrev pub newer_in : Entries → Slot → Bool
-newer_in m s = is_newer s.entry (fin.get m s.entry.id)
-
--- the map after a slot's entry came
-abbrev pub with_slot : Entries → Slot → Entries
-with_slot m s = with_entry m s.entry
-
 -- the slot at a place is the document's
 pub record IsSlotOf (slots : List Slot) (id : List ℕ) (at : ℕ) : Type 0 where
   pub within : at < length slots
   pub document : (d : Slot) → (slice_index_or slots at d).entry.id ≡ id
 
--- the slots are kept, and their documents counted
+-- the slots of all rows
+abbrev pub slots_in : Stored → List Slot
+slots_in m = flat m.list
+
+-- no row is empty, and the slots and their documents are counted
+pub record IsCounted (m : Stored) : Type 0 where
+  pub some : AreSome m.list
+  pub many : m.entries ≡ length (slots_in m)
+  pub few : m.entries ≤ 2 ^ 62
+  pub documents : m.documents ≡ count_by has_document (slots_in m)
+
+-- the slots are kept and counted
 pub record IsStored (m : Stored) : Type 0 where
-  pub kept : IsKept m.list.items
-  pub counted : m.documents ≡ count_by has_document m.list.items
+  pub kept : IsKept (slots_in m)
+  pub counted : IsCounted m

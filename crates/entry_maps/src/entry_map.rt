@@ -1,12 +1,14 @@
 ghost use Rattle.std.specs.Prelude.{◌≡◌, ℕ, List, IfOk, OnOk, OnErr, not};
 ghost use Rattle.std.specs.Option.{option_copied};
 ghost use Rattle.std.specs.FinMap as fin;
+ghost use Rattle.global_ids.specs.Keys.{key_of};
 ghost use Rattle.entry_maps.specs.Entries.{is_newer, with_entry, newer_of, in_bucket, documents_of};
 
 use crate::entry::Entry;
-use crate::stored::{Stored, slot_of};
-use bucket_ids::Bucket;
+use crate::stored::Stored;
+use bucket_ids::{Bucket, path_of};
 use document_ids::DocId;
+use global_ids::Gid;
 use std::alloc::Global;
 use std::marker::Model;
 use value_lists::NoMemory;
@@ -20,15 +22,23 @@ pub struct EntryMap {
 
 impl Model for EntryMap {
     ghost use Rattle.entry_maps.specs.EntryCodes.{Entries, entries_code};
-    ghost use Rattle.entry_maps.specs.Slots.{entries_of, IsStored};
+    ghost use Rattle.entry_maps.specs.Slots.{slots_in, entries_of, IsStored};
 
     ghost Value = { Entries };
 
     ghost coded = { entries_code };
 
-    ghost view = { λ m. entries_of m.stored.list.items };
+    ghost view = { λ m. entries_of (slots_in m.stored) };
 
     ghost invariant = { λ m. IsStored m.stored };
+}
+
+/// The key of a document's id.
+#[tactic(auto, unfolding(global_ids::specs::Keys::key_of))]
+fn key_of(id: &DocId) -> u64
+    ensures { result ≡ key_of id.now }
+{
+    Gid::of(id).key()
 }
 
 impl EntryMap {
@@ -37,10 +47,7 @@ impl EntryMap {
         ensures { result ≡ fin.empty }
     {
         EntryMap {
-            stored: Stored {
-                list: Vec::new(alloc),
-                documents: 0,
-            },
+            stored: Stored::new(alloc),
             alloc,
         }
     }
@@ -49,14 +56,22 @@ impl EntryMap {
     pub fn get(&self, id: &DocId) -> Option<&Entry>
         ensures { option_copied result ≡ fin.get self.now id.now }
     {
-        self.stored.get(id)
+        self.get_at(key_of(id), id)
+    }
+
+    /// The same, with the key of the document's id beside it, so that nothing is digested.
+    pub fn get_at(&self, key: u64, id: &DocId) -> Option<&Entry>
+        requires { key ≡ key_of id.now }
+        ensures { option_copied result ≡ fin.get self.now id.now }
+    {
+        self.stored.get(path_of(key), id)
     }
 
     /// How many entries there are, removes among them.
     pub fn entries(&self) -> u64
         ensures { result ≡ fin.len self.now }
     {
-        self.stored.list.len() as u64
+        self.stored.entries as u64
     }
 
     /// How many documents there are: the entries that aren't removes.
@@ -73,8 +88,17 @@ impl EntryMap {
         ensures ok { OnOk result (self.new ≡ with_entry self.old entry) }
         ensures err { OnErr result (self.new ≡ self.old) }
     {
-        let slot = slot_of(self.alloc, entry)?;
-        self.stored.take(slot)
+        self.put_at(key_of(&entry.id), entry)
+    }
+
+    /// The same, with the key of the entry's id beside it, so that nothing is digested.
+    pub fn put_at(&mut self, key: u64, entry: Entry) -> Result<bool, NoMemory>
+        requires { key ≡ key_of entry.id }
+        ensures taken { IfOk result (λ taken. taken ≡ is_newer entry (fin.get self.old entry.id)) }
+        ensures ok { OnOk result (self.new ≡ with_entry self.old entry) }
+        ensures err { OnErr result (self.new ≡ self.old) }
+    {
+        self.stored.put(self.alloc, path_of(key), entry)
     }
 
     /// Takes, of each document, the other map's entry where that is newer. The only error is want

@@ -1,21 +1,28 @@
 //! Entries of documents, and maps in which the newest entry of a document wins.
 //!
 //! An `Entry` is a stamp with a document or with a remove. A contract sees an `EntryMap` as the finite
-//! map of std's from the text of an id to its entry (`Entries`). Inside, entries lie in the order of
-//! their keys' bits turned round, so that each bucket is one run (`specs/Slots.antt`).
+//! map of std's from the text of an id to its entry (`Entries`). Inside, entries are shared and lie in
+//! the order of their keys' bits turned round, so that each bucket is one run (`specs/Slots.antt`), in
+//! rows of some hundreds (`specs/Chunks.antt`).
 //!
 //! ```text
 //! let mut map = EntryMap::new(alloc);
 //! map.put(entry)?;                    // false where an entry of the same or a greater stamp was there
 //! map.get(&id)                        // the newest
+//! map.get_at(key, &id)                // the same, where the id's key is at hand
 //! map.within(Bucket::new(4, 0))?      // the entries of one bucket
 //! map.merge(&other)?;                 // of each document the newer entry
 //! ```
 #![tactic(auto)]
 
+mod chunks;
+mod cuts;
 pub mod document;
+mod edits;
 pub mod entry;
 pub mod entry_map;
+mod merging;
+mod runs;
 mod slots;
 mod stored;
 

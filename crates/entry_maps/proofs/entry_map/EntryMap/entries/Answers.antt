@@ -1,8 +1,10 @@
-use Rattle.std.proofs.Common.{◌≡◌, ◌∙◌, sym, length, rules}
+use Rattle.std.proofs.Common.{◌∙◌, sym}
+use Rattle.entry_maps.specs.Slots.{slots_in}
 use Rattle.entry_maps.proofs.CountLaws.{len_all}
+use Rattle.entry_maps.proofs.OrderLaws.{apart_of}
 use Rattle.entry_maps.proofs.entry_map.EntryMap.entries.Goals as goal
 
 pub returns : goal.returns
 returns c =
-    let n : c.len.result ≡ length c.self.inside.stored.list.items = search rules in
-    rw (← c.self.view_is) (n ∙ sym (len_all c.self.inside.stored.list.items c.self.invariant.kept.apart))
+    let slots = slots_in c.self.inside.stored in
+    rw (← c.self.view_is) (c.self.invariant.counted.many ∙ sym (len_all slots (apart_of slots c.self.invariant.kept)))
