@@ -1,0 +1,275 @@
+ghost use Rattle.std.specs.Prelude.{◌≡◌, true, Ok, Err, Some, option_map, if◌then◌else◌};
+ghost use Rattle.std.specs.List.{list_all};
+ghost use Rattle.serde_json.specs.Read.{read};
+ghost use Rattle.serde_json.specs.View.{view};
+ghost use Rattle.doc_types.specs.Schemas.{is_object};
+ghost use Rattle.input_lines.specs.Meaning.{is_blank, is_blank_line, id_said, verb_said, data_said, json_said, text_said, line_said, Gives, cause_of};
+ghost use Rattle.input_lines.specs.Tests.{has_type};
+ghost use Rattle.input_lines.specs.declared.command.Cause.TheVariants as cause;
+ghost use Rattle.input_lines.specs.declared.command.Command.TheVariants as command;
+ghost use Rattle.input_lines.specs.declared.command.LineFault.TheVariants as line_fault;
+ghost use Rattle.input_lines.specs.declared.keys.Verb.TheVariants as verb;
+
+use crate::command::{Cause, Command, LineFault};
+use crate::keys::Verb;
+use crate::shape::{has_right_keys, id_in, is_built, verb_of};
+use doc_types::Schema;
+use doc_updates::Update;
+use document_ids::DocId;
+use documents::{Document, DocumentFault};
+use messages::{OpKind, Operation};
+use serde_json::Value;
+use std::alloc::Global;
+use value_lists::TryCopy;
+
+/// The most bytes of a line, without its line feed.
+pub const LONGEST: usize = 65_536;
+
+fn is_blank_byte(byte: u8) -> bool
+    ensures { result ≡ is_blank byte }
+{
+    byte == b' ' || byte == b'\t' || byte == b'\r'
+}
+
+fn all_blank(bytes: &[u8]) -> bool
+    ensures { result ≡ list_all is_blank bytes.now }
+{
+    bytes.iter().all(|byte| is_blank_byte(*byte))
+}
+
+#[tactic(auto, unfolding(crate::specs::Meaning::is_blank_line))]
+fn is_blank_line(bytes: &[u8]) -> bool
+    ensures { result ≡ is_blank_line bytes.now }
+{
+    bytes.len() <= LONGEST && all_blank(bytes)
+}
+
+/// The cause that a fault of the fields is.
+fn cause_of(fault: DocumentFault) -> LineFault
+    ensures { result ≡ cause_of fault }
+{
+    let cause = match fault {
+        DocumentFault::UnknownType => Cause::Type,
+        DocumentFault::UnknownField { .. } => Cause::Field,
+        DocumentFault::WrongValue { .. } => Cause::Value,
+        DocumentFault::TooLarge { .. } => Cause::Size,
+        DocumentFault::NoMemory => return LineFault::NoMemory,
+    };
+    LineFault::BadLine { cause }
+}
+
+/// The cause where `fields` is no object.
+fn no_object(id: &DocId, schema: &Schema) -> Cause
+    ensures { result ≡ (if has_type schema.now id.now then cause.Value else cause.Type) }
+{
+    if schema.has_type(id.type_name()) {
+        Cause::Value
+    } else {
+        Cause::Type
+    }
+}
+
+/// A bad line of this cause.
+fn bad(cause: Cause) -> LineFault
+    ensures { result ≡ line_fault.BadLine cause }
+{
+    LineFault::BadLine { cause }
+}
+
+/// An operation on a document.
+fn feed(id: DocId, kind: OpKind) -> Command
+    ensures { result ≡ command.Feed (record { id = id; kind = kind }) }
+{
+    Command::Feed {
+        operation: Operation { id, kind },
+    }
+}
+
+/// The put of a document with the fields that an object says.
+fn put_object(
+    alloc: Global,
+    id: DocId,
+    fields: &Value,
+    schema: &Schema,
+) -> Result<Command, LineFault>
+    requires { is_object (view fields.now) ≡ true }
+    ensures { Gives result (id_said schema.now verb.Put id (Some (view fields.now))) }
+{
+    match Document::from_json(alloc, id.copy(alloc)?, fields, schema) {
+        Ok(document) => Ok(feed(id, OpKind::Put(document))),
+        Err(fault) => Err(cause_of(fault)),
+    }
+}
+
+/// The update of a document by what an object says.
+fn update_object(
+    alloc: Global,
+    id: DocId,
+    fields: &Value,
+    schema: &Schema,
+) -> Result<Command, LineFault>
+    requires { is_object (view fields.now) ≡ true }
+    ensures { Gives result (id_said schema.now verb.Update id (Some (view fields.now))) }
+{
+    match Update::from_json(alloc, &id, fields, schema) {
+        Ok(update) => Ok(feed(id, OpKind::Update(update))),
+        Err(fault) => Err(cause_of(fault)),
+    }
+}
+
+/// The put of a document with these fields.
+fn put_value(
+    alloc: Global,
+    id: DocId,
+    fields: &Value,
+    schema: &Schema,
+) -> Result<Command, LineFault>
+    ensures { Gives result (id_said schema.now verb.Put id (Some (view fields.now))) }
+{
+    if !fields.is_object() {
+        return Err(bad(no_object(&id, schema)));
+    }
+    put_object(alloc, id, fields, schema)
+}
+
+/// The update of a document by these fields.
+fn update_value(
+    alloc: Global,
+    id: DocId,
+    fields: &Value,
+    schema: &Schema,
+) -> Result<Command, LineFault>
+    ensures { Gives result (id_said schema.now verb.Update id (Some (view fields.now))) }
+{
+    if !fields.is_object() {
+        return Err(bad(no_object(&id, schema)));
+    }
+    update_object(alloc, id, fields, schema)
+}
+
+/// The put of a document, where there are fields.
+fn put_command(
+    alloc: Global,
+    id: DocId,
+    fields: Option<&Value>,
+    schema: &Schema,
+) -> Result<Command, LineFault>
+    ensures { Gives result (id_said schema.now verb.Put id (option_map (λ v. view v.now) fields.entry)) }
+{
+    match fields {
+        Some(fields) => put_value(alloc, id, fields, schema),
+        None => Err(bad(no_object(&id, schema))),
+    }
+}
+
+/// The update of a document, where there are fields.
+fn update_command(
+    alloc: Global,
+    id: DocId,
+    fields: Option<&Value>,
+    schema: &Schema,
+) -> Result<Command, LineFault>
+    ensures { Gives result (id_said schema.now verb.Update id (option_map (λ v. view v.now) fields.entry)) }
+{
+    match fields {
+        Some(fields) => update_value(alloc, id, fields, schema),
+        None => Err(bad(no_object(&id, schema))),
+    }
+}
+
+/// What is asked of a document of this id.
+fn id_command(
+    alloc: Global,
+    verb: Verb,
+    id: DocId,
+    fields: Option<&Value>,
+    schema: &Schema,
+) -> Result<Command, LineFault>
+    ensures { Gives result (id_said schema.now verb id (option_map (λ v. view v.now) fields.entry)) }
+{
+    match verb {
+        Verb::Put => put_command(alloc, id, fields, schema),
+        Verb::Update => update_command(alloc, id, fields, schema),
+        Verb::Remove => typed(id, OpKind::Remove, schema),
+        Verb::Get | Verb::Later => typed(id, OpKind::Get, schema),
+    }
+}
+
+/// An operation without fields on a document of a type of the schema.
+fn typed(id: DocId, kind: OpKind, schema: &Schema) -> Result<Command, LineFault>
+    ensures { Gives result (if has_type schema.now id then Ok (command.Feed (record { id = id; kind = kind })) else Err cause.Type) }
+{
+    if !schema.has_type(id.type_name()) {
+        return Err(bad(Cause::Type));
+    }
+    Ok(feed(id, kind))
+}
+
+/// What a line of a verb asks for.
+fn verb_command(
+    alloc: Global,
+    verb: Verb,
+    line: &Value,
+    schema: &Schema,
+) -> Result<Command, LineFault>
+    ensures { Gives result (verb_said schema.now (view line.now) (Some verb)) }
+{
+    if !is_built(verb, line) {
+        return Err(bad(Cause::Unbuilt));
+    }
+    if !has_right_keys(verb, line) {
+        return Err(bad(Cause::Key));
+    }
+    match id_in(alloc, verb, line)? {
+        Some(id) => id_command(alloc, verb, id, line.get("fields"), schema),
+        None => Err(bad(Cause::Id)),
+    }
+}
+
+/// What a JSON value asks for.
+fn data_command(alloc: Global, line: &Value, schema: &Schema) -> Result<Command, LineFault>
+    ensures { Gives result (data_said schema.now (view line.now)) }
+{
+    match verb_of(line) {
+        Some(verb) => verb_command(alloc, verb, line, schema),
+        None => Err(bad(Cause::Object)),
+    }
+}
+
+/// What a text asks for.
+fn json_command(alloc: Global, text: &str, schema: &Schema) -> Result<Command, LineFault>
+    ensures { Gives result (json_said schema.now (read text.now)) }
+{
+    match Value::from_str(alloc, text) {
+        Ok(line) => data_command(alloc, &line, schema),
+        Err(error) => {
+            if error.is_memory() {
+                Err(LineFault::NoMemory)
+            } else {
+                Err(bad(Cause::Json))
+            }
+        }
+    }
+}
+
+/// What bytes ask for.
+fn text_command(alloc: Global, bytes: &[u8], schema: &Schema) -> Result<Command, LineFault>
+    ensures { Gives result (text_said schema.now bytes.now) }
+{
+    match std::str::from_utf8(bytes) {
+        Ok(text) => json_command(alloc, text, schema),
+        Err(_) => Err(bad(Cause::Json)),
+    }
+}
+
+/// What a line asks for, from its bytes without the line feed; a bad line has the first cause that
+/// holds of it.
+#[tactic(auto, unfolding(crate::specs::Meaning::line_said))]
+pub fn read_line(alloc: Global, bytes: &[u8], schema: &Schema) -> Result<Command, LineFault>
+    ensures { Gives result (line_said schema.now bytes.now) }
+{
+    if is_blank_line(bytes) {
+        return Ok(Command::Blank);
+    }
+    text_command(alloc, bytes, schema)
+}
