@@ -16,15 +16,16 @@ use Rattle.lane_laws.proofs.Lookups.{or_else-first, or_else-second, or_else-case
 use Rattle.lane_laws.proofs.OrderLaws.{fresh_begun, fresh_wrote, fresh_closed}
 use Rattle.lane_laws.proofs.StoreLaws.{store-entry_at}
 use Rattle.cell_session.specs.LaneState.{IsClosed, IsLane}
+use Rattle.cell_session.specs.declared.setting.Setting.{Setting}
 use Rattle.cell_session.specs.LineEvents.{next_stamp, write_events, read_events, body_outcome, seen_outcome}
 
 -- ---- legal after the events of a line
 
-begun_first : (J : Journal) (k v : ℕ) (id : List ℕ) (stamp : Option Stamp) → events_of k J ≡ [] → begun_in k (event.Begun k 0 v id stamp ∷ J) ≡ Some (record { version = v; id = id; stamp = stamp })
-begun_first J k v id stamp fresh = or_else-second (begun_in k J) _ (fresh_begun J k fresh) ∙ only_if-true (k == k) _ (line_same k)
+pub begun_first : (J : Journal) (k d v : ℕ) (id : List ℕ) (stamp : Option Stamp) → events_of k J ≡ [] → begun_in k (event.Begun k d v id stamp ∷ J) ≡ Some (record { distributor = d; version = v; id = id; stamp = stamp })
+begun_first J k d v id stamp fresh = or_else-second (begun_in k J) _ (fresh_begun J k fresh) ∙ only_if-true (k == k) _ (line_same k)
 
-may_begin : (J : Journal) (k : ℕ) (id : List ℕ) (s : Stamp) → IsClosed J → events_of k J ≡ [] → s ≡ next_stamp J → MayBegin J k 1 id (Some s)
-may_begin J k id s closed fresh is = record {
+may_begin : (s : Setting) (J : Journal) (k : ℕ) (id : List ℕ) (t : Stamp) → IsClosed J → events_of k J ≡ [] → t ≡ next_stamp s.version J → MayBegin J k s.version id (Some t)
+may_begin s J k id t closed fresh is = record {
   fresh = fresh_begun J k fresh;
   unwritten = fresh_wrote J k fresh;
   unclosed = fresh_closed J k fresh;
@@ -32,11 +33,11 @@ may_begin J k id s closed fresh is = record {
   next = (ap (λ (x : Stamp). x.version) is, ap (λ (x : Stamp). x.count) is);
 }
 
-pub legal_write : (J : Journal) (k : ℕ) (e : Entry) → IsLegal J → IsClosed J → events_of k J ≡ [] → e.stamp ≡ next_stamp J → IsLegal (write_events k e ++ J)
-legal_write J k e legal closed fresh is =
-    let begun = event.Begun k 0 1 e.id (Some e.stamp) in
-    let beginning : Beginning = record { version = 1; id = e.id; stamp = Some e.stamp } in
-    let first : begun_in k (begun ∷ J) ≡ Some beginning = begun_first J k 1 e.id (Some e.stamp) fresh in
+pub legal_write : (s : Setting) (J : Journal) (k : ℕ) (e : Entry) → IsLegal J → IsClosed J → events_of k J ≡ [] → e.stamp ≡ next_stamp s.version J → IsLegal (write_events s k e ++ J)
+legal_write s J k e legal closed fresh is =
+    let begun = event.Begun k s.distributor s.version e.id (Some e.stamp) in
+    let beginning : Beginning = record { distributor = s.distributor; version = s.version; id = e.id; stamp = Some e.stamp } in
+    let first : begun_in k (begun ∷ J) ≡ Some beginning = begun_first J k s.distributor s.version e.id (Some e.stamp) fresh in
     let write : MayWrite (begun ∷ J) k e = record {
       beginning = beginning;
       begun = first;
@@ -51,10 +52,10 @@ legal_write J k e legal closed fresh is =
       unclosed = fresh_closed J k fresh;
       ends = (e, (or_else-second (wrote_in k J) _ (fresh_wrote J k fresh) ∙ only_if-true (k == k) e (line_same k), refl));
     } in
-    (((legal, may_begin J k e.id e.stamp closed fresh is), write), close)
+    (((legal, may_begin s J k e.id e.stamp closed fresh is), write), close)
 
-may_read : (J : Journal) (k : ℕ) (id : List ℕ) → IsClosed J → events_of k J ≡ [] → MayBegin J k 1 id None
-may_read J k id closed fresh = record {
+may_read : (J : Journal) (k v : ℕ) (id : List ℕ) → IsClosed J → events_of k J ≡ [] → MayBegin J k v id None
+may_read J k v id closed fresh = record {
   fresh = fresh_begun J k fresh;
   unwritten = fresh_wrote J k fresh;
   unclosed = fresh_closed J k fresh;
@@ -75,16 +76,16 @@ begun_ends J k d v id stamp (outcome.Acked s) h = h
 begun_ends J k d v id stamp (outcome.Found s) h = h
 begun_ends J k d v id stamp (outcome.Missing seen) h = h
 
-pub legal_read : (J : Journal) (k : ℕ) (id : List ℕ) → IsLegal J → IsClosed J → events_of k J ≡ [] → IsLegal (read_events k id (seen_outcome (fin.get (store_of J) id)) ++ J)
-legal_read J k id legal closed fresh =
-    let beginning : Beginning = record { version = 1; id = id; stamp = None } in
-    let close : MayClose (event.Begun k 0 1 id None ∷ J) k (seen_outcome (fin.get (store_of J) id)) = record {
+pub legal_read : (s : Setting) (J : Journal) (k : ℕ) (id : List ℕ) → IsLegal J → IsClosed J → events_of k J ≡ [] → IsLegal (read_events s k id (seen_outcome (fin.get (store_of J) id)) ++ J)
+legal_read s J k id legal closed fresh =
+    let beginning : Beginning = record { distributor = s.distributor; version = s.version; id = id; stamp = None } in
+    let close : MayClose (event.Begun k s.distributor s.version id None ∷ J) k (seen_outcome (fin.get (store_of J) id)) = record {
       beginning = beginning;
-      begun = begun_first J k 1 id None fresh;
+      begun = begun_first J k s.distributor s.version id None fresh;
       unclosed = fresh_closed J k fresh;
-      ends = begun_ends J k 0 1 id None (seen_outcome (fin.get (store_of J) id)) (seen_ends J k id (fin.get (store_of J) id) legal refl (fresh_wrote J k fresh));
+      ends = begun_ends J k s.distributor s.version id None (seen_outcome (fin.get (store_of J) id)) (seen_ends J k id (fin.get (store_of J) id) legal refl (fresh_wrote J k fresh));
     } in
-    ((legal, may_read J k id closed fresh), close)
+    ((legal, may_read J k s.version id closed fresh), close)
 
 -- ---- each line that began is closed
 
@@ -102,30 +103,30 @@ closed_more J k line ending b c closed h = elim (or_else-cases (begun_in line J)
     found_either None p x h = is_some-of p x h
     found_either (Some y) p x h = refl
 
-pub closed_write : (J : Journal) (k : ℕ) (e : Entry) → IsClosed J → IsClosed (write_events k e ++ J)
-closed_write J k e closed line b h = closed_more J k line (outcome.Acked e.stamp) (record { version = 1; id = e.id; stamp = Some e.stamp }) b closed h
+pub closed_write : (s : Setting) (J : Journal) (k : ℕ) (e : Entry) → IsClosed J → IsClosed (write_events s k e ++ J)
+closed_write s J k e closed line b h = closed_more J k line (outcome.Acked e.stamp) (record { distributor = s.distributor; version = s.version; id = e.id; stamp = Some e.stamp }) b closed h
 
-pub closed_read : (J : Journal) (k : ℕ) (id : List ℕ) (ending : Outcome) → IsClosed J → IsClosed (read_events k id ending ++ J)
-closed_read J k id ending closed line b h = closed_more J k line ending (record { version = 1; id = id; stamp = None }) b closed h
+pub closed_read : (s : Setting) (J : Journal) (k : ℕ) (id : List ℕ) (ending : Outcome) → IsClosed J → IsClosed (read_events s k id ending ++ J)
+closed_read s J k id ending closed line b h = closed_more J k line ending (record { distributor = s.distributor; version = s.version; id = id; stamp = None }) b closed h
 
 -- ---- the lane
 
-pub lane_written : (J new : Journal) (store after : Entries) (stamps k : ℕ) (e : Entry) → IsLane J store stamps → events_of k J ≡ [] → e.stamp ≡ next_stamp J
-    → new ≡ write_events k e ++ J → (after ≡ cond (is_newer e (fin.get store e.id)) (fin.insert store e.id e) store) → IsLane new after (stamps + 1)
-lane_written J new store after stamps k e lane fresh is grown put =
+pub lane_written : (s : Setting) (J new : Journal) (store after : Entries) (stamps k : ℕ) (e : Entry) → IsLane J store stamps → events_of k J ≡ [] → e.stamp ≡ next_stamp s.version J
+    → new ≡ write_events s k e ++ J → (after ≡ cond (is_newer e (fin.get store e.id)) (fin.insert store e.id e) store) → IsLane new after (stamps + 1)
+lane_written s J new store after stamps k e lane fresh is grown put =
     subst (λ j. IsLane j after (stamps + 1)) (sym grown) (record {
-      legal = legal_write J k e lane.legal lane.closed fresh is;
-      closed = closed_write J k e lane.closed;
-      replays = put ∙ ap (λ s. with_entry s e) lane.replays;
+      legal = legal_write s J k e lane.legal lane.closed fresh is;
+      closed = closed_write s J k e lane.closed;
+      replays = put ∙ ap (λ m. with_entry m e) lane.replays;
       counted = ap (λ n. n + 1) lane.counted;
     })
 
-pub lane_read : (J new : Journal) (store : Entries) (stamps k : ℕ) (id : List ℕ) → IsLane J store stamps → events_of k J ≡ []
-    → new ≡ read_events k id (seen_outcome (fin.get (store_of J) id)) ++ J → IsLane new store stamps
-lane_read J new store stamps k id lane fresh grown =
+pub lane_read : (s : Setting) (J new : Journal) (store : Entries) (stamps k : ℕ) (id : List ℕ) → IsLane J store stamps → events_of k J ≡ []
+    → new ≡ read_events s k id (seen_outcome (fin.get (store_of J) id)) ++ J → IsLane new store stamps
+lane_read s J new store stamps k id lane fresh grown =
     subst (λ j. IsLane j store stamps) (sym grown) (record {
-      legal = legal_read J k id lane.legal lane.closed fresh;
-      closed = closed_read J k id (seen_outcome (fin.get (store_of J) id)) lane.closed;
+      legal = legal_read s J k id lane.legal lane.closed fresh;
+      closed = closed_read s J k id (seen_outcome (fin.get (store_of J) id)) lane.closed;
       replays = lane.replays;
       counted = lane.counted;
     })

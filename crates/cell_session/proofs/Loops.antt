@@ -1,41 +1,42 @@
 -- The lines of a session, one after the other.
-use Rattle.std.proofs.Common.{◌≡◌, ℕ, suc, ◌+◌, ◌<◌, ◌≤◌, List, [], ◌∷◌, ◌++◌, Option, None, Some, inl, inr, refl, sym, ap, ◌∙◌, subst, arith, length, append_assoc, length-append, map, take, replicate, slice_get}
+use Rattle.std.proofs.Common.{◌≡◌, ℕ, suc, ◌+◌, ◌<◌, ◌≤◌, List, [], ◌∷◌, ◌++◌, Option, None, Some, inl, inr, refl, sym, ap, ◌∙◌, subst, arith, length, append_assoc, length-append, map, take, drop, slice_get}
 use Rattle.std.proofs.Math.Seq.{take-suc}
-use Rattle.std.proofs.lemmas.Bool.{cases_lt}
-use Rattle.std.proofs.lemmas.List.{map-append, get_or_past}
+use Rattle.std.proofs.lemmas.List.{map-append}
 use Rattle.std.proofs.lemmas.Option.{slice_get_within, get_or_from_slice_get}
 use Rattle.std.proofs.KnownBytes.{Appends-nil, Appends-trans}
 use Rattle.std.specs.Io.KnownBytes.{Appends, Keeps}
 use Rattle.io_ends.specs.Causes.{AppendsFront}
-use Rattle.io_ends.specs.Lines.{lines_of, end_of}
+use Rattle.io_ends.specs.Lines.{lines_of, end_of, NoLineFeed}
 use Rattle.io_ends.specs.Reading.{Reading, StandsIn}
 use Rattle.io_ends.specs.declared.next.LimitKind.{LimitKind}
 use Rattle.io_ends.specs.declared.next.LimitKind.TheVariants as limit
+use Rattle.io_ends.proofs.FeedPlaces.{NoLineFeed-append}
 use Rattle.io_ends.proofs.ReaderStarts.{start_at}
 use Rattle.feed_lines.specs.Lines.{command_of}
 use Rattle.feed_lines.specs.declared.command.Command.{Command}
-use Rattle.lane_laws.specs.Journals.{Journal}
-use Rattle.lane_laws.specs.Legal.{IsLegal}
-use Rattle.cell_session.specs.Answering.{StopsAs}
-use Rattle.cell_session.specs.Ends.{AreFirst, AreFirstOf, AreAllOf, AreBefore, Answers, EndsAs, most_lines, most_bytes}
-use Rattle.cell_session.specs.Lanes.{journal_in, AreLegal}
+use Rattle.cell_session.specs.Answering.{IsAllOrNothing, StopsAs}
+use Rattle.cell_session.specs.Cells.{Cell}
+use Rattle.cell_session.specs.Dealing.{AreFirst, EndsAs}
+use Rattle.cell_session.specs.Ends.{IfTold, IsReadTo, PassesLimit, StopsAt, Writes}
 use Rattle.cell_session.specs.Output.{output_of, report_in}
-use Rattle.cell_session.specs.Reads.{Finishes, Shows, IsReadEnd}
-use Rattle.cell_session.specs.SoFar.{IsKept, ToldOf, IsSoFar}
-use Rattle.cell_session.specs.Session.{IsDealt}
-use Rattle.cell_session.specs.Steps.{IsReady, with_command}
+use Rattle.cell_session.specs.Reads.{Finishes, Shows, HoldsBack, IsReadEnd}
+use Rattle.cell_session.specs.Settings.{IsSetting}
+use Rattle.cell_session.specs.SoFar.{IsKept, IsBehind, IsSoFar}
+use Rattle.cell_session.specs.Steps.{IsReady, with_command, after_line, opened}
 use Rattle.cell_session.specs.declared.answering.Stop.{Stop}
 use Rattle.cell_session.specs.declared.answering.Stop.TheVariants as stop
+use Rattle.cell_session.specs.declared.limits.TheConstants.{MOST_LINES, MOST_BYTES}
 use Rattle.cell_session.specs.declared.next_command.Step.TheVariants as step
+use Rattle.cell_session.specs.declared.setting.Setting.{Setting}
 use Rattle.cell_session.specs.declared.status.Status.{Status}
 use Rattle.cell_session.specs.declared.status.Status.TheVariants as status
-use Rattle.cell_session.proofs.OutputLaws.{output_more}
+use Rattle.cell_session.proofs.OutputLaws.{output_kept, output_more}
 use Rattle.cell_session.proofs.SessionSteps.{kept_none, kept_command, command_moves, ready_next}
 
 -- ---- the commands of the first lines of a text
 
 -- one line more
-first_more : (text : List ℕ) (cs : List Command) (bytes : List ℕ) → AreFirst text cs → slice_get (lines_of text) (length cs) ≡ Some bytes → length cs < most_lines → end_of (length cs + 1) text ≤ most_bytes
+first_more : (text : List ℕ) (cs : List Command) (bytes : List ℕ) → AreFirst text cs → slice_get (lines_of text) (length cs) ≡ Some bytes → length cs < MOST_LINES → end_of (length cs + 1) text ≤ MOST_BYTES
     → AreFirst text (cs ++ command_of bytes ∷ [])
 first_more text cs bytes first at few within =
     let n = length cs in
@@ -44,176 +45,286 @@ first_more text cs bytes first at few within =
     let last = take-suc (lines_of text) n [] there ∙ ap (λ x. take n (lines_of text) ++ x ∷ []) (get_or_from_slice_get (lines_of text) n bytes [] at) in
     record {
       lines = ap (λ l. l ++ command_of bytes ∷ []) first.lines ∙ sym (map-append command_of (take n (lines_of text)) (bytes ∷ [])) ∙ ap (map command_of) (sym last) ∙ ap (λ k. map command_of (take k (lines_of text))) (sym longer);
-      some = omega (arith, longer, there);
-      few = omega (arith, longer, few);
-      within = subst (λ k. end_of k text ≤ most_bytes) (omega (arith, longer)) within;
+      within = record {
+        some = omega (arith, longer, there);
+        few = omega (arith, longer, few);
+        within = subst (λ k. end_of k text ≤ MOST_BYTES) (omega (arith, longer)) within;
+      };
     }
 
 told_more : (text : Option (List ℕ)) (reader reader' : Reading) (left left' : Option (List ℕ)) (cs : List Command) (number : ℕ) (c : Command)
-    → ToldOf text cs reader left → length cs ≡ reader.lines → reader.max_lines ≡ most_lines → reader.max_bytes ≡ most_bytes
+    → IfTold text (IsBehind reader left cs) → length cs ≡ reader.lines → reader.max_lines ≡ MOST_LINES → reader.max_bytes ≡ MOST_BYTES
     → ((t : List ℕ) → StandsIn t reader left → Shows t reader (step.Command number c))
     → ((t : List ℕ) → StandsIn t reader left → StandsIn t reader' left')
-    → ToldOf text (cs ++ c ∷ []) reader' left'
+    → IfTold text (IsBehind reader' left' (cs ++ c ∷ []))
 told_more None reader reader' left left' cs number c told count lines bytes shows stands = tt
 told_more (Some text) reader reader' left left' cs number c told count lines bytes shows stands =
     let shown = shows text told.1 in
     let line = shown.0.0 in
     let within = shown.1 in
     let first = first_more text cs line told.0 (subst (λ k. slice_get (lines_of text) k ≡ Some line) (sym count) shown.0.1.0)
-    (omega (arith, within.lines, count, lines)) (subst (λ k. end_of (k + 1) text ≤ most_bytes) (sym count) (omega (arith, within.bytes, bytes))) in
+    (omega (arith, within.lines, count, lines)) (subst (λ k. end_of (k + 1) text ≤ MOST_BYTES) (sym count) (omega (arith, within.bytes, bytes))) in
     (subst (λ x. AreFirst text (cs ++ x ∷ [])) (sym shown.0.1.1) first, stands text told.1)
+
+first_of : (text : Option (List ℕ)) (cs : List Command) (reader : Reading) (left : Option (List ℕ)) → IfTold text (IsBehind reader left cs) → IfTold text (λ t. AreFirst t cs)
+first_of None cs reader left told = tt
+first_of (Some text) cs reader left told = told.0
 
 -- ---- between two lines
 
-told_none : (text : Option (List ℕ)) → ToldOf text [] (record { ahead = []; passed = 0; lines = 0; given = 0; max_lines = 50000; max_bytes = 67108864 }) text
-unfolding end_of
-told_none None = tt
-told_none (Some t) = (record { lines = refl; some = omega arith; few = omega arith; within = omega arith }, start_at t 50000 67108864)
+abbrev pub first_reading : Reading
+first_reading = record { ahead = []; passed = 0; lines = 0; given = 0; max_lines = MOST_LINES; max_bytes = MOST_BYTES }
 
-pub so_far_start : (text before : Option (List ℕ)) → IsSoFar text (record { ahead = []; passed = 0; lines = 0; given = 0; max_lines = 50000; max_bytes = 67108864 }) text (replicate 16 []) before before
-so_far_start text before = record {
+first_none : (text : List ℕ) → AreFirst text []
+unfolding end_of
+first_none text = record { lines = refl; within = record { some = omega arith; few = omega arith; within = omega arith } }
+
+told_none : (text : Option (List ℕ)) → IfTold text (IsBehind first_reading text [])
+told_none None = tt
+told_none (Some t) = (first_none t, start_at t MOST_LINES MOST_BYTES)
+
+so_far_start : (s : Setting) (text before : Option (List ℕ)) → IsSetting s → IsSoFar s text first_reading text (opened s) before before
+so_far_start s text before setting = record {
+  setting = setting;
+  bits = refl;
   commands = [];
   count = refl;
-  kept = kept_none;
+  dealt = refl;
+  kept = kept_none s;
   output = Appends-nil before;
   told = told_none text;
 }
 
-pub so_far_new : (text before : Option (List ℕ)) (reader : Reading) (Js : List Journal) → reader ≡ record { ahead = []; passed = 0; lines = 0; given = 0; max_lines = 50000; max_bytes = 67108864 } → Js ≡ replicate 16 []
-    → IsSoFar text reader text Js before before
-so_far_new text before reader Js is none = subst (λ J. IsSoFar text reader text J before before) (sym none) (subst (λ r. IsSoFar text r text (replicate 16 []) before before) (sym is) (so_far_start text before))
+pub so_far_new : (s : Setting) (text before : Option (List ℕ)) (reader : Reading) (c : Cell) → IsSetting s → reader ≡ first_reading → c ≡ opened s → IsSoFar s text reader text c before before
+so_far_new s text before reader c setting is none =
+    subst (λ (x : Cell). IsSoFar s text reader text x before before) (sym none) (subst (λ r. IsSoFar s text r text (opened s) before before) (sym is) (so_far_start s text before setting))
 
-pub so_far_ready : (text left : Option (List ℕ)) (reader : Reading) (Js : List Journal) (before now : Option (List ℕ)) (number : ℕ)
-    → IsSoFar text reader left Js before now → number ≡ reader.lines + 1 → reader.lines ≤ 50000 → IsReady number Js
-so_far_ready text left reader Js before now number so is few = ready_next so.commands Js number so.kept (omega (arith, so.count)) (omega (arith, so.count))
+pub so_far_ready : (s : Setting) (text left : Option (List ℕ)) (reader : Reading) (c : Cell) (before now : Option (List ℕ)) (number : ℕ)
+    → IsSoFar s text reader left c before now → number ≡ reader.lines + 1 → reader.lines ≤ MOST_LINES → IsReady s number c
+so_far_ready s text left reader c before now number so is few = ready_next s so.commands c number so.setting so.bits so.kept (omega (arith, is, so.count)) (omega (arith, so.count, few))
 
-pub so_far_more : (text left left' : Option (List ℕ)) (reader reader' : Reading) (Js Js' : List Journal) (before now now' : Option (List ℕ)) (number : ℕ) (c : Command)
-    → IsSoFar text reader left Js before now → reader.max_lines ≡ most_lines → reader.max_bytes ≡ most_bytes
+-- what one line more keeps, whatever was written
+record IsMore (s : Setting) (text left' : Option (List ℕ)) (reader reader' : Reading) (cs : List Command) (old new : Cell) (number : ℕ) (c : Command) : Type 0 where
+  count : length (cs ++ c ∷ []) ≡ number
+  dealt : new.dealt ≡ number
+  bits : new.bits ≡ old.bits
+  journals : new.journals ≡ with_command s number c old.journals
+  kept : IsKept s (cs ++ c ∷ []) new.journals
+  told : IfTold text (IsBehind reader' left' (cs ++ c ∷ []))
+  earlier : output_of s cs new.journals ≡ output_of s cs old.journals
+  output : output_of s (cs ++ c ∷ []) new.journals ≡ output_of s cs old.journals ++ report_in s number c new.journals
+
+one_more : (s : Setting) (text left left' : Option (List ℕ)) (reader reader' : Reading) (old new : Cell) (before now : Option (List ℕ)) (number : ℕ) (c : Command)
+    → (so : IsSoFar s text reader left old before now) → reader.max_lines ≡ MOST_LINES → reader.max_bytes ≡ MOST_BYTES
+    → ((t : List ℕ) → StandsIn t reader left → Shows t reader (step.Command number c))
+    → ((t : List ℕ) → StandsIn t reader left → StandsIn t reader' left')
+    → number ≡ reader.lines + 1 → new ≡ after_line s number c old
+    → IsMore s text left' reader reader' so.commands old new number c
+one_more s text left left' reader reader' old new before now number c so lines bytes shows stands is grown =
+    let cs = so.commands in
+    let k : number ≡ length cs + 1 = omega (arith, is, so.count) in
+    let moves = command_moves s cs c old.journals number so.kept k in
+    let journals : new.journals ≡ with_command s number c old.journals = ap (λ (x : Cell). x.journals) grown in
+    record {
+      count = omega (arith, length-append cs (c ∷ []), k);
+      dealt = ap (λ (x : Cell). x.dealt) grown;
+      bits = ap (λ (x : Cell). x.bits) grown;
+      journals = journals;
+      kept = subst (IsKept s (cs ++ c ∷ [])) (sym journals) (kept_command s cs c old.journals number so.kept k);
+      told = told_more text reader reader' left left' cs number c so.told so.count lines bytes shows stands;
+      earlier = ap (output_of s cs) journals ∙ output_kept s cs old.journals (with_command s number c old.journals) number so.kept k moves;
+      output = ap (output_of s (cs ++ c ∷ [])) journals ∙ output_more s cs c old.journals (with_command s number c old.journals) number so.kept k moves
+          ∙ ap (λ x. output_of s cs old.journals ++ report_in s number c x) (sym journals);
+    }
+
+pub so_far_more : (s : Setting) (text left left' : Option (List ℕ)) (reader reader' : Reading) (old new : Cell) (before now now' : Option (List ℕ)) (number : ℕ) (c : Command)
+    → IsSoFar s text reader left old before now → reader.max_lines ≡ MOST_LINES → reader.max_bytes ≡ MOST_BYTES
     → ((t : List ℕ) → StandsIn t reader left → Shows t reader (step.Command number c))
     → ((t : List ℕ) → StandsIn t reader left → StandsIn t reader' left')
     → number ≡ reader.lines + 1 → reader'.lines ≡ reader.lines + 1
-    → Js' ≡ with_command number c Js → Appends now now' (report_in number c Js')
-    → IsSoFar text reader' left' Js' before now'
-so_far_more text left left' reader reader' Js Js' before now now' number c so lines bytes shows stands is grows dealt wrote =
+    → new ≡ after_line s number c old → Appends now now' (report_in s number c new.journals)
+    → IsSoFar s text reader' left' new before now'
+so_far_more s text left left' reader reader' old new before now now' number c so lines bytes shows stands is grows grown wrote =
     let cs = so.commands in
-    let k : number ≡ length cs + 1 = omega (arith, is, so.count) in
-    let moves = command_moves cs c Js number so.kept k in
-    let more = output_more cs c Js (with_command number c Js) number so.kept k moves in
+    let more = one_more s text left left' reader reader' old new before now number c so lines bytes shows stands is grown in
     record {
+      setting = so.setting;
+      bits = more.bits ∙ so.bits;
       commands = cs ++ c ∷ [];
-      count = omega (arith, length-append cs (c ∷ []), so.count, grows);
-      kept = subst (IsKept (cs ++ c ∷ [])) (sym dealt) (kept_command cs c Js number so.kept k);
-      output = subst (Appends before now') (sym (ap (output_of (cs ++ c ∷ [])) dealt ∙ more ∙ ap (λ x. output_of cs Js ++ report_in number c x) (sym dealt)))
-          (Appends-trans before now now' (output_of cs Js) (report_in number c Js') so.output wrote);
-      told = told_more text reader reader' left left' cs number c so.told so.count lines bytes shows stands;
+      count = omega (arith, more.count, is, grows);
+      dealt = omega (arith, more.dealt, is, grows);
+      kept = more.kept;
+      output = subst (Appends before now') (sym more.output) (Appends-trans before now now' (output_of s cs old.journals) (report_in s number c new.journals) so.output wrote);
+      told = more.told;
     }
+
+-- ---- why no further line is dealt with
+
+read_to : (text : List ℕ) (reader : Reading) (left : Option (List ℕ)) (count : ℕ) → StandsIn text reader left → NoLineFeed reader.ahead → count ≡ reader.lines → IfTold left (IsReadTo text count)
+read_to text reader None count at clear is = absurd at
+read_to text reader (Some left) count at clear is = (
+  at.split.front ++ reader.ahead,
+  (
+    NoLineFeed-append at.split.front reader.ahead at.split.no_feed clear,
+    ap (λ k. drop (end_of k text) text) is ∙ ap (λ k. drop k text) (sym at.given) ∙ at.after ∙ at.split.whole ∙ sym (append_assoc at.split.front reader.ahead left),
+  ),
+)
+
+passes : (which : LimitKind) (text : List ℕ) (reader : Reading) (count : ℕ) → count ≡ reader.lines → reader.max_lines ≡ MOST_LINES → reader.max_bytes ≡ MOST_BYTES
+    → Finishes text reader (status.Limit which) → PassesLimit which text count
+passes limit.Lines text reader count is lines bytes past = (omega (arith, is, past.0), omega (arith, is, past.1, lines))
+passes limit.Bytes text reader count is lines bytes past =
+    (omega (arith, is, past.0), (omega (arith, is, past.1.0, lines), subst (λ k. MOST_BYTES < end_of (k + 1) text) (sym is) (omega (arith, past.1.1, bytes))))
+
+stops_of : (end : Status) (text left left' : Option (List ℕ)) (reader reader' : Reading) (cs : List Command)
+    → IfTold text (IsBehind reader left cs) → length cs ≡ reader.lines → reader.max_lines ≡ MOST_LINES → reader.max_bytes ≡ MOST_BYTES
+    → ((t : List ℕ) → StandsIn t reader left → Finishes t reader end)
+    → ((t : List ℕ) → StandsIn t reader left → StandsIn t reader' left')
+    → HoldsBack reader reader' end → (last : Option ℕ) (a b : ℕ) → IsReadEnd end last a b
+    → IfTold text (λ t. StopsAt end t (length cs) left')
+stops_of end None left left' reader reader' cs told count lines bytes finishes stands holds last a b may = tt
+stops_of status.Done (Some text) left left' reader reader' cs told count lines bytes finishes stands holds last a b may = omega (arith, count, finishes text told.1)
+stops_of status.ReadFault (Some text) left left' reader reader' cs told count lines bytes finishes stands holds last a b may = read_to text reader' left' (length cs) (stands text told.1) holds.1 (count ∙ sym holds.0)
+stops_of status.Usage (Some text) left left' reader reader' cs told count lines bytes finishes stands holds last a b may = absurd may
+stops_of status.WriteFault (Some text) left left' reader reader' cs told count lines bytes finishes stands holds last a b may = absurd may
+stops_of status.NoMemory (Some text) left left' reader reader' cs told count lines bytes finishes stands holds last a b may = tt
+stops_of (status.Limit which) (Some text) left left' reader reader' cs told count lines bytes finishes stands holds last a b may = passes which text reader (length cs) count lines bytes (finishes text told.1)
 
 -- ---- the ends
 
-first_of : (text : Option (List ℕ)) (cs : List Command) (reader : Reading) (left : Option (List ℕ)) → ToldOf text cs reader left → AreFirstOf text cs
-first_of None cs reader left told = tt
-first_of (Some text) cs reader left told = told.0
+over_with : (end : Status) (s : Setting) (text left left' : Option (List ℕ)) (reader reader' : Reading) (c : Cell) (before now : Option (List ℕ))
+    → (so : IsSoFar s text reader left c before now) → reader.max_lines ≡ MOST_LINES → reader.max_bytes ≡ MOST_BYTES
+    → ((t : List ℕ) → StandsIn t reader left → Finishes t reader end)
+    → ((t : List ℕ) → StandsIn t reader left → StandsIn t reader' left')
+    → HoldsBack reader reader' end → (last : Option ℕ) (a b : ℕ) → IsReadEnd end last a b
+    → Writes end s so.commands c.journals before now → EndsAs end s text left' c before now
+over_with end s text left left' reader reader' c before now so lines bytes finishes stands holds last a b may wrote = inr (record {
+  commands = so.commands;
+  count = so.count ∙ sym so.dealt;
+  dealt = so.kept.dealt;
+  first = first_of text so.commands reader left so.told;
+  stops = stops_of end text left left' reader reader' so.commands so.told so.count lines bytes finishes stands holds last a b may;
+  output = wrote;
+})
 
-answers : (text left : Option (List ℕ)) (reader : Reading) (Js : List Journal) (before now : Option (List ℕ)) (so : IsSoFar text reader left Js before now) → Answers so.commands Js before now
-answers text left reader Js before now so = record { dealt = so.kept.dealt; output = so.output }
+written_by : (end : Status) (s : Setting) (cs : List Command) (c : Cell) (before now : Option (List ℕ)) (last : Option ℕ) (a b : ℕ) → IsReadEnd end last a b → Appends before now (output_of s cs c.journals)
+    → Writes end s cs c.journals before now
+written_by status.Done s cs c before now last a b may wrote = wrote
+written_by status.ReadFault s cs c before now last a b may wrote = wrote
+written_by status.Usage s cs c before now last a b may wrote = absurd may
+written_by status.WriteFault s cs c before now last a b may wrote = absurd may
+written_by status.NoMemory s cs c before now last a b may wrote = inl wrote
+written_by (status.Limit which) s cs c before now last a b may wrote = wrote
 
-all_of : (text : Option (List ℕ)) (cs : List Command) (reader : Reading) (left : Option (List ℕ)) → ToldOf text cs reader left → length cs ≡ reader.lines
-    → ((t : List ℕ) → StandsIn t reader left → Finishes t reader status.Done) → AreAllOf text cs
-all_of None cs reader left told count finishes = tt
-all_of (Some text) cs reader left told count finishes = (told.0, omega (arith, count, finishes text told.1))
+-- where no line is left to deal with
+pub over_ends : (end : Status) (s : Setting) (text left left' : Option (List ℕ)) (reader reader' : Reading) (c : Cell) (before now : Option (List ℕ))
+    → IsSoFar s text reader left c before now → reader.max_lines ≡ MOST_LINES → reader.max_bytes ≡ MOST_BYTES
+    → ((t : List ℕ) → StandsIn t reader left → Finishes t reader end)
+    → ((t : List ℕ) → StandsIn t reader left → StandsIn t reader' left')
+    → HoldsBack reader reader' end → (last : Option ℕ) (a b : ℕ) → IsReadEnd end last a b
+    → EndsAs end s text left' c before now
+over_ends end s text left left' reader reader' c before now so lines bytes finishes stands holds last a b may =
+    over_with end s text left left' reader reader' c before now so lines bytes finishes stands holds last a b may (written_by end s so.commands c before now last a b may so.output)
 
-before_of : (which : LimitKind) (text : Option (List ℕ)) (cs : List Command) (reader : Reading) (left : Option (List ℕ)) → ToldOf text cs reader left → length cs ≡ reader.lines
-    → reader.max_lines ≡ most_lines → reader.max_bytes ≡ most_bytes
-    → ((t : List ℕ) → StandsIn t reader left → Finishes t reader (status.Limit which)) → AreBefore which text cs
-before_of which None cs reader left told count lines bytes finishes = tt
-before_of limit.Lines (Some text) cs reader left told count lines bytes finishes =
-    let past = finishes text told.1 in
-    (told.0, (omega (arith, count, past.0), omega (arith, count, past.1, lines)))
-before_of limit.Bytes (Some text) cs reader left told count lines bytes finishes =
-    let past = finishes text told.1 in
-    (told.0, (omega (arith, count, past.0), (omega (arith, count, past.1.0, lines), subst (λ k. most_bytes < end_of (k + 1) text) (sym count) (omega (arith, past.1.1, bytes)))))
+some_dealt : (text left : Option (List ℕ)) (count : ℕ) → 0 < count → IfTold text (λ t. StopsAt status.WriteFault t count left)
+some_dealt None left count h = tt
+some_dealt (Some text) left count h = h
 
--- how the session ends where no line is left to deal with
-pub over_ends : (end : Status) (text left : Option (List ℕ)) (reader : Reading) (Js : List Journal) (before now : Option (List ℕ))
-    → IsSoFar text reader left Js before now → reader.max_lines ≡ most_lines → reader.max_bytes ≡ most_bytes
-    → ((t : List ℕ) → StandsIn t reader left → Finishes t reader end) → (last : Option ℕ) (a b : ℕ) → IsReadEnd end last a b
-    → EndsAs end text Js before now
-over_ends status.Done text left reader Js before now so lines bytes finishes last a b may = (so.commands, (answers text left reader Js before now so, all_of text so.commands reader left so.told so.count finishes))
-over_ends status.ReadFault text left reader Js before now so lines bytes finishes last a b may = (so.commands, (answers text left reader Js before now so, first_of text so.commands reader left so.told))
-over_ends status.Usage text left reader Js before now so lines bytes finishes last a b may = absurd may
-over_ends status.WriteFault text left reader Js before now so lines bytes finishes last a b may = absurd may
-over_ends status.NoMemory text left reader Js before now so lines bytes finishes last a b may = inr (so.commands, (answers text left reader Js before now so, first_of text so.commands reader left so.told))
-over_ends (status.Limit which) text left reader Js before now so lines bytes finishes last a b may = (so.commands, (answers text left reader Js before now so, before_of which text so.commands reader left so.told so.count lines bytes finishes))
+no_claim : (text left : Option (List ℕ)) (count : ℕ) → IfTold text (λ t. StopsAt status.NoMemory t count left)
+no_claim None left count = tt
+no_claim (Some text) left count = tt
 
-pub stopped_fault : (why : Stop) (line : ℕ) (c : Command) (old new : List Journal) (before now : Option (List ℕ)) → why ≡ stop.Fault → StopsAs why line c old new before now
-    → (new ≡ with_command line c old) × AppendsFront before now (report_in line c new)
-stopped_fault why line c old new before now is stopped = subst (λ w. StopsAs w line c old new before now) is stopped
+-- where the sink failed
+pub fault_ends : (why : Stop) (s : Setting) (text left left' : Option (List ℕ)) (reader reader' : Reading) (old new : Cell) (before now now' : Option (List ℕ)) (number : ℕ) (c : Command)
+    → IsSoFar s text reader left old before now → reader.max_lines ≡ MOST_LINES → reader.max_bytes ≡ MOST_BYTES
+    → ((t : List ℕ) → StandsIn t reader left → Shows t reader (step.Command number c))
+    → ((t : List ℕ) → StandsIn t reader left → StandsIn t reader' left')
+    → number ≡ reader.lines + 1 → why ≡ stop.Fault → StopsAs why s number c old new now now'
+    → EndsAs status.WriteFault s text left' new before now'
+fault_ends why s text left left' reader reader' old new before now now' number c so lines bytes shows stands is fault stopped =
+    ended (subst (λ w. StopsAs w s number c old new now now') fault stopped)
+  where
+    ended : (new ≡ after_line s number c old) × AppendsFront now now' (report_in s number c new.journals) → EndsAs status.WriteFault s text left' new before now'
+    ended (grown, (front, (rest, (whole, wrote)))) =
+        let cs = so.commands in
+        let more = one_more s text left left' reader reader' old new before now number c so lines bytes shows stands is grown in
+        inr (record {
+          commands = cs ++ c ∷ [];
+          count = more.count ∙ sym more.dealt;
+          dealt = more.kept.dealt;
+          first = first_of text (cs ++ c ∷ []) reader' left' more.told;
+          stops = some_dealt text left' (length (cs ++ c ∷ [])) (omega (arith, more.count, is));
+          output = record {
+            earlier = cs;
+            last = c;
+            all = refl;
+            front = front;
+            rest = rest;
+            report = ap (λ k. report_in s k c new.journals) more.count ∙ whole;
+            output = subst (λ x. Appends before now' (x ++ front)) (sym more.earlier) (Appends-trans before now now' (output_of s cs old.journals) front so.output wrote);
+          };
+        })
 
--- how the session ends where the report of a line didn't reach the sink
 appends_kept : (a b c : Option (List ℕ)) (bs : List ℕ) → Appends a b bs → Keeps b c → Appends a c bs
 appends_kept None b c bs p q = tt
 appends_kept (Some x) None c bs p q = absurd p
 appends_kept (Some x) (Some y) None bs p q = absurd q
 appends_kept (Some x) (Some y) (Some z) bs p q = q ∙ p
 
-front_more : (a b c : Option (List ℕ)) (bs cs : List ℕ) → Appends a b bs → AppendsFront b c cs → AppendsFront a c (bs ++ cs)
-front_more a b c bs cs p (front, (rest, (whole, q))) =
-    (bs ++ front, (rest, (ap (λ l. bs ++ l) whole ∙ sym (append_assoc bs front rest), Appends-trans a b c bs front p q)))
+-- nothing was written
+pub appends_nothing : (a b : Option (List ℕ)) → Keeps a b → Appends a b []
+appends_nothing a b kept = appends_kept a a b [] (Appends-nil a) kept
 
-pub fault_ends : (text left left' : Option (List ℕ)) (reader reader' : Reading) (Js Js' : List Journal) (before now now' : Option (List ℕ)) (number : ℕ) (c : Command)
-    → IsSoFar text reader left Js before now → reader.max_lines ≡ most_lines → reader.max_bytes ≡ most_bytes
+-- where memory wanted before a line's report was written
+pub memory_ends : (why : Stop) (s : Setting) (text left left' : Option (List ℕ)) (reader reader' : Reading) (old new : Cell) (before now now' : Option (List ℕ)) (number : ℕ) (c : Command)
+    → IsSoFar s text reader left old before now → reader.max_lines ≡ MOST_LINES → reader.max_bytes ≡ MOST_BYTES
     → ((t : List ℕ) → StandsIn t reader left → Shows t reader (step.Command number c))
     → ((t : List ℕ) → StandsIn t reader left → StandsIn t reader' left')
-    → number ≡ reader.lines + 1
-    → Js' ≡ with_command number c Js → AppendsFront now now' (report_in number c Js')
-    → EndsAs status.WriteFault text Js' before now'
-fault_ends text left left' reader reader' Js Js' before now now' number c so lines bytes shows stands is dealt wrote =
-    let cs = so.commands in
-    let k : number ≡ length cs + 1 = omega (arith, is, so.count) in
-    let moves = command_moves cs c Js number so.kept k in
-    let more = output_more cs c Js (with_command number c Js) number so.kept k moves in
-    let whole = ap (output_of (cs ++ c ∷ [])) dealt ∙ more ∙ ap (λ x. output_of cs Js ++ report_in number c x) (sym dealt) in
-    let kept = subst (IsKept (cs ++ c ∷ [])) (sym dealt) (kept_command cs c Js number so.kept k) in (
-      cs ++ c ∷ [],
-      (
-        record {
-          dealt = kept.dealt;
-          output = subst (AppendsFront before now') (sym whole) (front_more before now now' (output_of cs Js) (report_in number c Js') so.output wrote);
-        },
-        first_of text (cs ++ c ∷ []) reader' left' (told_more text reader reader' left left' cs number c so.told so.count lines bytes shows stands),
-      ),
-    )
+    → number ≡ reader.lines + 1 → why ≡ stop.Memory → StopsAs why s number c old new now now'
+    → EndsAs status.NoMemory s text left' new before now'
+memory_ends why s text left left' reader reader' old new before now now' number c so lines bytes shows stands is memory stopped =
+    let told = subst (λ w. StopsAs w s number c old new now now') memory stopped in
+    ended told.0 (appends_kept before now now' (output_of s so.commands old.journals) so.output told.1)
+  where
+    ended : IsAllOrNothing s number c old new → Appends before now' (output_of s so.commands old.journals) → EndsAs status.NoMemory s text left' new before now'
+    ended (inl same) wrote = subst (λ (x : Cell). EndsAs status.NoMemory s text left' x before now') (sym same) (inr (record {
+      commands = so.commands;
+      count = so.count ∙ sym so.dealt;
+      dealt = so.kept.dealt;
+      first = first_of text so.commands reader left so.told;
+      stops = no_claim text left' (length so.commands);
+      output = inl wrote;
+    }))
+    ended (inr grown) wrote =
+        let cs = so.commands in
+        let more = one_more s text left left' reader reader' old new before now number c so lines bytes shows stands is grown in
+        inr (record {
+          commands = cs ++ c ∷ [];
+          count = more.count ∙ sym more.dealt;
+          dealt = more.kept.dealt;
+          first = first_of text (cs ++ c ∷ []) reader' left' more.told;
+          stops = no_claim text left' (length (cs ++ c ∷ []));
+          output = inr (record { earlier = cs; last = c; all = refl; output = subst (Appends before now') (sym more.earlier) wrote });
+        })
 
-pub memory_ends : (text left : Option (List ℕ)) (reader : Reading) (Js Js' : List Journal) (before now now' : Option (List ℕ))
-    → IsSoFar text reader left Js before now → Js' ≡ Js → Keeps now now' → EndsAs status.NoMemory text Js' before now'
-memory_ends text left reader Js Js' before now now' so same keeps =
-    inr (
-      so.commands,
-      (
-        record {
-          dealt = subst (IsDealt so.commands) (sym same) so.kept.dealt;
-          output = subst (λ x. Appends before now' (output_of so.commands x)) (sym same) (appends_kept before now now' (output_of so.commands Js) so.output keeps);
-        },
-        first_of text so.commands reader left so.told,
-      ),
-    )
+-- where memory wanted before the first line
+firsts_none : (text : Option (List ℕ)) → IfTold text (λ t. AreFirst t [])
+firsts_none None = tt
+firsts_none (Some t) = first_none t
 
--- ---- every end leaves legal journals
+keeps_same : (a : Option (List ℕ)) → Keeps a a
+keeps_same None = tt
+keeps_same (Some x) = refl
 
-dealt_legal : (cs : List Command) (Js : List Journal) → IsDealt cs Js → AreLegal Js
-dealt_legal cs Js dealt lane = elim (cases_lt lane 16) [
-  | inl within ↦ dealt.legal lane within
-  | inr past ↦ subst IsLegal (sym (get_or_past Js lane [] (omega (arith, dealt.lanes, past)))) tt
-]
+pub opened_ends : (s : Setting) (text left : Option (List ℕ)) (c : Cell) (before : Option (List ℕ)) → c ≡ opened s → EndsAs status.NoMemory s text left c before before
+opened_ends s text left c before is = subst (λ (x : Cell). EndsAs status.NoMemory s text left x before before) (sym is) (inr (record {
+  commands = [];
+  count = refl;
+  dealt = (kept_none s).dealt;
+  first = firsts_none text;
+  stops = no_claim text left 0;
+  output = inl (Appends-nil before);
+}))
 
-pub none_legal : (Js : List Journal) → Js ≡ [] → AreLegal Js
-none_legal Js none lane = subst IsLegal (sym (ap (journal_in lane) none ∙ get_or_past [] lane [] (omega arith))) tt
-
-pub ends_legal : (end : Status) (text before now : Option (List ℕ)) (Js : List Journal) → EndsAs end text Js before now → AreLegal Js
-ends_legal status.Done text before now Js (cs, (all, told)) = dealt_legal cs Js all.dealt
-ends_legal status.ReadFault text before now Js (cs, (all, told)) = dealt_legal cs Js all.dealt
-ends_legal status.Usage text before now Js none = absurd none
-ends_legal status.WriteFault text before now Js (cs, (all, told)) = dealt_legal cs Js all.dealt
-ends_legal status.NoMemory text before now Js (inl none) = none_legal Js none.0
-ends_legal status.NoMemory text before now Js (inr (cs, (all, told))) = dealt_legal cs Js all.dealt
-ends_legal (status.Limit which) text before now Js (cs, (all, told)) = dealt_legal cs Js all.dealt
+pub unopened_ends : (s : Setting) (text left : Option (List ℕ)) (c : Cell) (before : Option (List ℕ)) → (c.journals ≡ []) × (c.dealt ≡ 0) → EndsAs status.NoMemory s text left c before before
+unopened_ends s text left c before is = inl (record { memory = refl; none = is.0; dealt = is.1; kept = keeps_same before })

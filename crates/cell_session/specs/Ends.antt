@@ -1,71 +1,100 @@
 -- What each status says.
-use Rattle.std.specs.Prelude.{◌≡◌, ◌⊎◌, ℕ, ◌+◌, ◌<◌, ◌≤◌, List, [], length, map, take, Option, None, Some}
+use Rattle.std.specs.Prelude.{◌≡◌, ◌⊎◌, ℕ, ◌+◌, ◌<◌, ◌≤◌, List, [], ◌∷◌, ◌++◌, length, map, take, drop, Option, None, Some}
 use Rattle.std.specs.Io.KnownBytes.{Appends, Keeps}
 use Rattle.io_ends.specs.Causes.{AppendsFront}
-use Rattle.io_ends.specs.Lines.{lines_of, end_of}
+use Rattle.io_ends.specs.Lines.{lines_of, end_of, NoLineFeed}
 use Rattle.io_ends.specs.declared.next.LimitKind.{LimitKind}
 use Rattle.io_ends.specs.declared.next.LimitKind.TheVariants as limit
 use Rattle.feed_lines.specs.Lines.{command_of}
 use Rattle.feed_lines.specs.declared.command.Command.{Command}
 use Rattle.lane_laws.specs.Journals.{Journal}
-use Rattle.cell_session.specs.Output.{output_of}
-use Rattle.cell_session.specs.Session.{IsDealt}
 use Rattle.reports.specs.ReportText.{usage_text}
+use Rattle.cell_session.specs.Output.{report_in, output_of}
+use Rattle.cell_session.specs.Settings.{lane_count}
+use Rattle.cell_session.specs.declared.limits.TheConstants.{MOST_LINES, MOST_BYTES}
+use Rattle.cell_session.specs.declared.setting.Setting.{Setting}
 use Rattle.cell_session.specs.declared.status.Status.{Status}
 use Rattle.cell_session.specs.declared.status.Status.TheVariants as status
 
--- the most lines and bytes of a session
-abbrev pub most_lines : ℕ
-most_lines = 50000
+-- a fact on bytes, where they are told
+abbrev pub IfTold : Option (List ℕ) → (List ℕ → Type 0) → Type 0
+IfTold None P = Unit {0}
+IfTold (Some bytes) P = P bytes
 
-abbrev pub most_bytes : ℕ
-most_bytes = 67108864
+-- what the first lines of a text ask for
+abbrev pub commands_of : List ℕ → ℕ → List Command
+commands_of text count = map command_of (take count (lines_of text))
 
--- the commands are those of the first lines of a text, which end within the limits
-pub record AreFirst (text : List ℕ) (commands : List Command) : Type 0 where
-  pub lines : commands ≡ map command_of (take (length commands) (lines_of text))
-  pub some : length commands ≤ length (lines_of text)
-  pub few : length commands ≤ most_lines
-  pub within : end_of (length commands) text ≤ most_bytes
+-- ---- lanes
 
--- the same, of a source that tells its bytes
-abbrev pub AreFirstOf : Option (List ℕ) → List Command → Type 0
-AreFirstOf None commands = Unit {0}
-AreFirstOf (Some text) commands = AreFirst text commands
+-- all lanes are there; where memory wanted, these or none
+abbrev pub HasLanes : Status → Setting → List Journal → Type 0
+HasLanes status.NoMemory s Js = (length Js ≡ 0) ⊎ (length Js ≡ lane_count s)
+HasLanes status.Done s Js = length Js ≡ lane_count s
+HasLanes status.ReadFault s Js = length Js ≡ lane_count s
+HasLanes status.WriteFault s Js = length Js ≡ lane_count s
+HasLanes (status.Limit which) s Js = length Js ≡ lane_count s
+HasLanes status.Usage s Js = ⊥
 
--- they are all lines
-abbrev pub AreAllOf : Option (List ℕ) → List Command → Type 0
-AreAllOf None commands = Unit {0}
-AreAllOf (Some text) commands = AreFirst text commands × (length commands ≡ length (lines_of text))
+-- ---- which lines were dealt with
+
+-- the text has so many lines, and the last of them ends within the limits
+pub record AreWithin (text : List ℕ) (count : ℕ) : Type 0 where
+  pub some : count ≤ length (lines_of text)
+  pub few : count ≤ MOST_LINES
+  pub within : end_of count text ≤ MOST_BYTES
+
+-- what was read behind these lines has no line feed: the next line wasn't whole yet
+abbrev pub IsReadTo : List ℕ → ℕ → List ℕ → Type 0
+IsReadTo text count left = (held : List ℕ) × (NoLineFeed held × (drop (end_of count text) text ≡ held ++ left))
 
 -- there is one line more, and it is past the limit
 abbrev pub PassesLimit : LimitKind → List ℕ → ℕ → Type 0
-PassesLimit limit.Lines text count = count ≡ most_lines
-PassesLimit limit.Bytes text count = (count < most_lines) × (most_bytes < end_of (count + 1) text)
+PassesLimit limit.Lines text count = (count < length (lines_of text)) × (count ≡ MOST_LINES)
+PassesLimit limit.Bytes text count = (count < length (lines_of text)) × ((count < MOST_LINES) × (MOST_BYTES < end_of (count + 1) text))
 
-abbrev pub AreBefore : LimitKind → Option (List ℕ) → List Command → Type 0
-AreBefore which None commands = Unit {0}
-AreBefore which (Some text) commands = AreFirst text commands × ((length commands < length (lines_of text)) × PassesLimit which text (length commands))
+-- why no further line was dealt with
+abbrev pub StopsAt : Status → List ℕ → ℕ → Option (List ℕ) → Type 0
+StopsAt status.Done text count left = count ≡ length (lines_of text)
+StopsAt status.ReadFault text count left = IfTold left (IsReadTo text count)
+StopsAt status.WriteFault text count left = 0 < count
+StopsAt status.NoMemory text count left = Unit {0}
+StopsAt (status.Limit which) text count left = PassesLimit which text count
+StopsAt status.Usage text count left = ⊥
 
--- these lines were dealt with, and the sink took their reports
-pub record Answers (commands : List Command) (Js : List Journal) (before now : Option (List ℕ)) : Type 0 where
-  pub dealt : IsDealt commands Js
-  pub output : Appends before now (output_of commands Js)
+-- the first lines of the text were dealt with, up to where the session stops
+pub record DealsWith (end : Status) (text : List ℕ) (count : ℕ) (left : Option (List ℕ)) : Type 0 where
+  pub within : AreWithin text count
+  pub stops : StopsAt end text count left
 
--- these lines were dealt with, and the sink took a front of their reports
-pub record AnswersInPart (commands : List Command) (Js : List Journal) (before now : Option (List ℕ)) : Type 0 where
-  pub dealt : IsDealt commands Js
-  pub output : AppendsFront before now (output_of commands Js)
+-- ---- the bytes written
 
--- which lines were dealt with, which events they have, and which bytes the sink took
-abbrev pub EndsAs : Status → Option (List ℕ) → List Journal → Option (List ℕ) → Option (List ℕ) → Type 0
-EndsAs status.Done text Js before now = (commands : List Command) × (Answers commands Js before now × AreAllOf text commands)
-EndsAs status.ReadFault text Js before now = (commands : List Command) × (Answers commands Js before now × AreFirstOf text commands)
-EndsAs status.Usage text Js before now = ⊥
-EndsAs status.WriteFault text Js before now = (commands : List Command) × (AnswersInPart commands Js before now × AreFirstOf text commands)
-EndsAs status.NoMemory text Js before now =
-    ((Js ≡ []) × Keeps before now) ⊎ ((commands : List Command) × (Answers commands Js before now × AreFirstOf text commands))
-EndsAs (status.Limit which) text Js before now = (commands : List Command) × (Answers commands Js before now × AreBefore which text commands)
+-- the sink took the reports of all lines but the last, and a front of that one's
+pub record TakesFront (s : Setting) (commands : List Command) (Js : List Journal) (before now : Option (List ℕ)) : Type 0 where
+  pub earlier : List Command
+  pub last : Command
+  pub all : commands ≡ earlier ++ last ∷ []
+  pub front : List ℕ
+  pub rest : List ℕ
+  pub report : report_in s (length commands) last Js ≡ front ++ rest
+  pub output : Appends before now (output_of s earlier Js ++ front)
+
+-- the sink took the reports of all lines but the last
+pub record TakesAllButOne (s : Setting) (commands : List Command) (Js : List Journal) (before now : Option (List ℕ)) : Type 0 where
+  pub earlier : List Command
+  pub last : Command
+  pub all : commands ≡ earlier ++ last ∷ []
+  pub output : Appends before now (output_of s earlier Js)
+
+abbrev pub Writes : Status → Setting → List Command → List Journal → Option (List ℕ) → Option (List ℕ) → Type 0
+Writes status.Done s commands Js before now = Appends before now (output_of s commands Js)
+Writes status.ReadFault s commands Js before now = Appends before now (output_of s commands Js)
+Writes (status.Limit which) s commands Js before now = Appends before now (output_of s commands Js)
+Writes status.WriteFault s commands Js before now = TakesFront s commands Js before now
+Writes status.NoMemory s commands Js before now = Appends before now (output_of s commands Js) ⊎ TakesAllButOne s commands Js before now
+Writes status.Usage s commands Js before now = ⊥
+
+-- ---- wrong words
 
 -- how wrong words end: with the usage line, unless the sink fails or memory wants
 abbrev pub UsageEnd : Status → Option (List ℕ) → Option (List ℕ) → Type 0

@@ -1,13 +1,16 @@
+-- For a reader: Settings, Cells, Lanes, Operations, Output and Ends. The others serve the calls below the top one.
 pub mod StatusNumbers
+pub mod Settings
+pub mod Cells
 pub mod Lanes
 pub mod LineEvents
 pub mod LaneState
-pub mod Session
+pub mod Operations
 pub mod Output
 pub mod Ends
-pub mod Seen
 pub mod Stores
 pub mod Steps
 pub mod Answering
 pub mod Reads
+pub mod Dealing
 pub mod SoFar

@@ -8,26 +8,27 @@ use Rattle.lane_laws.specs.declared.outcome.Outcome.{Outcome}
 use Rattle.lane_laws.specs.declared.outcome.Outcome.TheVariants as outcome
 use Rattle.lane_laws.specs.Journals.{Journal}
 use Rattle.lane_laws.specs.Readers.{stamps_of}
+use Rattle.cell_session.specs.declared.setting.Setting.{Setting}
 
--- the next stamp of the one version that there is: one more than were begun before
-abbrev pub next_stamp : Journal → Stamp
-next_stamp J = record { version = 1; count = stamps_of 1 J + 1 }
+-- the next stamp of a version: one more than were begun before
+abbrev pub next_stamp : ℕ → Journal → Stamp
+next_stamp version J = record { version = version; count = stamps_of version J + 1 }
 
--- an entry is begun by distributor 0, written and acknowledged
-abbrev pub write_events : ℕ → Entry → Journal
-write_events line entry =
-    event.Closed line (outcome.Acked entry.stamp) ∷ event.Wrote line entry ∷ event.Begun line 0 1 entry.id (Some entry.stamp) ∷ []
+-- an entry is begun, written and acknowledged
+abbrev pub write_events : Setting → ℕ → Entry → Journal
+write_events s line entry =
+    event.Closed line (outcome.Acked entry.stamp) ∷ event.Wrote line entry ∷ event.Begun line s.distributor s.version entry.id (Some entry.stamp) ∷ []
 
 -- a get is begun and closed
-abbrev pub read_events : ℕ → List ℕ → Outcome → Journal
-read_events line id ending = event.Closed line ending ∷ event.Begun line 0 1 id None ∷ []
+abbrev pub read_events : Setting → ℕ → List ℕ → Outcome → Journal
+read_events s line id ending = event.Closed line ending ∷ event.Begun line s.distributor s.version id None ∷ []
 
 -- what a get answers where an entry has this body
 abbrev pub body_outcome : Stamp → Option Document → Outcome
 body_outcome stamp None = outcome.Missing (Some stamp)
 body_outcome stamp (Some document) = outcome.Found stamp
 
--- what a get answers: found with the entry's stamp exactly where there is a document
+-- what a get answers by the entry that it saw: found with the entry's stamp exactly where there is a document
 abbrev pub seen_outcome : Option Entry → Outcome
 seen_outcome None = outcome.Missing None
 seen_outcome (Some entry) = body_outcome entry.stamp entry.body

@@ -9,43 +9,65 @@ use Rattle.lane_laws.specs.Journals.{Journal}
 use Rattle.lane_laws.specs.Readers.{closed_in, entry_at}
 use Rattle.lane_laws.specs.declared.outcome.Outcome.{Outcome}
 use Rattle.lane_laws.specs.declared.outcome.Outcome.TheVariants as outcome
-use Rattle.reports.specs.ReportText.{acked_text, found_text, missing_text, too_long_text, unbuilt_text}
+use Rattle.reports.specs.ReportText.{report_text}
+use Rattle.reports.specs.declared.answer.Answer.{Answer}
+use Rattle.reports.specs.declared.answer.Answer.TheVariants as answer
+use Rattle.reports.specs.declared.answer.Cause.TheVariants as cause
 use Rattle.cell_session.specs.Lanes.{lane_of_id, journal_in}
+use Rattle.cell_session.specs.declared.setting.Setting.{Setting}
 
--- a found document is that of the entry that was written with the stamp
-abbrev pub body_text : ℕ → List ℕ → Option Document → Stamp → List ℕ
-body_text line id None stamp = []
-body_text line id (Some document) stamp = found_text line id document stamp
+-- a found document is that of the entry with the stamp
+abbrev pub body_answer : List ℕ → Option Document → Stamp → Option Answer
+body_answer id None stamp = None
+body_answer id (Some document) stamp = Some (answer.Found id document stamp)
 
-abbrev pub entry_text : ℕ → Option Entry → Stamp → List ℕ
-entry_text line None stamp = []
-entry_text line (Some entry) stamp = body_text line entry.id entry.body stamp
+abbrev pub found_answer : Option Entry → Stamp → Option Answer
+found_answer None stamp = None
+found_answer (Some entry) stamp = body_answer entry.id entry.body stamp
 
--- the report of the event that closed the line
-abbrev pub closed_text : ℕ → Option Outcome → Journal → List ℕ
-closed_text line None J = []
-closed_text line (Some (outcome.Acked stamp)) J = acked_text line stamp
-closed_text line (Some (outcome.Found stamp)) J = entry_text line (entry_at stamp J) stamp
-closed_text line (Some (outcome.Missing seen)) J = missing_text line seen
+-- the answer that an outcome is, by the entry that it speaks of
+abbrev pub outcome_answer : Outcome → Option Entry → Option Answer
+outcome_answer (outcome.Acked stamp) entry = Some (answer.Acked stamp)
+outcome_answer (outcome.Found stamp) entry = found_answer entry stamp
+outcome_answer (outcome.Missing seen) entry = Some (answer.Missing seen)
 
--- the report of a line, by the journal of its lane
-abbrev pub answer_text : ℕ → List ℕ → List Journal → List ℕ
-answer_text line id Js = let J = journal_in (lane_of_id id) Js in closed_text line (closed_in line J) J
+-- the entry that an outcome speaks of: what was written with the stamp that was found
+abbrev pub entry_of : Outcome → Journal → Option Entry
+entry_of (outcome.Acked stamp) J = None
+entry_of (outcome.Found stamp) J = entry_at stamp J
+entry_of (outcome.Missing seen) J = None
 
--- the report of a line
-abbrev pub report_in : ℕ → Command → List Journal → List ℕ
-report_in line command.Blank Js = []
-report_in line command.TooLong Js = too_long_text line
-report_in line command.Unbuilt Js = unbuilt_text line
-report_in line (command.Put id document) Js = answer_text line id Js
-report_in line (command.Remove id) Js = answer_text line id Js
-report_in line (command.Get id) Js = answer_text line id Js
+-- the answer that a line's closing is
+abbrev pub closed_answer : Option Outcome → Journal → Option Answer
+closed_answer None J = None
+closed_answer (Some ending) J = outcome_answer ending (entry_of ending J)
+
+-- the answer of an operation, by the journal of its lane
+abbrev pub operation_answer : Setting → ℕ → List ℕ → List Journal → Option Answer
+operation_answer s line id Js = let J = journal_in (lane_of_id s.bits id) Js in closed_answer (closed_in line J) J
+
+-- the answer of a line; a blank one has none
+abbrev pub answer_in : Setting → ℕ → Command → List Journal → Option Answer
+answer_in s line command.Blank Js = None
+answer_in s line command.TooLong Js = Some answer.TooLong
+answer_in s line command.Unbuilt Js = Some (answer.BadLine cause.Unbuilt)
+answer_in s line (command.Put id document) Js = operation_answer s line id Js
+answer_in s line (command.Remove id) Js = operation_answer s line id Js
+answer_in s line (command.Get id) Js = operation_answer s line id Js
+
+-- the report of what may be an answer
+abbrev pub bytes_of : ℕ → Option Answer → List ℕ
+bytes_of line None = []
+bytes_of line (Some a) = report_text line a
+
+abbrev pub report_in : Setting → ℕ → Command → List Journal → List ℕ
+report_in s line c Js = bytes_of line (answer_in s line c Js)
 
 -- the reports of lines from a number on, in order
-abbrev pub output_from : ℕ → List Command → List Journal → List ℕ
-output_from line [] Js = []
-output_from line (c ∷ commands) Js = report_in line c Js ++ output_from (suc line) commands Js
+abbrev pub output_from : Setting → ℕ → List Command → List Journal → List ℕ
+output_from s line [] Js = []
+output_from s line (c ∷ commands) Js = report_in s line c Js ++ output_from s (suc line) commands Js
 
--- the output of a session
-abbrev pub output_of : List Command → List Journal → List ℕ
-output_of commands Js = output_from 1 commands Js
+-- the reports of the first lines
+abbrev pub output_of : Setting → List Command → List Journal → List ℕ
+output_of s commands Js = output_from s 1 commands Js

@@ -1,7 +1,7 @@
 -- What a session reads.
 use Rattle.std.specs.Prelude.{◌≡◌, ℕ, ◌+◌, ◌≤◌, List, length, Option, Some, slice_get}
 use Rattle.io_ends.specs.Causes.{HasRisen}
-use Rattle.io_ends.specs.Lines.{lines_of}
+use Rattle.io_ends.specs.Lines.{lines_of, NoLineFeed}
 use Rattle.io_ends.specs.Reading.{Reading, Grows, IsWithin, Reaches}
 use Rattle.feed_lines.specs.Lines.{command_of}
 use Rattle.cell_session.specs.declared.next_command.Step.{Step}
@@ -9,10 +9,19 @@ use Rattle.cell_session.specs.declared.next_command.Step.TheVariants as step
 use Rattle.cell_session.specs.declared.status.Status.{Status}
 use Rattle.cell_session.specs.declared.status.Status.TheVariants as status
 
+-- after a fault no line is given, and what lies ahead is no whole line
+abbrev pub HoldsBack : Reading → Reading → Status → Type 0
+HoldsBack old new status.ReadFault = (new.lines ≡ old.lines) × NoLineFeed new.ahead
+HoldsBack old new status.Done = Unit {0}
+HoldsBack old new (status.Limit which) = Unit {0}
+HoldsBack old new status.NoMemory = Unit {0}
+HoldsBack old new status.Usage = Unit {0}
+HoldsBack old new status.WriteFault = Unit {0}
+
 -- a command is that of the next line by number
 abbrev pub Advances : Reading → Reading → Step → Type 0
 Advances old new (step.Command number command) = (number ≡ old.lines + 1) × (Grows old new 1 × (new.lines ≤ new.max_lines))
-Advances old new (step.Over end) = Unit {0}
+Advances old new (step.Over end) = HoldsBack old new end
 
 -- what an end says of the text in which the reader stood
 abbrev pub Finishes : List ℕ → Reading → Status → Type 0

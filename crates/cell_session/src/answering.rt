@@ -1,14 +1,16 @@
-ghost use Rattle.std.specs.Prelude.{◌≡◌, ◌≤◌, OnErr, OnOk, IfErr};
+ghost use Rattle.std.specs.Prelude.{◌≡◌, ◌≤◌, IfOk, OnOk, IfErr};
 ghost use Rattle.std.specs.Io.KnownBytes.{Appends};
 ghost use Rattle.io_ends.specs.Causes.{HasRisen};
 ghost use Rattle.cell_session.specs.Answering.{StopsAs};
-ghost use Rattle.cell_session.specs.Output.{report_in};
-ghost use Rattle.cell_session.specs.Steps.{IsReady, with_command};
+ghost use Rattle.cell_session.specs.Output.{bytes_of, report_in};
+ghost use Rattle.cell_session.specs.Steps.{IsReady, after_line};
 ghost use Rattle.cell_session.specs.declared.answering.Stop.TheVariants as stop;
 
 use crate::cluster::Cluster;
+use crate::setting::Setting;
 use feed_lines::Command;
 use io_ends::{Sink, WriteFault, write_all};
+use reports::{Answer, report};
 use std::alloc::Global;
 use thiserror::Error;
 use value_lists::NoMemory;
@@ -41,19 +43,31 @@ impl From<WriteFault> for Stop {
 /// Deals with a line's command and writes its report.
 pub fn answer_line<K: Sink>(
     alloc: Global,
+    setting: Setting,
     line: u32,
     command: Command,
     sink: &mut K,
     cluster: &mut Cluster,
 ) -> Result<(), Stop>
-    requires { IsReady line cluster.old }
-    ensures dealt { OnOk result (cluster.new ≡ with_command line command cluster.old) }
-    ensures written { OnOk result (Appends (K.written sink.old) (K.written sink.new) (report_in line command cluster.new)) }
-    ensures stopped { IfErr result (λ why. StopsAs why line command cluster.old cluster.new (K.written sink.old) (K.written sink.new)) }
+    requires { IsReady setting line cluster.old }
+    ensures dealt { OnOk result (cluster.new ≡ after_line setting line command cluster.old) }
+    ensures written { OnOk result (Appends (K.written sink.old) (K.written sink.new) (report_in setting line command cluster.new.journals)) }
+    ensures stopped { IfErr result (λ why. StopsAs why setting line command cluster.old cluster.new (K.written sink.old) (K.written sink.new)) }
     ensures count { K.faults sink.old ≤ K.faults sink.new }
     ensures fault { IfErr result (λ why. why ≡ stop.Fault → HasRisen K.last (K.faults sink.old) (K.faults sink.new)) }
 {
-    let report = cluster.deal(alloc, line, command)?;
-    write_all(sink, &report)?;
+    let answer = cluster.deal(alloc, setting, line, command)?;
+    let bytes = bytes_of(alloc, line, &answer)?;
+    write_all(sink, &bytes)?;
     Ok(())
+}
+
+/// The report of what may be an answer.
+fn bytes_of(alloc: Global, line: u32, answer: &Option<Answer>) -> Result<Vec<u8>, NoMemory>
+    ensures { IfOk result (λ bytes. bytes.items ≡ bytes_of line answer.now) }
+{
+    match answer {
+        Some(answer) => report(alloc, line, answer),
+        None => Ok(Vec::new(alloc)),
+    }
 }

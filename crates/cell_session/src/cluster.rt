@@ -1,103 +1,120 @@
-ghost use Rattle.std.specs.Prelude.{◌≡◌, ◌==◌, ◌<◌, [], length, IfOk, OnOk, OnErr, replicate};
+ghost use Rattle.std.specs.Prelude.{◌≡◌, ◌==◌, ◌<◌, ◌≤◌, ◌^◌, ◌⊎◌, [], length, IfOk, OnOk, OnErr};
 ghost use Rattle.std.specs.FinMap as fin;
 ghost use Rattle.std.specs.Option.{option_copied};
 ghost use Rattle.lane_laws.specs.Journals.{past};
-ghost use Rattle.cell_session.specs.Lanes.{lane_count, lane_of_id, journal_in};
+ghost use Rattle.lane_laws.specs.Readers.{store_of};
+ghost use Rattle.lane_laws.specs.declared.outcome.Outcome.TheVariants as outcome;
+ghost use Rattle.cell_session.specs.Answering.{IsAllOrNothing};
+ghost use Rattle.cell_session.specs.Lanes.{lane_of_id, journal_in};
+ghost use Rattle.cell_session.specs.LineEvents.{next_stamp, seen_outcome};
+ghost use Rattle.cell_session.specs.Output.{body_answer, found_answer, outcome_answer, operation_answer, answer_in};
+ghost use Rattle.cell_session.specs.Settings.{IsSetting};
+ghost use Rattle.cell_session.specs.Steps.{IsReady, with_write, with_read, grown, after_line, opened};
 ghost use Rattle.cell_session.specs.Stores.{stored_in, entries_in};
-ghost use Rattle.cell_session.specs.Steps.{IsReady, with_command, with_write, with_read};
-ghost use Rattle.cell_session.specs.Output.{report_in, answer_text};
 
 use crate::lane::Lane;
+use crate::setting::Setting;
 use document_ids::DocId;
 use entry_maps::{Document, Entry};
 use feed_lines::Command;
 use global_ids::{Gid, lane_of};
-use lane_laws::LaneEvent;
-use reports::{too_long_report, unbuilt_report};
+use lane_laws::{LaneEvent, Outcome};
+use reports::{Answer, Cause};
+use stamps::Stamp;
 use std::alloc::Global;
 use std::marker::Model;
-use value_lists::NoMemory;
+use value_lists::{NoMemory, TryCopy};
 
-/// How many lanes a session has: as many as four bits of a key tell apart.
-const LANE_COUNT: usize = 16;
-
-/// The lanes that a session leaves: none, or sixteen.
+/// The lanes that a session leaves: none, or all of them.
 #[derive(Drop)]
 pub struct Cluster {
+    bits: u8,
+    node: u8,
     lanes: Vec<Lane>,
+    dealt: u32,
 }
 
 impl Model for Cluster {
-    ghost use Rattle.std.specs.Prelude.{List};
-    ghost use Rattle.std.specs.Coded.{coded_list};
-    ghost use Rattle.lane_laws.specs.Journals.{Journal};
-    ghost use Rattle.lane_laws.specs.JournalCodes.{journal_code};
-    ghost use Rattle.cell_session.specs.Lanes.{IsLaneCount};
     ghost use Rattle.std.specs.Prelude.{length};
+    ghost use Rattle.cell_session.specs.Cells.{Cell, cell_code, IsCluster};
 
-    ghost Value = { List Journal };
+    ghost Value = { Cell };
 
-    ghost coded = { coded_list journal_code };
+    ghost coded = { cell_code };
 
-    ghost view = { λ c. c.lanes.items };
+    ghost view = { λ c. record { bits = c.bits; node = c.node; journals = c.lanes.items; dealt = c.dealt } };
 
-    ghost invariant = { λ c. IsLaneCount (length c.lanes.items) };
+    ghost invariant = { λ c. IsCluster c.bits (length c.lanes.items) };
 }
 
 /// The lane of a document; takes no memory.
 #[tactic(auto, unfolding(crate::specs::Lanes::lane_of_id, global_ids::specs::Keys::key_of))]
-fn lane_of_id(id: &DocId) -> usize
-    ensures value { result ≡ lane_of_id id.now }
-    ensures within { result < 16 }
+fn lane_of_id(id: &DocId, bits: u8) -> usize
+    requires some { 1 ≤ bits }
+    requires most { bits ≤ 6 }
+    ensures value { result ≡ lane_of_id bits id.now }
+    ensures within { result < 2 ^ bits }
 {
-    usize::from(lane_of(Gid::of(id).key(), 4))
+    usize::from(lane_of(Gid::of(id).key(), bits))
 }
 
 impl Cluster {
     /// A cluster without lanes; takes no memory.
     pub fn empty(alloc: Global) -> Cluster
-        ensures { result ≡ [] }
+        ensures journals { result.journals ≡ [] }
+        ensures dealt { result.dealt ≡ 0 }
     {
         Cluster {
+            bits: 1,
+            node: 0,
             lanes: Vec::new(alloc),
+            dealt: 0,
         }
     }
 
     /// Whether there is no lane.
     pub fn is_empty(&self) -> bool
-        ensures { result ≡ (length self.now == 0) }
+        ensures { result ≡ (length self.now.journals == 0) }
     {
         self.lanes.is_empty()
     }
 
     /// How many lanes there are.
     pub fn lanes(&self) -> u8
-        ensures { result ≡ length self.now }
+        ensures { result ≡ length self.now.journals }
     {
         self.lanes.len() as u8
     }
 
-    /// The journal of a lane, oldest event first.
-    pub fn journal(&self, lane: u8) -> &[LaneEvent]
-        requires { lane < length self.now }
-        ensures { past result.now ≡ journal_in lane self.now }
+    /// How many lines were dealt with.
+    pub fn dealt(&self) -> u32
+        ensures { result ≡ self.now.dealt }
     {
-        self.lanes[usize::from(lane)].journal()
+        self.dealt
+    }
+
+    /// The journal of a lane, oldest event first; that of a lane that isn't there is empty.
+    pub fn journal(&self, lane: u8) -> &[LaneEvent]
+        ensures { past result.now ≡ journal_in lane self.now.journals }
+    {
+        match self.lanes.get(usize::from(lane)) {
+            Some(lane) => lane.journal(),
+            None => &[],
+        }
     }
 
     /// The newest entry of a document, if a lane has one; takes no memory.
     pub fn entry(&self, id: &DocId) -> Option<&Entry>
         ensures { option_copied result ≡ stored_in id.now self.now }
     {
-        self.lanes.get(lane_of_id(id))?.entry(id)
+        self.lanes.get(lane_of_id(id, self.bits))?.entry(id)
     }
 
-    /// How many entries the stores of a node hold, removes among them; at most 2^64 - 1. There is
-    /// one node, number 0.
+    /// How many entries the stores of a node hold, removes among them; at most 2^64 - 1.
     pub fn store_size(&self, node: u8) -> u64
         ensures { result ≡ entries_in node self.now }
     {
-        if node != 0 {
+        if node != self.node {
             return 0;
         }
         let mut size = 0u64;
@@ -108,61 +125,178 @@ impl Cluster {
     }
 
     /// Makes the lanes. The only error is want of memory, which leaves none.
-    pub fn open(&mut self, alloc: Global) -> Result<(), NoMemory>
-        requires { self.old ≡ [] }
-        ensures ok { OnOk result (self.new ≡ replicate lane_count []) }
-        ensures err { OnErr result (self.new ≡ []) }
+    pub fn open(&mut self, alloc: Global, setting: Setting) -> Result<(), NoMemory>
+        requires empty { self.old.journals ≡ [] }
+        requires setting { IsSetting setting }
+        ensures ok { OnOk result (self.new ≡ opened setting) }
+        ensures err { OnErr result ((self.new.journals ≡ []) × (self.new.dealt ≡ 0)) }
     {
-        let mut lanes = Vec::with_capacity(alloc, LANE_COUNT)?;
-        while lanes.len() < LANE_COUNT {
+        self.dealt = 0;
+        let count = 1usize << setting.bits;
+        let mut lanes = Vec::with_capacity(alloc, count)?;
+        while lanes.len() < count {
             lanes.push(Lane::new(alloc))?;
         }
+        self.bits = setting.bits;
+        self.node = setting.node;
         self.lanes = lanes;
         Ok(())
     }
 
-    /// Deals with a line's command in the lane of its key, and gives the line's report. The only
-    /// error is want of memory, which leaves the cluster as it was.
-    pub fn deal(&mut self, alloc: Global, line: u32, command: Command) -> Result<Vec<u8>, NoMemory>
-        requires { IsReady line self.old }
-        ensures ok { IfOk result (λ report. (self.new ≡ with_command line command self.old) × (report.items ≡ report_in line command self.new)) }
-        ensures err { OnErr result (self.new ≡ self.old) }
+    /// Deals with a line's command in the lane of its key, and gives the line's answer, which a blank
+    /// line has not. The only error is want of memory; the line may be dealt with then.
+    pub fn deal(
+        &mut self,
+        alloc: Global,
+        setting: Setting,
+        line: u32,
+        command: Command,
+    ) -> Result<Option<Answer>, NoMemory>
+        requires { IsReady setting line self.old }
+        ensures ok { IfOk result (λ answer. (self.new ≡ after_line setting line command self.old)
+            × (answer ≡ answer_in setting line command self.new.journals)) }
+        ensures err { OnErr result (IsAllOrNothing setting line command self.old self.new) }
     {
         match command {
-            Command::Blank => Ok(Vec::new(alloc)),
-            Command::TooLong => too_long_report(alloc, line),
-            Command::Unbuilt => unbuilt_report(alloc, line),
-            Command::Put { id, document } => self.write(alloc, line, id, Some(document)),
-            Command::Remove { id } => self.write(alloc, line, id, None),
-            Command::Get { id } => self.read(alloc, line, id),
+            Command::Blank => {
+                self.dealt = line;
+                Ok(None)
+            }
+            Command::TooLong => {
+                self.dealt = line;
+                Ok(Some(Answer::TooLong))
+            }
+            Command::Unbuilt => {
+                self.dealt = line;
+                Ok(Some(Answer::BadLine {
+                    cause: Cause::Unbuilt,
+                }))
+            }
+            Command::Put { id, document } => {
+                self.answer_write(alloc, setting, line, id, Some(document))
+            }
+            Command::Remove { id } => self.answer_write(alloc, setting, line, id, None),
+            Command::Get { id } => self.answer_read(alloc, setting, line, id),
         }
+    }
+
+    /// Writes an entry in the lane of its document, and gives the answer.
+    fn answer_write(
+        &mut self,
+        alloc: Global,
+        setting: Setting,
+        line: u32,
+        id: DocId,
+        body: Option<Document>,
+    ) -> Result<Option<Answer>, NoMemory>
+        requires { IsReady setting line self.old }
+        ensures ok { IfOk result (λ answer. (self.new ≡ grown self.old line (with_write setting line id body self.old.journals))
+            × (answer ≡ operation_answer setting line id self.new.journals)) }
+        ensures err { OnErr result ((self.new ≡ self.old) ⊎ (self.new ≡ grown self.old line (with_write setting line id body self.old.journals))) }
+    {
+        let outcome = self.write(alloc, setting, line, &id, body)?;
+        self.answer(alloc, &id, outcome)
+    }
+
+    /// Reads a document in its lane, and gives the answer.
+    fn answer_read(
+        &mut self,
+        alloc: Global,
+        setting: Setting,
+        line: u32,
+        id: DocId,
+    ) -> Result<Option<Answer>, NoMemory>
+        requires { IsReady setting line self.old }
+        ensures ok { IfOk result (λ answer. (self.new ≡ grown self.old line (with_read setting line id self.old.journals))
+            × (answer ≡ operation_answer setting line id self.new.journals)) }
+        ensures err { OnErr result ((self.new ≡ self.old) ⊎ (self.new ≡ grown self.old line (with_read setting line id self.old.journals))) }
+    {
+        let outcome = self.read(alloc, setting, line, &id)?;
+        self.answer(alloc, &id, outcome)
     }
 
     /// Writes an entry in the lane of its document.
     fn write(
         &mut self,
         alloc: Global,
+        setting: Setting,
         line: u32,
-        id: DocId,
+        id: &DocId,
         body: Option<Document>,
-    ) -> Result<Vec<u8>, NoMemory>
-        requires { IsReady line self.old }
-        ensures ok { IfOk result (λ report. (self.new ≡ with_write line id body self.old) × (report.items ≡ answer_text line id self.new)) }
+    ) -> Result<Outcome, NoMemory>
+        requires { IsReady setting line self.old }
+        ensures ok { IfOk result (λ ending. (self.new ≡ grown self.old line (with_write setting line id.now body self.old.journals))
+            × (ending ≡ outcome.Acked (next_stamp setting.version (journal_in (lane_of_id setting.bits id.now) self.old.journals)))) }
         ensures err { OnErr result (self.new ≡ self.old) }
     {
-        let at = lane_of_id(&id);
+        let at = lane_of_id(id, setting.bits);
         let lane = &mut self.lanes[at];
-        lane.write(alloc, line, id, body)
+        let outcome = lane.write(alloc, setting, line, id, body)?;
+        self.dealt = line;
+        Ok(outcome)
     }
 
     /// Reads a document in its lane.
-    fn read(&mut self, alloc: Global, line: u32, id: DocId) -> Result<Vec<u8>, NoMemory>
-        requires { IsReady line self.old }
-        ensures ok { IfOk result (λ report. (self.new ≡ with_read line id self.old) × (report.items ≡ answer_text line id self.new)) }
+    fn read(
+        &mut self,
+        alloc: Global,
+        setting: Setting,
+        line: u32,
+        id: &DocId,
+    ) -> Result<Outcome, NoMemory>
+        requires { IsReady setting line self.old }
+        ensures ok { IfOk result (λ ending. (self.new ≡ grown self.old line (with_read setting line id.now self.old.journals))
+            × (ending ≡ seen_outcome (fin.get (store_of (journal_in (lane_of_id setting.bits id.now) self.old.journals)) id.now))) }
         ensures err { OnErr result (self.new ≡ self.old) }
     {
-        let at = lane_of_id(&id);
+        let at = lane_of_id(id, setting.bits);
         let lane = &mut self.lanes[at];
-        lane.read(alloc, line, id)
+        let outcome = lane.read(alloc, setting, line, id)?;
+        self.dealt = line;
+        Ok(outcome)
+    }
+
+    /// The answer that an outcome is, where what it found is the newest entry of this document.
+    fn answer(
+        &self,
+        alloc: Global,
+        id: &DocId,
+        outcome: Outcome,
+    ) -> Result<Option<Answer>, NoMemory>
+        ensures { IfOk result (λ answer. answer ≡ outcome_answer outcome (stored_in id.now self.now)) }
+    {
+        match outcome {
+            Outcome::Acked { stamp } => Ok(Some(Answer::Acked { stamp })),
+            Outcome::Missing { seen } => Ok(Some(Answer::Missing { seen })),
+            Outcome::Found { stamp } => found_answer(alloc, self.entry(id), stamp),
+        }
+    }
+}
+
+/// What is found in an entry, if it has a document.
+fn found_answer(
+    alloc: Global,
+    entry: Option<&Entry>,
+    stamp: Stamp,
+) -> Result<Option<Answer>, NoMemory>
+    ensures { IfOk result (λ answer. answer ≡ found_answer (option_copied entry.entry) stamp) }
+{
+    match entry {
+        Some(entry) => body_answer(alloc, entry, stamp),
+        None => Ok(None),
+    }
+}
+
+/// The document of an entry, if it has one.
+fn body_answer(alloc: Global, entry: &Entry, stamp: Stamp) -> Result<Option<Answer>, NoMemory>
+    ensures { IfOk result (λ answer. answer ≡ body_answer entry.now.id entry.now.body stamp) }
+{
+    match &entry.body {
+        Some(document) => Ok(Some(Answer::Found {
+            id: entry.id.copy(alloc)?,
+            document: document.copy(alloc)?,
+            stamp,
+        })),
+        None => Ok(None),
     }
 }

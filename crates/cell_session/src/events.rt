@@ -3,6 +3,7 @@ ghost use Rattle.lane_laws.specs.Journals.{past};
 ghost use Rattle.lane_laws.specs.declared.event.LaneEvent.TheVariants as event;
 ghost use Rattle.lane_laws.specs.declared.outcome.Outcome.TheVariants as outcome;
 
+use crate::setting::Setting;
 use document_ids::DocId;
 use entry_maps::Entry;
 use lane_laws::{LaneEvent, Outcome};
@@ -18,8 +19,13 @@ pub struct WriteEvents {
 }
 
 /// The events of a line that writes this entry.
-pub fn write_events(alloc: Global, line: u32, entry: &Entry) -> Result<WriteEvents, NoMemory>
-    ensures { IfOk result (λ e. (e.begun ≡ event.Begun line 0 1 entry.now.id (Some entry.now.stamp))
+pub fn write_events(
+    alloc: Global,
+    setting: Setting,
+    line: u32,
+    entry: &Entry,
+) -> Result<WriteEvents, NoMemory>
+    ensures { IfOk result (λ e. (e.begun ≡ event.Begun line setting.distributor setting.version entry.now.id (Some entry.now.stamp))
         × (e.wrote ≡ event.Wrote line entry.now)
         × (e.closed ≡ event.Closed line (outcome.Acked entry.now.stamp))) }
 {
@@ -29,8 +35,8 @@ pub fn write_events(alloc: Global, line: u32, entry: &Entry) -> Result<WriteEven
     Ok(WriteEvents {
         begun: LaneEvent::Begun {
             line,
-            distributor: 0,
-            version: 1,
+            distributor: setting.distributor,
+            version: setting.version,
             id,
             stamp: Some(stamp),
         },
@@ -58,16 +64,22 @@ pub fn append_write(events: &mut Vec<LaneEvent>, new: WriteEvents)
 }
 
 /// Appends the two events of a line that reads, for which there is room.
-pub fn append_read(events: &mut Vec<LaneEvent>, line: u32, id: DocId, outcome: Outcome)
+pub fn append_read(
+    events: &mut Vec<LaneEvent>,
+    setting: Setting,
+    line: u32,
+    id: DocId,
+    outcome: Outcome,
+)
     requires { vec_len events.old + 2 ≤ vec_capacity events.old }
-    ensures { past events.new.items ≡ event.Closed line outcome ∷ event.Begun line 0 1 id None ∷ past events.old.items }
+    ensures { past events.new.items ≡ event.Closed line outcome ∷ event.Begun line setting.distributor setting.version id None ∷ past events.old.items }
 {
     push_within(
         events,
         LaneEvent::Begun {
             line,
-            distributor: 0,
-            version: 1,
+            distributor: setting.distributor,
+            version: setting.version,
             id,
             stamp: None,
         },

@@ -1,17 +1,18 @@
-ghost use Rattle.std.specs.Prelude.{◌≡◌, ◌++◌, ◌^◌, ◌<◌, [], Some, IfOk, OnErr};
+ghost use Rattle.std.specs.Prelude.{◌≡◌, ◌^◌, ◌<◌, [], IfOk, OnErr};
 ghost use Rattle.std.specs.FinMap as fin;
 ghost use Rattle.std.specs.Option.{option_copied};
 ghost use Rattle.lane_laws.specs.Journals.{past, events_of};
-ghost use Rattle.lane_laws.specs.Readers.{stamps_of, store_of};
-ghost use Rattle.reports.specs.ReportText.{acked_text};
-ghost use Rattle.cell_session.specs.LineEvents.{next_stamp, write_events, read_events, seen_outcome};
-ghost use Rattle.cell_session.specs.Seen.{seen_text};
+ghost use Rattle.lane_laws.specs.Readers.{store_of};
+ghost use Rattle.lane_laws.specs.declared.outcome.Outcome.TheVariants as outcome;
+ghost use Rattle.cell_session.specs.LaneState.{drawn, IsUnder};
+ghost use Rattle.cell_session.specs.LineEvents.{next_stamp, body_outcome, seen_outcome};
+ghost use Rattle.cell_session.specs.Steps.{after_write, after_read};
 
 use crate::events::{append_read, append_write, write_events};
+use crate::setting::Setting;
 use document_ids::DocId;
 use entry_maps::{Document, Entry, EntryMap};
 use lane_laws::{LaneEvent, Outcome};
-use reports::{acked_report, found_report, missing_report};
 use stamps::Stamp;
 use std::alloc::Global;
 use std::marker::Model;
@@ -37,13 +38,6 @@ impl Model for Lane {
     ghost view = { λ l. past l.events.items };
 
     ghost invariant = { λ l. IsLane (past l.events.items) l.store l.stamps };
-}
-
-/// What a get saw and how that is reported.
-#[derive(Drop)]
-struct Look {
-    outcome: Outcome,
-    report: Vec<u8>,
 }
 
 impl Lane {
@@ -79,86 +73,84 @@ impl Lane {
         self.store.entries()
     }
 
-    /// The next stamp.
-    fn next_stamp(&self) -> Stamp
-        requires { stamps_of 1 self.now < 2 ^ 63 }
-        ensures { result ≡ next_stamp self.now }
+    /// The next stamp of a version.
+    fn next_stamp(&self, version: u32) -> Stamp
+        requires few { drawn self.now < 2 ^ 63 }
+        requires under { IsUnder version self.now }
+        ensures { result ≡ next_stamp version self.now }
     {
         Stamp {
-            version: 1,
+            version,
             count: self.stamps + 1,
         }
     }
 
-    /// Writes an entry of a line that has no event, and gives the line's report. The only error is
-    /// want of memory, which leaves the lane as it was.
+    /// Writes an entry of a line that has no event. The only error is want of memory, which leaves the
+    /// lane as it was.
     pub fn write(
         &mut self,
         alloc: Global,
+        setting: Setting,
         line: u32,
-        id: DocId,
+        id: &DocId,
         body: Option<Document>,
-    ) -> Result<Vec<u8>, NoMemory>
+    ) -> Result<Outcome, NoMemory>
         requires fresh { events_of line self.old ≡ [] }
-        requires few { stamps_of 1 self.old < 2 ^ 63 }
-        ensures ok { IfOk result (λ report. (self.new ≡ write_events line (record { stamp = next_stamp self.old; id = id; body = body }) ++ self.old)
-            × (report.items ≡ acked_text line (next_stamp self.old))) }
+        requires few { drawn self.old < 2 ^ 63 }
+        requires under { IsUnder setting.version self.old }
+        ensures ok { IfOk result (λ ending. (self.new ≡ after_write setting line id.now body self.old)
+            × (ending ≡ outcome.Acked (next_stamp setting.version self.old))) }
         ensures err { OnErr result (self.new ≡ self.old) }
     {
-        let stamp = self.next_stamp();
-        let report = acked_report(alloc, line, stamp)?;
+        let stamp = self.next_stamp(setting.version);
+        let id = id.copy(alloc)?;
         let entry = Entry { stamp, id, body };
-        let new = write_events(alloc, line, &entry)?;
+        let new = write_events(alloc, setting, line, &entry)?;
         self.events.reserve(3)?;
         self.store.put(entry)?;
         append_write(&mut self.events, new);
         self.stamps += 1;
-        Ok(report)
+        Ok(Outcome::Acked { stamp })
     }
 
-    /// Reads a document for a line that has no event, and gives the line's report. The only error is
-    /// want of memory, which leaves the lane as it was.
-    pub fn read(&mut self, alloc: Global, line: u32, id: DocId) -> Result<Vec<u8>, NoMemory>
+    /// Reads a document for a line that has no event. The only error is want of memory, which leaves the
+    /// lane as it was.
+    pub fn read(
+        &mut self,
+        alloc: Global,
+        setting: Setting,
+        line: u32,
+        id: &DocId,
+    ) -> Result<Outcome, NoMemory>
         requires fresh { events_of line self.old ≡ [] }
-        ensures ok { IfOk result (λ report. (self.new ≡ read_events line id (seen_outcome (fin.get (store_of self.old) id)) ++ self.old)
-            × (report.items ≡ seen_text line (fin.get (store_of self.old) id))) }
+        ensures ok { IfOk result (λ ending. (self.new ≡ after_read setting line id.now self.old)
+            × (ending ≡ seen_outcome (fin.get (store_of self.old) id.now))) }
         ensures err { OnErr result (self.new ≡ self.old) }
     {
-        let look = self.look(alloc, line, &id)?;
+        let outcome = outcome_of(self.entry(id));
+        let id = id.copy(alloc)?;
         self.events.reserve(2)?;
-        append_read(&mut self.events, line, id, look.outcome);
-        Ok(look.report)
-    }
-
-    /// What a get of this document sees.
-    fn look(&self, alloc: Global, line: u32, id: &DocId) -> Result<Look, NoMemory>
-        ensures { IfOk result (λ look. (look.outcome ≡ seen_outcome (fin.get (store_of self.now) id.now))
-            × (look.report.items ≡ seen_text line (fin.get (store_of self.now) id.now))) }
-    {
-        match self.entry(id) {
-            Some(entry) => look_at(alloc, line, entry),
-            None => Ok(Look {
-                outcome: Outcome::Missing { seen: None },
-                report: missing_report(alloc, line, None)?,
-            }),
-        }
+        append_read(&mut self.events, setting, line, id, outcome);
+        Ok(outcome)
     }
 }
 
-/// What a get sees in this entry.
-fn look_at(alloc: Global, line: u32, entry: &Entry) -> Result<Look, NoMemory>
-    ensures { IfOk result (λ look. (look.outcome ≡ seen_outcome (Some entry.now))
-        × (look.report.items ≡ seen_text line (Some entry.now))) }
+/// What a get answers by the entry that it saw.
+fn outcome_of(seen: Option<&Entry>) -> Outcome
+    ensures { result ≡ seen_outcome (option_copied seen.entry) }
 {
-    let stamp = entry.stamp;
-    match &entry.body {
-        Some(document) => Ok(Look {
-            outcome: Outcome::Found { stamp },
-            report: found_report(alloc, line, &entry.id, document, stamp)?,
-        }),
-        None => Ok(Look {
-            outcome: Outcome::Missing { seen: Some(stamp) },
-            report: missing_report(alloc, line, Some(stamp))?,
-        }),
+    match seen {
+        Some(entry) => body_outcome(entry.stamp, &entry.body),
+        None => Outcome::Missing { seen: None },
+    }
+}
+
+/// What a get answers where an entry has this body.
+fn body_outcome(stamp: Stamp, body: &Option<Document>) -> Outcome
+    ensures { result ≡ body_outcome stamp body.now }
+{
+    match body {
+        Some(_) => Outcome::Found { stamp },
+        None => Outcome::Missing { seen: Some(stamp) },
     }
 }

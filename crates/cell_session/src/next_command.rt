@@ -54,10 +54,10 @@ pub fn next_command<S: Source>(
 fn line_command(alloc: Global, number: u32, line: &[u8]) -> Step
     ensures { IsOfLine result number line.now }
 {
-    match read_line(alloc, line) {
-        Ok(command) => Step::Command { number, command },
-        Err(_) => Step::Over {
+    let Ok(command) = read_line(alloc, line) else {
+        return Step::Over {
             status: Status::NoMemory,
-        },
-    }
+        };
+    };
+    Step::Command { number, command }
 }

@@ -34,7 +34,7 @@ abbrev pub Finds : Ahead → ℕ → Option (List ℕ) → LineEnd → Type 0
 Finds w room left (line_end.Feed at) = IsFeedAt w.ahead at
 Finds w room left line_end.Past = NoLineFeed w.ahead × (room < w.passed + length w.ahead)
 Finds w room left line_end.Input = NoLineFeed w.ahead × IsAtEnd left
-Finds w room left line_end.Fault = Unit {0}
+Finds w room left line_end.Fault = NoLineFeed w.ahead
 Finds w room left line_end.Memory = Unit {0}
 
 -- the reader after a line that ends within `taken` bytes of what lies ahead

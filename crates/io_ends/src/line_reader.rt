@@ -1,5 +1,6 @@
 ghost use Rattle.std.specs.Prelude.{◌≡◌, ℕ, ◌+◌, ◌<◌, ◌≤◌, List, [], length, IfOk};
 ghost use Rattle.io_ends.specs.Causes.{HasRisen};
+ghost use Rattle.io_ends.specs.Lines.{NoLineFeed};
 ghost use Rattle.io_ends.specs.Filling.{Gives, GivesLast, after_line};
 ghost use Rattle.io_ends.specs.Reading.{Reading, StandsIn, Counts, Tells, Stays};
 
@@ -51,13 +52,14 @@ impl LineReader {
     }
 
     /// The next line, in `into`, or why there is none. A limit comes before the answer of the line
-    /// that passes it, the one on lines first.
+    /// that passes it, the one on lines first. After a fault what lies ahead is no whole line.
     pub fn next<S: Source>(&mut self, source: &mut S, into: &mut Vec<u8>) -> Next
         ensures counts { Counts self.old self.new result }
         ensures told { (text : List ℕ) → StandsIn text self.old (S.left source.old) → Tells text self.old result into.new.items }
         ensures stands { (text : List ℕ) → StandsIn text self.old (S.left source.old) → StandsIn text self.new (S.left source.new) }
         ensures count { S.faults source.old ≤ S.faults source.new }
         ensures fault { result ≡ Next.ReadFault → HasRisen S.last (S.faults source.old) (S.faults source.new) }
+        ensures unended { result ≡ Next.ReadFault → NoLineFeed self.new.ahead }
     {
         if self.lines == self.max_lines {
             return self.past_the_last(source);
@@ -73,6 +75,7 @@ impl LineReader {
         ensures stands { (text : List ℕ) → StandsIn text self.old (S.left source.old) → StandsIn text self.new (S.left source.new) }
         ensures count { S.faults source.old ≤ S.faults source.new }
         ensures fault { result ≡ Next.ReadFault → HasRisen S.last (S.faults source.old) (S.faults source.new) }
+        ensures unended { result ≡ Next.ReadFault → NoLineFeed self.new.ahead }
     {
         if self.window.passed() > 0 {
             return Next::Limit {
@@ -105,6 +108,7 @@ impl LineReader {
         ensures stands { (text : List ℕ) → StandsIn text self.old (S.left source.old) → StandsIn text self.new (S.left source.new) }
         ensures count { S.faults source.old ≤ S.faults source.new }
         ensures fault { result ≡ Next.ReadFault → HasRisen S.last (S.faults source.old) (S.faults source.new) }
+        ensures unended { result ≡ Next.ReadFault → NoLineFeed self.new.ahead }
     {
         let room = self.max_bytes - self.given;
         match find_end(&mut self.window, source, room) {

@@ -108,7 +108,7 @@ wrote-own (event.Wrote k written ∷ J) line entry l h = elim (or_else-cases (wr
       WroteOwn-stays J line entry _ (subst (λ n. WroteOwn J n entry) (same_line k line is.0) (subst (λ (x : Entry). WroteOwn J k x) is.1 own))
 ]
 
-wrote-stays : (J : Journal) (line : ℕ) (entry : Entry) (e : LaneEvent) → wrote_in line J ≡ Some entry → wrote_in line (e ∷ J) ≡ Some entry
+pub wrote-stays : (J : Journal) (line : ℕ) (entry : Entry) (e : LaneEvent) → wrote_in line J ≡ Some entry → wrote_in line (e ∷ J) ≡ Some entry
 wrote-stays J line entry (event.Begun k d v id stamp) h = h
 wrote-stays J line entry (event.Wrote k written) h = or_else-first (wrote_in line J) _ entry h
 wrote-stays J line entry (event.Closed k ending) h = h

@@ -3,3 +3,4 @@ pub mod JournalLaws
 pub mod OrderLaws
 pub mod StoreLaws
 pub mod Past
+pub mod WriteLaws

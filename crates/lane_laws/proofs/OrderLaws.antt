@@ -4,16 +4,16 @@ use Rattle.entry_maps.specs.declared.entry.Entry.{Entry}
 use Rattle.lane_laws.specs.declared.outcome.Outcome.{Outcome}
 use Rattle.lane_laws.specs.declared.event.LaneEvent.{LaneEvent}
 use Rattle.lane_laws.specs.declared.event.LaneEvent.TheVariants as event
-use Rattle.lane_laws.specs.Journals.{Journal, line_of, events_of}
+use Rattle.lane_laws.specs.Journals.{Journal, is_of, events_of}
 use Rattle.lane_laws.specs.Legal.{IsLegal}
 use Rattle.lane_laws.specs.LineOrder.{IsInOrder}
 use Rattle.lane_laws.specs.Readers.{Beginning, begun_in, wrote_in, closed_in}
 use Rattle.lane_laws.proofs.Lookups.{or_else-none, or_else-second, never, only_other, only_if-false, same_line, test_cases}
 
-pub events_of-own : (line : ℕ) (e : LaneEvent) (J : Journal) → (line_of e == line) ≡ true → events_of line (e ∷ J) ≡ e ∷ events_of line J
+pub events_of-own : (line : ℕ) (e : LaneEvent) (J : Journal) → is_of line e ≡ true → events_of line (e ∷ J) ≡ e ∷ events_of line J
 events_of-own line e J h = ap (λ t. cond t (e ∷ events_of line J) (events_of line J)) h
 
-pub events_of-other : (line : ℕ) (e : LaneEvent) (J : Journal) → (line_of e == line) ≡ false → events_of line (e ∷ J) ≡ events_of line J
+pub events_of-other : (line : ℕ) (e : LaneEvent) (J : Journal) → is_of line e ≡ false → events_of line (e ∷ J) ≡ events_of line J
 events_of-other line e J h = ap (λ t. cond t (e ∷ events_of line J) (events_of line J)) h
 
 -- nothing of a line stands before it begins

@@ -1,5 +1,5 @@
 -- A journal: the events of a lane, the newest first.
-use Rattle.std.specs.Prelude.{ℕ, Bool, ◌==◌, List, reverse, filter}
+use Rattle.std.specs.Prelude.{ℕ, Bool, false, ◌==◌, List, Option, None, Some, reverse, filter}
 use Rattle.lane_laws.specs.declared.event.LaneEvent.{LaneEvent}
 use Rattle.lane_laws.specs.declared.event.LaneEvent.TheVariants as event
 
@@ -10,14 +10,18 @@ Journal = List LaneEvent
 unfoldable pub past : List LaneEvent → Journal
 past events = reverse events
 
--- the line of an event
-abbrev pub line_of : LaneEvent → ℕ
-line_of (event.Begun line distributor version id stamp) = line
-line_of (event.Wrote line entry) = line
-line_of (event.Closed line outcome) = line
+-- the line that an event is of, if it is of one
+abbrev pub line_of : LaneEvent → Option ℕ
+line_of (event.Begun line distributor version id stamp) = Some line
+line_of (event.Wrote line entry) = Some line
+line_of (event.Closed line outcome) = Some line
+
+abbrev pub is_line : ℕ → Option ℕ → Bool
+is_line line None = false
+is_line line (Some k) = k == line
 
 abbrev pub is_of : ℕ → LaneEvent → Bool
-is_of line e = line_of e == line
+is_of line e = is_line line (line_of e)
 
 -- the events of a line
 abbrev pub events_of : ℕ → Journal → Journal

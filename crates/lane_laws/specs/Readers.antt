@@ -21,8 +21,9 @@ only_if test x = if test then Some x else None
 abbrev pub same_stamp : Stamp → Stamp → Bool
 same_stamp a b = (a.version == b.version) && (a.count == b.count)
 
--- what a line began with: the version, the id and the stamp, if it has one
+-- what a line began with: the distributor, the version, the id and the stamp, if it has one
 pub record Beginning : Type 0 where
+  pub distributor : ℕ
   pub version : ℕ
   pub id : List ℕ
   pub stamp : Option Stamp
@@ -30,7 +31,7 @@ pub record Beginning : Type 0 where
 -- how a line began
 abbrev pub begun_in : ℕ → Journal → Option Beginning
 begun_in line [] = None
-begun_in line (event.Begun k distributor version id stamp ∷ J) = or_else (begun_in line J) (only_if (k == line) (record { version = version; id = id; stamp = stamp }))
+begun_in line (event.Begun k distributor version id stamp ∷ J) = or_else (begun_in line J) (only_if (k == line) (record { distributor = distributor; version = version; id = id; stamp = stamp }))
 begun_in line (_ ∷ J) = begun_in line J
 
 -- what a line wrote

@@ -30,14 +30,14 @@ pub enum LaneEvent {
 }
 
 impl LaneEvent {
-    /// The number of the line that the event is of.
-    pub fn line(&self) -> u32
+    /// The number of the line that the event is of, if it is of one.
+    pub fn line(&self) -> Option<u32>
         ensures { result ≡ line_of self.now }
     {
         match self {
-            LaneEvent::Begun { line, .. } => *line,
-            LaneEvent::Wrote { line, .. } => *line,
-            LaneEvent::Closed { line, .. } => *line,
+            LaneEvent::Begun { line, .. } => Some(*line),
+            LaneEvent::Wrote { line, .. } => Some(*line),
+            LaneEvent::Closed { line, .. } => Some(*line),
         }
     }
 }

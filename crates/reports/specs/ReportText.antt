@@ -5,6 +5,10 @@ use Rattle.stamps.specs.Printed.{printed}
 use Rattle.serde_json.specs.Data.{Data, null, number, unsigned, string, object, Members, member, no_members}
 use Rattle.serde_json.specs.Written.{compact_text}
 use Rattle.entry_maps.specs.declared.document.Document.{Document}
+use Rattle.reports.specs.declared.answer.Answer.{Answer}
+use Rattle.reports.specs.declared.answer.Answer.TheVariants as answer
+use Rattle.reports.specs.declared.answer.Cause.{Cause}
+use Rattle.reports.specs.declared.answer.Cause.TheVariants as cause
 
 -- a compact object and a line feed
 unfoldable pub line_text : Members → List ℕ
@@ -36,9 +40,20 @@ missing_text line seen = line_text (with_result line (codes "missing") (member (
 unfoldable pub too_long_text : ℕ → List ℕ
 too_long_text line = line_text (with_result line (codes "toolong") no_members)
 
--- a line that isn't of a form that is built
-unfoldable pub unbuilt_text : ℕ → List ℕ
-unbuilt_text line = line_text (member (codes "cause") (string (codes "unbuilt")) (with_result line (codes "badline") no_members))
+-- the word of a cause
+abbrev pub cause_text : Cause → List ℕ
+cause_text cause.Unbuilt = codes "unbuilt"
+
+unfoldable pub bad_line_text : ℕ → Cause → List ℕ
+bad_line_text line why = line_text (member (codes "cause") (string (cause_text why)) (with_result line (codes "badline") no_members))
+
+-- the report of an answer
+abbrev pub report_text : ℕ → Answer → List ℕ
+report_text line (answer.Acked stamp) = acked_text line stamp
+report_text line (answer.Found id document stamp) = found_text line id document stamp
+report_text line (answer.Missing seen) = missing_text line seen
+report_text line (answer.BadLine why) = bad_line_text line why
+report_text line answer.TooLong = too_long_text line
 
 unfoldable pub usage_text : List ℕ
 usage_text = line_text (member (codes "result") (string (codes "usage")) no_members)

@@ -1,15 +1,15 @@
 //! Reports: the line of output that answers a line of input.
 //!
-//! Each report is one compact JSON object with its keys in rising byte order, and a line feed.
-//! `specs/ReportText.antt` gives the bytes of each; every function here returns just these.
+//! An `Answer` says what a line is answered; `report` gives its bytes: one compact JSON object with its
+//! keys in rising byte order, and a line feed. `specs/ReportText.antt` gives the bytes of each answer.
 //!
 //! ```text
-//! acked_report(alloc, 1, stamp)?    // {"line":1,"result":"acked","stamp":"1:1"}
+//! report(alloc, 1, &Answer::Acked { stamp })?    // {"line":1,"result":"acked","stamp":"1:1"}
 //! ```
 #![tactic(auto)]
 
+pub mod answer;
 pub mod reports;
 
-pub use reports::{
-    acked_report, found_report, missing_report, too_long_report, unbuilt_report, usage_report,
-};
+pub use answer::{Answer, Cause};
+pub use reports::{report, usage_report};

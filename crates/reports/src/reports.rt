@@ -3,8 +3,9 @@ ghost use Rattle.serde_json.specs.Data.{string, number, unsigned, object, member
 ghost use Rattle.serde_json.specs.View.{view};
 ghost use Rattle.serde_json.specs.Written.{has_float, compact_text};
 ghost use Rattle.stamps.specs.Printed.{printed};
-ghost use Rattle.reports.specs.ReportText.{line_text, with_result, fields_of, seen_of, acked_text, found_text, missing_text, too_long_text, unbuilt_text, usage_text};
+ghost use Rattle.reports.specs.ReportText.{line_text, with_result, fields_of, seen_of, acked_text, found_text, missing_text, too_long_text, cause_text, bad_line_text, report_text, usage_text};
 
+use crate::answer::{Answer, Cause};
 use document_ids::DocId;
 use entry_maps::Document;
 use serde_json::{Value, json};
@@ -27,9 +28,9 @@ fn acked_value(alloc: Global, line: u32, stamp: &str) -> Result<Value, AllocErro
     json!(in alloc; {"line": line, "result": "acked", "stamp": stamp})
 }
 
-/// `{"line":1,"result":"acked","stamp":"1:1"}`; the only error is want of memory.
+/// `{"line":1,"result":"acked","stamp":"1:1"}`.
 #[tactic(auto, unfolding(crate::specs::ReportText::acked_text, crate::specs::ReportText::line_text))]
-pub fn acked_report(alloc: Global, line: u32, stamp: Stamp) -> Result<Vec<u8>, NoMemory>
+fn acked_report(alloc: Global, line: u32, stamp: Stamp) -> Result<Vec<u8>, NoMemory>
     ensures { IfOk result (λ bytes. bytes.items ≡ acked_text line stamp) }
 {
     let stamp = stamp.print(alloc)?;
@@ -55,10 +56,9 @@ fn found_value(
     json!(in alloc; {"fields": fields, "id": id, "line": line, "result": "found", "stamp": stamp})
 }
 
-/// `{"fields":{..},"id":"..","line":2,"result":"found","stamp":"1:1"}`; the only error is want of
-/// memory.
+/// `{"fields":{..},"id":"..","line":2,"result":"found","stamp":"1:1"}`.
 #[tactic(auto, unfolding(crate::specs::ReportText::found_text, crate::specs::ReportText::line_text))]
-pub fn found_report(
+fn found_report(
     alloc: Global,
     line: u32,
     id: &DocId,
@@ -88,10 +88,9 @@ fn missing_value(alloc: Global, line: u32, seen: &Value) -> Result<Value, AllocE
     json!(in alloc; {"line": line, "result": "missing", "seen": seen})
 }
 
-/// `{"line":3,"result":"missing","seen":"1:2"}`, with null where nothing was seen; the only error is
-/// want of memory.
+/// `{"line":3,"result":"missing","seen":"1:2"}`, with null where nothing was seen.
 #[tactic(auto, unfolding(crate::specs::ReportText::missing_text, crate::specs::ReportText::line_text))]
-pub fn missing_report(alloc: Global, line: u32, seen: Option<Stamp>) -> Result<Vec<u8>, NoMemory>
+fn missing_report(alloc: Global, line: u32, seen: Option<Stamp>) -> Result<Vec<u8>, NoMemory>
     ensures { IfOk result (λ bytes. bytes.items ≡ missing_text line seen) }
 {
     let seen = seen_value(alloc, seen)?;
@@ -105,28 +104,53 @@ fn too_long_value(alloc: Global, line: u32) -> Result<Value, AllocError>
     json!(in alloc; {"line": line, "result": "toolong"})
 }
 
-/// `{"line":4,"result":"toolong"}`; the only error is want of memory.
+/// `{"line":4,"result":"toolong"}`.
 #[tactic(auto, unfolding(crate::specs::ReportText::too_long_text, crate::specs::ReportText::line_text))]
-pub fn too_long_report(alloc: Global, line: u32) -> Result<Vec<u8>, NoMemory>
+fn too_long_report(alloc: Global, line: u32) -> Result<Vec<u8>, NoMemory>
     ensures { IfOk result (λ bytes. bytes.items ≡ too_long_text line) }
 {
     let value = too_long_value(alloc, line)?;
     line_of(alloc, &value)
 }
 
-fn unbuilt_value(alloc: Global, line: u32) -> Result<Value, AllocError>
-    ensures { IfOk result (λ v. view v ≡ object (member (codes "cause") (string (codes "unbuilt")) (with_result line (codes "badline") no_members))) }
+fn cause_text(cause: Cause) -> &'static str
+    ensures { result.now ≡ cause_text cause }
 {
-    json!(in alloc; {"cause": "unbuilt", "line": line, "result": "badline"})
+    match cause {
+        Cause::Unbuilt => "unbuilt",
+    }
 }
 
-/// `{"cause":"unbuilt","line":5,"result":"badline"}`; the only error is want of memory.
-#[tactic(auto, unfolding(crate::specs::ReportText::unbuilt_text, crate::specs::ReportText::line_text))]
-pub fn unbuilt_report(alloc: Global, line: u32) -> Result<Vec<u8>, NoMemory>
-    ensures { IfOk result (λ bytes. bytes.items ≡ unbuilt_text line) }
+fn bad_line_value(alloc: Global, line: u32, cause: &str) -> Result<Value, AllocError>
+    ensures { IfOk result (λ v. view v ≡ object (member (codes "cause") (string cause.now) (with_result line (codes "badline") no_members))) }
 {
-    let value = unbuilt_value(alloc, line)?;
+    json!(in alloc; {"cause": cause, "line": line, "result": "badline"})
+}
+
+/// `{"cause":"unbuilt","line":5,"result":"badline"}`.
+#[tactic(auto, unfolding(crate::specs::ReportText::bad_line_text, crate::specs::ReportText::line_text))]
+fn bad_line_report(alloc: Global, line: u32, cause: Cause) -> Result<Vec<u8>, NoMemory>
+    ensures { IfOk result (λ bytes. bytes.items ≡ bad_line_text line cause) }
+{
+    let value = bad_line_value(alloc, line, cause_text(cause))?;
     line_of(alloc, &value)
+}
+
+/// The report of a line. The only error is want of memory.
+pub fn report(alloc: Global, line: u32, answer: &Answer) -> Result<Vec<u8>, NoMemory>
+    ensures { IfOk result (λ bytes. bytes.items ≡ report_text line answer.now) }
+{
+    match answer {
+        Answer::Acked { stamp } => acked_report(alloc, line, *stamp),
+        Answer::Found {
+            id,
+            document,
+            stamp,
+        } => found_report(alloc, line, id, document, *stamp),
+        Answer::Missing { seen } => missing_report(alloc, line, *seen),
+        Answer::BadLine { cause } => bad_line_report(alloc, line, *cause),
+        Answer::TooLong => too_long_report(alloc, line),
+    }
 }
 
 fn usage_value(alloc: Global) -> Result<Value, AllocError>
@@ -135,7 +159,7 @@ fn usage_value(alloc: Global) -> Result<Value, AllocError>
     json!(in alloc; {"result": "usage"})
 }
 
-/// `{"result":"usage"}`; the only error is want of memory.
+/// `{"result":"usage"}`, which answers wrong words. The only error is want of memory.
 #[tactic(auto, unfolding(crate::specs::ReportText::usage_text, crate::specs::ReportText::line_text))]
 pub fn usage_report(alloc: Global) -> Result<Vec<u8>, NoMemory>
     ensures { IfOk result (λ bytes. bytes.items ≡ usage_text) }

@@ -100,7 +100,7 @@ fn a_session_leaves_its_journals(rt: HostRuntime) -> anyhow::Result<()> {
     let mut kinds = String::new(rt.alloc());
     let mut lines = 0u32;
     for event in cluster.journal(0) {
-        lines = lines.wrapping_add(event.line());
+        lines = lines.wrapping_add(event.line().unwrap_or(0));
         kinds.push(match event {
             LaneEvent::Begun { .. } => 'B',
             LaneEvent::Wrote { .. } => 'W',

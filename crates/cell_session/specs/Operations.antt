@@ -1,0 +1,69 @@
+-- What the lines of a session began, wrote and closed.
+use Rattle.std.specs.Prelude.{◌≡◌, ◌==◌, ◌⊎◌, ℕ, ◌+◌, ◌<◌, List, [], Option, None, Some, slice_get, MatchBool}
+use Rattle.std.specs.FinMap as fin
+use Rattle.stamps.specs.declared.stamp.Stamp.{Stamp}
+use Rattle.io_ends.specs.Lines.{lines_of}
+use Rattle.entry_maps.specs.declared.document.Document.{Document}
+use Rattle.entry_maps.specs.declared.entry.Entry.{Entry}
+use Rattle.feed_lines.specs.Lines.{command_of}
+use Rattle.feed_lines.specs.declared.command.Command.{Command}
+use Rattle.feed_lines.specs.declared.command.Command.TheVariants as command
+use Rattle.lane_laws.specs.Journals.{Journal, events_of}
+use Rattle.lane_laws.specs.Readers.{Beginning, begun_in, wrote_in, closed_in, before_line, store_of}
+use Rattle.lane_laws.specs.declared.outcome.Outcome.TheVariants as outcome
+use Rattle.cell_session.specs.Lanes.{lane_of_id, journal_in}
+use Rattle.cell_session.specs.LineEvents.{next_stamp, seen_outcome}
+use Rattle.cell_session.specs.declared.setting.Setting.{Setting}
+
+-- how an operation begins
+abbrev pub beginning_of : Setting → List ℕ → Option Stamp → Beginning
+beginning_of s id stamp = record { distributor = s.distributor; version = s.version; id = id; stamp = stamp }
+
+-- the stamp that a line draws: the next one as it began
+abbrev pub drawn_by : Setting → ℕ → Journal → Stamp
+drawn_by s line J = next_stamp s.version (before_line line J)
+
+-- what the operation of a line saw of its document: the newest entry as the line began
+abbrev pub seen_by : ℕ → List ℕ → Journal → Option Entry
+seen_by line id J = fin.get (store_of (before_line line J)) id
+
+-- a put or a remove began with the next stamp, wrote one entry with it, and was acknowledged with it
+pub record HasWrite (s : Setting) (line : ℕ) (id : List ℕ) (body : Option Document) (J : Journal) : Type 0 where
+  pub begun : begun_in line J ≡ Some (beginning_of s id (Some (drawn_by s line J)))
+  pub wrote : wrote_in line J ≡ Some (record { stamp = drawn_by s line J; id = id; body = body })
+  pub closed : closed_in line J ≡ Some (outcome.Acked (drawn_by s line J))
+
+-- a get began without a stamp, wrote nothing, and its outcome is that of what it saw
+pub record HasRead (s : Setting) (line : ℕ) (id : List ℕ) (J : Journal) : Type 0 where
+  pub begun : begun_in line J ≡ Some (beginning_of s id None)
+  pub wrote : wrote_in line J ≡ None
+  pub closed : closed_in line J ≡ Some (seen_outcome (seen_by line id J))
+
+-- this in the lane of the document's key, and no event in any other lane
+abbrev pub OnlyIn : Setting → ℕ → List ℕ → ℕ → Journal → Type 0 → Type 0
+OnlyIn s lane id line J there = MatchBool (lane_of_id s.bits id == lane) there (events_of line J ≡ [])
+
+-- what a line has in a lane
+abbrev pub HasEvents : Setting → ℕ → ℕ → Command → Journal → Type 0
+HasEvents s lane line command.Blank J = events_of line J ≡ []
+HasEvents s lane line command.TooLong J = events_of line J ≡ []
+HasEvents s lane line command.Unbuilt J = events_of line J ≡ []
+HasEvents s lane line (command.Put id document) J = OnlyIn s lane id line J (HasWrite s line id (Some document) J)
+HasEvents s lane line (command.Remove id) J = OnlyIn s lane id line J (HasWrite s line id None J)
+HasEvents s lane line (command.Get id) J = OnlyIn s lane id line J (HasRead s line id J)
+
+-- the line at a place of the text, from 0, asks for this, where the source tells its text
+abbrev pub IsCommandAt : Option (List ℕ) → ℕ → Command → Type 0
+IsCommandAt None at c = Unit {0}
+IsCommandAt (Some text) at c = (bytes : List ℕ) × ((slice_get (lines_of text) at ≡ Some bytes) × (c ≡ command_of bytes))
+
+-- the line after so many has the events of what it asks for
+pub record HasOutcome (s : Setting) (text : Option (List ℕ)) (at : ℕ) (Js : List Journal) : Type 0 where
+  pub asked : Command
+  pub told : IsCommandAt text at asked
+  pub events : (lane : ℕ) → HasEvents s lane (at + 1) asked (journal_in lane Js)
+
+-- each line dealt with has its events, and no event is of another line
+pub record HaveOutcomes (s : Setting) (text : Option (List ℕ)) (dealt : ℕ) (Js : List Journal) : Type 0 where
+  pub each : (at : ℕ) → at < dealt → HasOutcome s text at Js
+  pub no_others : (lane line : ℕ) → (line ≡ 0) ⊎ (dealt < line) → events_of line (journal_in lane Js) ≡ []

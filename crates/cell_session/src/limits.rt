@@ -1,0 +1,7 @@
+//! What a session may have.
+
+/// The most lines of a session.
+pub const MOST_LINES: u32 = 50_000;
+
+/// The most bytes of a session, line feeds among them.
+pub const MOST_BYTES: u64 = 67_108_864;
