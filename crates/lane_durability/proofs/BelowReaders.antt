@@ -74,7 +74,7 @@ module _ (acks : ℕ) (P : ℕ → ℕ → Bool) (v : ℕ) where
       by_case false e = let x = untold acks P v q e in rw x.1 (none_of (is_read m.body) (eqb m.version w) (eqb m.round r) (eqb m.receiver n))
 
   -- a message is below v in both, or is v or above and in J alone, or in none
-  sent-either : (J : Journal) → Legal acks P J → (k : ℕ) → ((m : Message) × (sent k J ≡ Some m) × (m.version < v) × (sent k (below v J) ≡ Some m) × (first_reply k (below v J) ≡ told acks P v (first_reply k J)))
+  pub sent-either : (J : Journal) → Legal acks P J → (k : ℕ) → ((m : Message) × (sent k J ≡ Some m) × (m.version < v) × (sent k (below v J) ≡ Some m) × (first_reply k (below v J) ≡ told acks P v (first_reply k J)))
       ⊎ ((sent k (below v J) ≡ None) × ((m : Message) → sent k J ≡ Some m → v ≤ m.version))
   sent-either J l k = by_sent (sent k J) refl
     where
@@ -89,7 +89,7 @@ module _ (acks : ℕ) (P : ℕ → ℕ → Bool) (v : ℕ) where
         )
       ]
 
-  not_w : (w x : ℕ) → w < v → v ≤ x → eqb x w ≡ false
+  pub not_w : (w x : ℕ) → w < v → v ≤ x → eqb x w ≡ false
   not_w w x lt h = grind (arith, nat_tests)
 
   stored-below : (J : Journal) → Legal acks P J → (w : ℕ) (id : Id) (s : Stamp) (n k : ℕ) → w < v → stored_by w id s n (sent k (below v J)) (first_reply k (below v J)) ≡ stored_by w id s n (sent k J) (first_reply k J)

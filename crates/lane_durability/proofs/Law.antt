@@ -34,10 +34,10 @@ module _ (acks : ℕ) (P : ℕ → ℕ → Bool) (v : ℕ) where
   low-message : (J : Journal) (k : ℕ) (m : Message) → sent k J ≡ Some m → m.version < v → (x : Message) → sent k J ≡ Some x → x.version < v
   low-message J k m s lt x h = let same : m ≡ x = cc in subst (λ (y : Message). y.version < v) same lt
 
-  first-back : (J : Journal) → Legal acks P J → (k : ℕ) (m : Message) (r : Reply) → sent k J ≡ Some m → m.version < v → first_reply k (below v J) ≡ Some r → first_reply k J ≡ Some r
+  pub first-back : (J : Journal) → Legal acks P J → (k : ℕ) (m : Message) (r : Reply) → sent k J ≡ Some m → m.version < v → first_reply k (below v J) ≡ Some r → first_reply k J ≡ Some r
   first-back J l k m r s lt f = told-some (first_reply k J) r (sym (reply-below acks P v J l k (low-message J k m s lt)) ∙ f)
 
-  first-below : (J : Journal) → Legal acks P J → (k : ℕ) (m : Message) (r : Reply) → sent k J ≡ Some m → m.version < v → first_reply k J ≡ Some r → tells v r ≡ true → first_reply k (below v J) ≡ Some r
+  pub first-below : (J : Journal) → Legal acks P J → (k : ℕ) (m : Message) (r : Reply) → sent k J ≡ Some m → m.version < v → first_reply k J ≡ Some r → tells v r ≡ true → first_reply k (below v J) ≡ Some r
   first-below J l k m r s lt f t = reply-below acks P v J l k (low-message J k m s lt) ∙ told-keeps (first_reply k J) r f t
 
   shown-back : (J : Journal) → Legal acks P J → (w r n : ℕ) (b : Bucket) (g : Given) → Shown w r n b g (below v J) → Shown w r n b g J
@@ -66,7 +66,7 @@ module _ (acks : ℕ) (P : ℕ → ℕ → Bool) (v : ℕ) where
         back = returned-back v a.number J a.back;
       }
 
-  apply-below : (J : Journal) → Legal acks P J → (w r n : ℕ) (b : Bucket) → w < v → AnsweredApply w r n b J → AnsweredApply w r n b (below v J)
+  pub apply-below : (J : Journal) → Legal acks P J → (w r n : ℕ) (b : Bucket) → w < v → AnsweredApply w r n b J → AnsweredApply w r n b (below v J)
   apply-below J l w r n b lt a =
       let lt' : (a.message).version < v = (let z = a.version in omega arith) in
       record {
@@ -84,7 +84,7 @@ module _ (acks : ℕ) (P : ℕ → ℕ → Bool) (v : ℕ) where
         back = returned-below acks P v J l a.number a.message (Answer a.content a.names) a.was_sent lt' a.reply refl a.back;
       }
 
-  ask-below : (J : Journal) → Legal acks P J → (w n : ℕ) → w < v → AnsweredAsk w n J → AnsweredAsk w n (below v J)
+  pub ask-below : (J : Journal) → Legal acks P J → (w n : ℕ) → w < v → AnsweredAsk w n J → AnsweredAsk w n (below v J)
   ask-below J l w n lt a =
       let lt' : (a.message).version < v = (let z = a.version in omega arith) in
       record {
@@ -112,10 +112,10 @@ module _ (acks : ℕ) (P : ℕ → ℕ → Bool) (v : ℕ) where
       let low = low-line acks P v line J b o.began lt' in
       record { began = began-below acks P v J l line b o.began lt'; version = o.version; prepared = prepared-below acks P v line J l low ∙ o.prepared; unclosed = closed-below acks P v line J l low ∙ o.unclosed }
 
-  row-below : (J : Journal) (w : ℕ) (b : Bucket) → w < v → IsRow w b J → IsRow w b (below v J)
+  pub row-below : (J : Journal) (w : ℕ) (b : Bucket) → w < v → IsRow w b J → IsRow w b (below v J)
   row-below J w b lt r = record { fits = r.fits; opened = opened-below v w lt J ∙ r.opened; row = λ key i. row_at-below v w lt J key ∙ r.row key i }
 
-  member-below : (J : Journal) → Legal acks P J → (w n : ℕ) (b : Bucket) → w < v → IsMember w n b J → IsMember w n b (below v J)
+  pub member-below : (J : Journal) → Legal acks P J → (w n : ℕ) (b : Bucket) → w < v → IsMember w n b J → IsMember w n b (below v J)
   member-below J l w n b lt h key i = complete-below acks P v J l w n lt key ∙ h key i
 
   idle-below : (J : Journal) → Legal acks P J → (w : ℕ) (b : Bucket) → Idle w b J → Idle w b (below v J)
@@ -165,7 +165,7 @@ module _ (acks : ℕ) (P : ℕ → ℕ → Bool) (v : ℕ) where
   later-below : (J : Journal) → Legal acks P J → (k j : ℕ) (b : Beginning) → began k J ≡ Some b → b.version < v → sent j (before_line k J) ≡ None → sent j (before_line k (below v J)) ≡ None
   later-below J l k j b f lt h = rw (line-low J l k b f lt) (some-none _ (λ x g. let y = (sent-back acks P v (before_line k J) (before-legal acks P J l k) j x g).0 in cc))
 
-  later-back : (J : Journal) → Legal acks P J → (k j : ℕ) (b : Beginning) (m : Message) → began k J ≡ Some b → b.version < v → sent j J ≡ Some m → m.version < v → sent j (before_line k (below v J)) ≡ None → sent j (before_line k J) ≡ None
+  pub later-back : (J : Journal) → Legal acks P J → (k j : ℕ) (b : Beginning) (m : Message) → began k J ≡ Some b → b.version < v → sent j J ≡ Some m → m.version < v → sent j (before_line k (below v J)) ≡ None → sent j (before_line k J) ≡ None
   later-back J l k j b m f lt s low h = some-none _ (λ x g.
       let at = early-sent J l k j b x f g in
       let same : m ≡ x = cc in

@@ -13,3 +13,5 @@ pub mod Law
 pub mod Found
 pub mod Operations
 pub mod Bounds
+pub mod BelowPlaces
+pub mod KeptLaw
