@@ -6,6 +6,7 @@ use Rattle.lane_journals.specs.Buckets.{Id, Bucket, contains, key_of}
 use Rattle.lane_journals.specs.Events.{Activate, Event}
 use Rattle.lane_journals.specs.Readers.{Journal, Message, sent, version, store, acceptable, holds, base, complete, active, DeletedFrom, Acked}
 use Rattle.lane_journals.specs.Facts.{TookStore, InRegion}
+use Rattle.lane_journals.specs.RowLists.{Row, rows, IsIn}
 use Rattle.lane_journals.specs.Legal.{Legal}
 
 -- a Store that was accepted stays where it was accepted, or enough nodes hold it or a newer one
@@ -25,6 +26,11 @@ DeletesAreOne J = (v : ℕ) (b : Bucket) (n s q : ℕ) (c : Bucket) (m t r : ℕ
 -- a complete member holds what its version found and acknowledged, and has a piece over each key
 abbrev pub MembersHold : (ℕ → ℕ → Bool) → Journal → Type 0
 MembersHold P J = (v n : ℕ) (id : Id) → complete v n (key_of id) J ≡ true → version n J ≡ v →
+    ((m : ℕ) → P v m ≡ true → Le (base v m id J) (store n id J)) × ((s : Stamp) → Acked v id s J → Le (Some s) (store n id J))
+
+-- the same of the rows as a list
+abbrev pub RowsHold : (ℕ → ℕ → Bool) → Journal → Type 0
+RowsHold P J = (v n : ℕ) (r : Row) (id : Id) → IsIn r (rows v J) → r.members n ≡ true → version n J ≡ v → contains r.bucket (key_of id) ≡ true →
     ((m : ℕ) → P v m ≡ true → Le (base v m id J) (store n id J)) × ((s : Stamp) → Acked v id s J → Le (Some s) (store n id J))
 
 abbrev pub MembersHavePieces : Journal → Type 0

@@ -3,7 +3,7 @@
 ghost use Rattle.std.specs.Prelude.{◌≡◌, ◌≤◌, ℕ, Bool};
 ghost use Rattle.lane_journals.specs.Readers.{Journal};
 ghost use Rattle.lane_journals.specs.Legal.{Legal};
-ghost use Rattle.lane_durability.specs.Laws.{StoresStay, DeletesAreSafe, DeletesAreOne, MembersHold, MembersHavePieces, ActiveIsComplete, OneGetsActivate, RegionIsActive, RegionGetsNewer};
+ghost use Rattle.lane_durability.specs.Laws.{StoresStay, DeletesAreSafe, DeletesAreOne, MembersHold, RowsHold, MembersHavePieces, ActiveIsComplete, OneGetsActivate, RegionIsActive, RegionGetsNewer};
 
 /// What the nodes of a Store took stays with all of them, or enough nodes hold it or something newer.
 pub fn quorum_kept()
@@ -21,6 +21,7 @@ pub fn safe_delete()
 /// acknowledged under it, and has a piece over each key of the row.
 pub fn complete_members()
     ensures members { (acks : ℕ) → 1 ≤ acks → (P : ℕ → ℕ → Bool) → (J : Journal) → Legal acks P J → MembersHold P J }
+    ensures rows { (acks : ℕ) → 1 ≤ acks → (P : ℕ → ℕ → Bool) → (J : Journal) → Legal acks P J → RowsHold P J }
     ensures pieces { (acks : ℕ) → 1 ≤ acks → (P : ℕ → ℕ → Bool) → (J : Journal) → Legal acks P J → MembersHavePieces J }
 {}
 

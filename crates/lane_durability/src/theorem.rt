@@ -1,16 +1,25 @@
 //! The law on the versions below a version, and the durability theorem; no function here does anything.
 
-ghost use Rattle.std.specs.Prelude.{◌≡◌, ◌≤◌, ℕ, Bool};
+ghost use Rattle.std.specs.Prelude.{◌≡◌, ◌≤◌, ℕ, Bool, List};
 ghost use Rattle.lane_journals.specs.Readers.{Journal};
+ghost use Rattle.lane_journals.specs.Below.{below};
 ghost use Rattle.lane_journals.specs.Legal.{Legal};
+ghost use Rattle.lane_journals.specs.Meanings.{history};
+ghost use Rattle.lane_journals.specs.Places.{Setting};
+ghost use Rattle.lane_journals.specs.KeptJournals.{IsLegal};
+ghost use Rattle.lane_journals.specs.declared.event.LaneEvent.{LaneEvent};
+ghost use Rattle.lane_durability.specs.KeptBelow.{kept_below};
 ghost use Rattle.lane_durability.specs.Durability.{VersionsStandAlone, IsFound, IsDurable, LaterIsNewer, ReadsAreFresh, EnoughReadsAreCurrent, CountedOnce, SearchIsCurrent, LateAreOutside, FewAreOutside};
 
 /// The events of the versions below a version are a legal journal, whose stores are what each node held
 /// as it first took that version or a greater one. So what was acknowledged below a published version
-/// is held by a node that serves under it, as that node takes it.
+/// is held by a node that serves under it, as that node takes it. The same holds of journals as they are
+/// kept, with places, names and outcomes.
 pub fn versions_below()
     ensures law { (acks : ℕ) → 1 ≤ acks → (P : ℕ → ℕ → Bool) → (J : Journal) → Legal acks P J → VersionsStandAlone acks P J }
     ensures found { (acks : ℕ) → 1 ≤ acks → (P : ℕ → ℕ → Bool) → (J : Journal) → Legal acks P J → IsFound P J }
+    ensures kept { (S : Setting) (J : List LaneEvent) → IsLegal S J → (v : ℕ) → IsLegal S (kept_below v J) }
+    ensures means { (S : Setting) (J : List LaneEvent) → IsLegal S J → (v : ℕ) → history (kept_below v J) ≡ below v (history J) }
 {}
 
 /// The durability theorem: what was acknowledged, or something newer, is in enough node stores; an
@@ -24,6 +33,16 @@ pub fn durability()
     ensures current { (acks : ℕ) → 1 ≤ acks → (P : ℕ → ℕ → Bool) → (J : Journal) → Legal acks P J → EnoughReadsAreCurrent acks J }
     ensures late { (acks : ℕ) → 1 ≤ acks → (P : ℕ → ℕ → Bool) → (J : Journal) → Legal acks P J → LateAreOutside acks P J }
     ensures few { (acks : ℕ) → 1 ≤ acks → (P : ℕ → ℕ → Bool) → (J : Journal) → Legal acks P J → FewAreOutside acks P J }
+{}
+
+/// The durability theorem of journals as they are kept.
+pub fn kept_journals_are_durable()
+    ensures durable { (S : Setting) → 1 ≤ S.acks → (J : List LaneEvent) → IsLegal S J → IsDurable S.acks (history J) }
+    ensures later { (S : Setting) → 1 ≤ S.acks → (J : List LaneEvent) → IsLegal S J → LaterIsNewer (history J) }
+    ensures fresh { (S : Setting) → 1 ≤ S.acks → (J : List LaneEvent) → IsLegal S J → ReadsAreFresh (history J) }
+    ensures current { (S : Setting) → 1 ≤ S.acks → (J : List LaneEvent) → IsLegal S J → EnoughReadsAreCurrent S.acks (history J) }
+    ensures apart { (S : Setting) → 1 ≤ S.acks → (J : List LaneEvent) → IsLegal S J → CountedOnce (history J) }
+    ensures held { (S : Setting) → 1 ≤ S.acks → (J : List LaneEvent) → IsLegal S J → SearchIsCurrent (history J) }
 {}
 
 /// Regions of one version have no key in common, and a node that is at the version of its region holds
