@@ -1,6 +1,7 @@
 -- The states that were published, and why a state isn't.
 use Rattle.std.specs.Prelude.{◌≡◌, ◌&&◌, ◌+◌, ◌-◌, ◌≤◌, ℕ, zero, suc, Bool, true, not, List, length, Option, None, Some, nat_le, nat_lt, nat_eq, slice_get, slice_index_or, if◌then◌else◌}
 use Rattle.std.specs.List.{count_by, list_any}
+use Rattle.std.specs.Option.{option_or}
 use Rattle.node_sets.specs.Members.{has_node}
 use Rattle.cluster_states.specs.MarkTests.{is_up, counts}
 use Rattle.cluster_states.specs.declared.marks.Mark.TheVariants.{Down}
@@ -62,15 +63,10 @@ out_fault told s = if nat_le told.acks (out_of told.states s) then Some (TooMany
 abbrev pub room_fault : List State → Option PublishFault
 room_fault states = if nat_eq (length states) 65 then Some TooManyStates else None
 
--- the first of two faults
-abbrev pub first_fault : Option PublishFault → Option PublishFault → Option PublishFault
-first_fault (Some fault) other = Some fault
-first_fault None other = other
-
 -- why a state isn't published, the first cause that holds
 abbrev pub publish_fault : Told → State → Option PublishFault
-publish_fault told s = first_fault (older_fault (newest_of told.states) s)
-    (first_fault (distributor_fault s) (first_fault (up_fault told.acks s) (first_fault (out_fault told s) (room_fault told.states))))
+publish_fault told s = option_or (older_fault (newest_of told.states) s)
+    (option_or (distributor_fault s) (option_or (up_fault told.acks s) (option_or (out_fault told s) (room_fault told.states))))
 
 -- what is kept of the states
 pub record IsHistory (states : List State) (set : ℕ) : Type 0 where
