@@ -44,16 +44,16 @@ is_built v d = is_built_verb v && not (has_later_key (members_of d))
 abbrev pub fields_of : Data → Option Data
 fields_of d = get (codes "fields") d
 
-abbrev pub has_wanted : Verb → Data → Bool
-has_wanted verb.Put d = is_some (fields_of d)
-has_wanted verb.Update d = is_some (fields_of d)
-has_wanted verb.Remove d = true
-has_wanted verb.Get d = true
-has_wanted verb.Later d = true
+abbrev pub has_wanted : Verb → Option Data → Bool
+has_wanted verb.Put fields = is_some fields
+has_wanted verb.Update fields = is_some fields
+has_wanted verb.Remove fields = true
+has_wanted verb.Get fields = true
+has_wanted verb.Later fields = true
 
 -- no key but the verb's own, and `fields` where it is wanted
 abbrev pub has_right_keys : Verb → Data → Bool
-has_right_keys v d = all_stand v (members_of d) && has_wanted v d
+has_right_keys v d = all_stand v (members_of d) && has_wanted v (fields_of d)
 
 -- the verb's value, where it is the text of a document id
 abbrev pub as_id : Option (List ℕ) → Option (List ℕ)

@@ -15,6 +15,7 @@
 
 pub mod command;
 mod keys;
+pub mod laws;
 mod reading;
 mod shape;
 

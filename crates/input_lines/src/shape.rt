@@ -2,7 +2,7 @@ ghost use Rattle.std.specs.Prelude.{◌≡◌, Some, IfOk, option_map, option_an
 ghost use Rattle.serde_json.specs.Find.{get, as_str};
 ghost use Rattle.serde_json.specs.View.{view};
 ghost use Rattle.input_lines.specs.Keys.{has_later_key, all_stand};
-ghost use Rattle.input_lines.specs.Tests.{members_of, verb_of, is_built_verb, is_built, has_wanted, has_right_keys, as_id, id_in};
+ghost use Rattle.input_lines.specs.Tests.{members_of, verb_of, is_built_verb, is_built, fields_of, has_wanted, has_right_keys, as_id, id_in};
 
 use crate::keys::{Verb, all_stand, has_later_key, name_of, only_verb};
 use document_ids::{DocId, IdFault};
@@ -59,7 +59,7 @@ fn stands(verb: Verb, line: &Value) -> bool
 
 /// Whether `fields` is there, if the verb wants it.
 fn has_wanted(verb: Verb, line: &Value) -> bool
-    ensures { result ≡ has_wanted verb (view line.now) }
+    ensures { result ≡ has_wanted verb (fields_of (view line.now)) }
 {
     match verb {
         Verb::Put => line.get("fields").is_some(),
