@@ -1,0 +1,5 @@
+pub mod Coarsest
+pub mod Counts
+pub mod Inside
+pub mod RowLaws
+pub mod RowLists

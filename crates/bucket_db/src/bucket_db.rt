@@ -1,0 +1,112 @@
+ghost use Rattle.std.specs.Prelude.{◌≡◌, ℕ, ◌<◌, length, true, map, slice_get, Some, IfSome, IfOk, OnOk, OnErr};
+ghost use Rattle.bucket_ids.specs.Buckets.{has_key, IsIn};
+ghost use Rattle.bucket_db.specs.Rows.{AreRows, buckets_of};
+ghost use Rattle.bucket_db.specs.Answers.{IsCoarsest, new_row};
+ghost use Rattle.bucket_db.specs.Changes.{split_at, with_rows, with_joined, IsJoinable, IsJoined, at_row};
+ghost use Rattle.bucket_db.specs.declared.row.Row.{Row};
+
+use crate::row::{Deleting, Row, new_rows};
+use crate::{answers, changes, search};
+use bucket_ids::Bucket;
+use node_sets::NodeSet;
+use std::alloc::Global;
+use std::marker::Model;
+use value_lists::NoMemory;
+
+/// The rows of a lane.
+#[derive(Drop)]
+pub struct BucketDb {
+    lane: Bucket,
+    rows: Vec<Row>,
+}
+
+impl Model for BucketDb {
+    ghost use Rattle.bucket_db.specs.Rows.{Rows, AreRows, buckets_of, rows_code};
+
+    ghost Value = { Rows };
+
+    ghost coded = { rows_code };
+
+    ghost view = { λ d. record { lane = d.lane; rows = d.rows.items } };
+
+    ghost invariant = { λ d. AreRows d.lane (buckets_of d.rows.items) };
+}
+
+impl BucketDb {
+    /// The rows that the answers of nodes give, each without marks.
+    pub fn of_answers(alloc: Global, lane: Bucket, answers: &[Bucket]) -> Result<BucketDb, NoMemory>
+        ensures lane { IfOk result (λ db. db.lane ≡ lane) }
+        ensures coarsest { IfOk result (λ db. IsCoarsest lane answers.now (buckets_of db.rows)) }
+        ensures unmarked { IfOk result (λ db. db.rows ≡ map new_row (buckets_of db.rows)) }
+    {
+        let buckets = answers::buckets_of(alloc, lane, answers)?;
+        let rows = new_rows(alloc, &buckets)?;
+        Ok(BucketDb { lane, rows })
+    }
+
+    /// The rows, in rising bucket number.
+    pub fn rows(&self) -> &[Row]
+        ensures list { result.now ≡ self.now.rows }
+        ensures whole { AreRows self.now.lane (buckets_of self.now.rows) }
+    {
+        &self.rows
+    }
+
+    /// The place of the row that a key of the lane lies in.
+    pub fn row_of(&self, key: u64) -> usize
+        requires { IsIn self.now.lane key }
+        ensures within { result < length self.now.rows }
+        ensures found { IfSome (slice_get self.now.rows result) (λ row. has_key row.bucket key ≡ true) }
+        ensures only { (at : ℕ) (row : Row) → slice_get self.now.rows at ≡ Some row → has_key row.bucket key ≡ true → at ≡ result }
+    {
+        search::place_of(&self.rows, key)
+    }
+
+    /// Splits a row: each half inherits the marks, the active node and the Delete.
+    pub fn split_row(&mut self, at: usize) -> Result<(), NoMemory>
+        requires place { at < length self.old.rows }
+        requires fewer { IfSome (slice_get self.old.rows at) (λ row. row.bucket.bits < 58) }
+        ensures ok { OnOk result (self.new ≡ with_rows self.old (split_at at self.old.rows)) }
+        ensures err { OnErr result (self.new ≡ self.old) }
+    {
+        changes::split_at(&mut self.rows, at)
+    }
+
+    /// Joins a row with its sibling, where that is a row too: common marks stay, and the Delete of
+    /// either.
+    pub fn join_rows(&mut self, at: usize) -> Result<(), NoMemory>
+        requires place { at < length self.old.rows }
+        requires joinable { IfSome (slice_get self.old.rows at) (λ row. (other : Row) × IsJoinable self.old.lane self.old.rows row other) }
+        ensures ok { (row other : Row) → slice_get self.old.rows at ≡ Some row → IsJoinable self.old.lane self.old.rows row other
+            → OnOk result ((joined : Row) × IsJoined row other joined × (self.new ≡ with_rows self.old (with_joined joined self.old.rows))) }
+        ensures err { OnErr result (self.new ≡ self.old) }
+    {
+        let sibling = self.rows[at].bucket.sibling();
+        let other = search::place_of(&self.rows, sibling.low());
+        changes::join_at(&mut self.rows, at, other)
+    }
+
+    /// Says which nodes are complete members of a row.
+    pub fn set_marks(&mut self, at: usize, complete: NodeSet)
+        requires { at < length self.old.rows }
+        ensures { self.new ≡ with_rows self.old (at_row at (λ row. record row { complete = complete }) self.old.rows) }
+    {
+        self.rows[at].complete = complete;
+    }
+
+    /// Says that a node is a row's active one.
+    pub fn set_active(&mut self, at: usize, node: u8)
+        requires { at < length self.old.rows }
+        ensures { self.new ≡ with_rows self.old (at_row at (λ row. record row { active = Some node }) self.old.rows) }
+    {
+        self.rows[at].active = Some(node);
+    }
+
+    /// Says which Delete of a row has no answer.
+    pub fn set_deleting(&mut self, at: usize, deleting: Option<Deleting>)
+        requires { at < length self.old.rows }
+        ensures { self.new ≡ with_rows self.old (at_row at (λ row. record row { deleting = deleting }) self.old.rows) }
+    {
+        self.rows[at].deleting = deleting;
+    }
+}
