@@ -6,3 +6,4 @@ pub mod TokenLaws
 pub mod ValueLaws
 pub mod LiteralLaws
 pub mod IntegerLaws
+pub mod SchemaLaws

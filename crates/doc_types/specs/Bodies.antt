@@ -1,5 +1,5 @@
 -- What the reading of a text literal's body gives.
-use Rattle.std.specs.Prelude.{◌≡◌, ◌==◌, ℕ, ◌+◌, ◌-◌, ◌≤◌, List, ◌++◌, length, drop, slice_index_or, Option, Some, None, option_map, Vec, if◌then◌else◌}
+use Rattle.std.specs.Prelude.{◌≡◌, ◌==◌, ℕ, ◌+◌, ◌-◌, ◌≤◌, List, length, drop, slice_index_or, Option, Some, None, Vec, if◌then◌else◌}
 use Rattle.doc_types.specs.Tokens.{body_at, is_escaped}
 
 -- the content, and how many bytes it takes with its closing quote
@@ -12,7 +12,3 @@ abbrev pub content_at : List ℕ → ℕ → Option ℕ
 content_at bytes at = if slice_index_or bytes at 0 == 92
     then (if at + 1 == length bytes then None else (if is_escaped (slice_index_or bytes (at + 1) 0) then Some (at + 1) else None))
     else Some at
-
--- a content with what was read before
-abbrev pub with_front : List ℕ → Option (List ℕ × List ℕ) → Option (List ℕ × List ℕ)
-with_front front read = option_map (λ p. (front ++ p.0, p.1)) read

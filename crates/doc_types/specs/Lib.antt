@@ -1,13 +1,14 @@
--- What a caller needs: `Tokens`, `Symbols`, `Spelling` and `Fronts` (tokens), `Values` (the order of values), `SchemaCodes`
--- (what a schema is) and `Schemas` (which texts are schemas, and what they say). `Bodies`, `Reading` and
--- `SchemaMaps` serve the code alone.
+-- What a caller needs: `Tokens`, `Symbols`, `Spelling` and `Fronts` (tokens), `Reading` (the token of a lexeme),
+-- `Values` (the order of values), `SchemaCodes` (what a schema is), `SchemaTexts` (which JSON values are schemas)
+-- and `Schemas` (their faults, and what they say). `Bodies` and `SchemaMaps` serve the code alone.
 pub mod Symbols
 pub mod Tokens
 pub mod Spelling
 pub mod Fronts
+pub mod Reading
 pub mod Values
 pub mod SchemaCodes
+pub mod SchemaTexts
 pub mod Schemas
 pub mod Bodies
-pub mod Reading
 pub mod SchemaMaps

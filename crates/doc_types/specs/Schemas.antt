@@ -1,6 +1,7 @@
 -- Schemas: which texts are right, and what they say.
 use Rattle.std.specs.Prelude.{◌&&◌, ◌||◌, ℕ, ◌+◌, min, Bool, false, not, List, [], ◌∷◌, length, codes, Option, Some, None, is_some, option_map, option_and_then, nat_lt, if◌then◌else◌}
 use Rattle.std.specs.List.{list_all}
+use Rattle.std.specs.Option.{option_or}
 use Rattle.std.specs.Str.{bytes_eq}
 use Rattle.std.specs.FinMap as fin
 use Rattle.serde_json.specs.Data.{Data, Members, no_members, member}
@@ -66,14 +67,10 @@ abbrev pub members_in : Option Members → Members
 members_in None = no_members
 members_in (Some ms) = ms
 
-abbrev pub first_fault : Option SchemaFault → Option SchemaFault → Option SchemaFault
-first_fault None other = other
-first_fault (Some fault) other = Some fault
-
 -- the first wrong field of the first type that has one
 abbrev pub field_fault : ℕ → Members → Option SchemaFault
 field_fault place no_members = None
-field_fault place (member name d ms) = first_fault (fields_fault place 0 (members_in (as_object d))) (field_fault (next_place place) ms)
+field_fault place (member name d ms) = option_or (fields_fault place 0 (members_in (as_object d))) (field_fault (next_place place) ms)
 
 -- a type has more than 32 fields
 abbrev pub has_many_fields : Members → Bool
@@ -84,7 +81,7 @@ abbrev pub size_fault : Members → Option SchemaFault
 size_fault ms = if nat_lt 16 (members_len ms) || has_many_fields ms then Some TooMany else None
 
 abbrev pub members_fault : Members → Option SchemaFault
-members_fault ms = first_fault (name_fault 0 ms) (first_fault (field_fault 0 ms) (size_fault ms))
+members_fault ms = option_or (name_fault 0 ms) (option_or (field_fault 0 ms) (size_fault ms))
 
 abbrev pub object_fault : Option Members → Option SchemaFault
 object_fault None = Some NotObject

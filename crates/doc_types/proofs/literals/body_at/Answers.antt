@@ -1,7 +1,7 @@
 use Rattle.std.proofs.Common.{◌≡◌, ◌<◌, ◌+◌, ◌-◌, suc, ◌∙◌, sym, ap, ap₂, arith, length, drop, get_or, Some}
 use Rattle.std.proofs.lemmas.List.{append-nil}
 use Rattle.doc_types.specs.Tokens.{body_at, with_byte}
-use Rattle.doc_types.specs.Bodies.{with_front}
+use Rattle.doc_types.proofs.BodyReading.{with_front}
 use Rattle.doc_types.proofs.BodyReading.{body_ends, body_meant, meant, front_more}
 use Rattle.doc_types.proofs.literals.body_at.Goals as goal
 

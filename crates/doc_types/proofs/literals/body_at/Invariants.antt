@@ -1,6 +1,6 @@
 use Rattle.std.proofs.Common.{◌≡◌, ◌-◌, ◌≤◌, drop, length}
 use Rattle.doc_types.specs.Tokens.{body_at}
-use Rattle.doc_types.specs.Bodies.{with_front}
+use Rattle.doc_types.proofs.BodyReading.{with_front}
 use Rattle.doc_types.proofs.literals.body_at.Given as goal
 
 -- what was read and what the rest gives is what the whole gives
