@@ -7,3 +7,4 @@ pub mod ValueLaws
 pub mod LiteralLaws
 pub mod IntegerLaws
 pub mod SchemaLaws
+pub mod Known

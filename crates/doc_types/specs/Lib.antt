@@ -1,6 +1,7 @@
 -- What a caller needs: `Tokens`, `Symbols`, `Spelling` and `Fronts` (tokens), `Reading` (the token of a lexeme),
--- `Values` (the order of values), `SchemaCodes` (what a schema is), `SchemaTexts` (which JSON values are schemas)
--- and `Schemas` (their faults, and what they say). `Bodies` and `SchemaMaps` serve the code alone.
+-- `Values` (the order of values), `SchemaCodes` (what a schema is), `SchemaTexts` (which JSON values are schemas),
+-- `Schemas` (their faults, and what they say) and `Known` (which types have fields). `Bodies` and `SchemaMaps` serve the
+-- code alone.
 pub mod Symbols
 pub mod Tokens
 pub mod Spelling
@@ -10,5 +11,6 @@ pub mod Values
 pub mod SchemaCodes
 pub mod SchemaTexts
 pub mod Schemas
+pub mod Known
 pub mod Bodies
 pub mod SchemaMaps

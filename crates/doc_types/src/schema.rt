@@ -5,6 +5,7 @@ ghost use Rattle.serde_json.specs.Read.{read};
 ghost use Rattle.serde_json.specs.View.{view, members_view};
 ghost use Rattle.doc_types.specs.Schemas.{schema_fault, members_in, fields_of, types_of, schema_in, schema_of};
 ghost use Rattle.doc_types.specs.SchemaCodes.{name_cmp};
+ghost use Rattle.doc_types.specs.Known.{has_fields, some_fields};
 ghost use Rattle.doc_types.specs.declared.schema_faults.SchemaFault.TheVariants as reason;
 ghost use Rattle.doc_types.specs.SchemaMaps.{field_pair, type_pair};
 
@@ -135,6 +136,16 @@ impl Schema {
         type_named(&self.types, name).is_some()
     }
 
+    /// Whether there is a type of this name with a field; takes no memory.
+    pub fn has_fields(&self, type_name: &str) -> bool
+        ensures { result ≡ has_fields self.now type_name.now }
+    {
+        match type_named(&self.types, type_name) {
+            Some(found) => some_field(&found.fields),
+            None => false,
+        }
+    }
+
     /// The kind of a field of a type; takes no memory.
     pub fn field(&self, type_name: &str, field: &str) -> Option<FieldType>
         ensures { result ≡ option_and_then (λ fields. fin.get fields field.now) (fin.get self.now type_name.now) }
@@ -144,6 +155,13 @@ impl Schema {
             None => None,
         }
     }
+}
+
+/// Whether there is a field.
+fn some_field(fields: &[FieldOf]) -> bool
+    ensures { result ≡ some_fields (Some (fin.from_entries (map field_pair fields.now))) }
+{
+    !fields.is_empty()
 }
 
 /// The kind of the field of a name.
