@@ -1,9 +1,9 @@
 -- Buckets inside buckets, and their numbers.
-use Rattle.std.proofs.Common.{◌≡◌, ℕ, ◌+◌, ◌-◌, ◌*◌, ◌%◌, ◌^◌, ◌<◌, ◌≤◌, ◌⊎◌, Bool, true, false, ◌||◌, IsTrue, List, cond, inl, inr, refl, sym, ap, ap₂, ◌∙◌, subst, arith, add-one, pow-suc, mod-eq_of_lt}
+use Rattle.std.proofs.Common.{◌≡◌, ℕ, ◌+◌, ◌%◌, ◌^◌, ◌<◌, ◌≤◌, ◌⊎◌, Bool, true, false, cond, inl, inr, refl, sym, ap, ap₂, ◌∙◌, arith, add-one, pow-suc, mod-eq_of_lt}
 use Rattle.std.proofs.lemmas.Nat.{pow_below}
 use Rattle.std.proofs.lemmas.Bool.{cases_lt}
 use Rattle.std.proofs.lemmas.Bool.Decides.{nat_tests}
-use Rattle.bucket_ids.specs.Buckets.{Low, IsBucket, IsIn, has_key, covers, first_child, second_child}
+use Rattle.bucket_ids.specs.Buckets.{Low, IsBucket, has_key, covers, first_child, second_child}
 use Rattle.bucket_ids.specs.Printed.{number_of}
 use Rattle.bucket_ids.proofs.KeySets.{low_of_low, next_bit, children_parts, children_apart}
 use Rattle.bucket_db.specs.Answers.{is_inside}

@@ -1,17 +1,17 @@
 -- Splits and joins keep the rows a partition in rising number.
-use Rattle.std.proofs.Common.{◌≡◌, ℕ, zero, suc, ◌+◌, ◌-◌, ◌%◌, ◌^◌, ◌<◌, ◌≤◌, ◌⊎◌, Bool, true, false, not, ◌&&◌, nat_lt, List, [], ◌∷◌, length, get_or, cond, Option, Some, None, inl, inr, refl, sym, ap, ap₂, ◌∙◌, subst, arith, mod-eq_of_lt, pow_pos}
-use Rattle.std.specs.List.{AllByRecursion, count_by, filter, remove}
+use Rattle.std.proofs.Common.{◌≡◌, ℕ, zero, suc, ◌+◌, ◌-◌, ◌^◌, ◌<◌, ◌≤◌, Bool, true, false, not, ◌&&◌, nat_lt, List, [], ◌∷◌, length, get_or, cond, Option, Some, None, inl, inr, refl, sym, ap, ◌∙◌, subst, arith, mod-eq_of_lt, pow_pos}
+use Rattle.std.specs.List.{count_by, filter, remove}
 use Rattle.std.specs.Prelude.{slice_get, IfSome}
 use Rattle.std.proofs.lemmas.Nat.{mod_below}
 use Rattle.std.proofs.lemmas.Option.{slice_get-get_or}
-use Rattle.bucket_ids.specs.Buckets.{Low, IsBucket, IsIn, has_key, covers, first_child, second_child, parent_of, sibling_of}
+use Rattle.bucket_ids.specs.Buckets.{Low, IsBucket, has_key, covers, first_child, second_child, parent_of, sibling_of}
 use Rattle.bucket_ids.specs.Printed.{number_of}
 use Rattle.bucket_ids.proofs.KeySets.{sibling_parts, sibling_fits}
 use Rattle.bucket_db.specs.Changes.{placed, with_row, with_halves, split_at, with_joined, first_half, second_half, IsJoinable}
-use Rattle.bucket_db.specs.Rows.{AreBuckets, AreRows, IsPartition, RisesFrom, buckets_of}
+use Rattle.bucket_db.specs.Rows.{AreBuckets, AreRows, buckets_of}
 use Rattle.bucket_db.specs.declared.row.Row.{Row}
 use Rattle.bucket_db.proofs.Counts.{one_if, count_cons, count_at, count_none, count_parts}
-use Rattle.bucket_db.proofs.Inside.{low_below, key_in, key_has, covers_from, covers_key, covers_self, first_valid, second_valid, halves}
+use Rattle.bucket_db.proofs.Inside.{low_below, key_in, key_has, covers_from, covers_key, first_valid, second_valid, halves}
 use Rattle.bucket_db.proofs.RowLists.{rises_placed, rises_removed, rises_filtered, buckets_placed, buckets_removed, buckets_filtered, bucket_at, valid_at, some_with, read_is}
 
 count_placed : {X : Type 0} (p : X → Bool) (number : X → ℕ) (x : X) (xs : List X) → count_by p (placed number x xs) ≡ one_if (p x) + count_by p xs

@@ -1,6 +1,6 @@
 -- Lists of rows by number.
-use Rattle.std.proofs.Common.{◌≡◌, ℕ, zero, suc, ◌+◌, ◌*◌, ◌%◌, ◌^◌, ◌<◌, ◌≤◌, Bool, true, false, not, nat_lt, List, [], ◌∷◌, ◌++◌, map, length, take, drop, get_or, cond, Option, Some, None, inl, inr, refl, sym, ap, ap₂, ◌∙◌, subst, arith}
-use Rattle.std.specs.List.{AllByRecursion, AllWithin, count_by, filter, insert, remove}
+use Rattle.std.proofs.Common.{◌≡◌, ℕ, zero, suc, ◌+◌, ◌*◌, ◌%◌, ◌^◌, ◌<◌, ◌≤◌, Bool, true, false, nat_lt, List, [], ◌∷◌, map, length, get_or, cond, Option, Some, None, inl, inr, refl, sym, ap, ap₂, ◌∙◌, subst, arith}
+use Rattle.std.specs.List.{AllWithin, count_by, filter, insert, remove}
 use Rattle.std.specs.List.Sorted.{IsNonDecreasingBy}
 use Rattle.std.specs.Prelude.{slice_get, slice_set, IfSome}
 use Rattle.std.proofs.lemmas.Bool.{cases_lt, ltb-true, ltb-false}
@@ -11,8 +11,8 @@ use Rattle.bucket_db.specs.Answers.{new_row}
 use Rattle.bucket_db.specs.Changes.{placed, with_row, at_row}
 use Rattle.bucket_db.specs.Rows.{AreBuckets, RisesFrom, buckets_of}
 use Rattle.bucket_db.specs.declared.row.Row.{Row}
-use Rattle.bucket_db.proofs.Counts.{count_cons, count_map, count_once, count_found}
-use Rattle.bucket_db.proofs.Inside.{key_in, key_has, number_bits, number_same}
+use Rattle.bucket_db.proofs.Counts.{count_map, count_once, count_found}
+use Rattle.bucket_db.proofs.Inside.{key_in, number_bits, number_same}
 
 -- ---- rising numbers by place
 

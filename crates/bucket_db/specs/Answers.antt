@@ -1,5 +1,5 @@
 -- The rows that answers give: the coarsest partition such that no answer lies strictly inside a row.
-use Rattle.std.specs.Prelude.{◌≡◌, Bool, true, false, ◌&&◌, nat_lt, List, [], ◌∷◌, None, map}
+use Rattle.std.specs.Prelude.{◌≡◌, Bool, true, false, ◌&&◌, nat_lt, List, None}
 use Rattle.std.specs.List.{AllByRecursion, list_any}
 use Rattle.bucket_ids.specs.Buckets.{Low, covers}
 use Rattle.bucket_db.specs.Rows.{AreBuckets, IsPartition}

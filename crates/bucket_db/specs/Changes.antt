@@ -1,5 +1,5 @@
 -- What the calls make of the rows.
-use Rattle.std.specs.Prelude.{◌≡◌, ◌⊎◌, ℕ, zero, suc, ◌<◌, Bool, ◌&&◌, not, nat_lt, List, [], ◌∷◌, Option, Some, None, map, slice_get, if◌then◌else◌}
+use Rattle.std.specs.Prelude.{◌≡◌, ◌⊎◌, ℕ, zero, suc, ◌<◌, ◌&&◌, not, nat_lt, List, [], ◌∷◌, Option, Some, None, slice_get, if◌then◌else◌}
 use Rattle.std.specs.List.{Contains, filter, remove}
 use Rattle.bucket_ids.specs.Buckets.{Low, covers, first_child, second_child, parent_of, sibling_of}
 use Rattle.bucket_ids.specs.Printed.{number_of}

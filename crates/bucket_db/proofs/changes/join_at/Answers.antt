@@ -1,4 +1,4 @@
-use Rattle.std.proofs.Common.{◌≡◌, ◌∙◌, ap, sym, subst, not, List}
+use Rattle.std.proofs.Common.{◌∙◌, ap, sym, subst, not, List}
 use Rattle.std.specs.List.{filter}
 use Rattle.bucket_ids.specs.Buckets.{covers}
 use Rattle.bucket_db.specs.Changes.{IsJoined, with_row}

@@ -1,7 +1,7 @@
 use Rattle.std.proofs.Common.{◌≡◌, ◌<◌, ℕ, length, ap, sym, subst, List, Some, arith}
 use Rattle.std.specs.Prelude.{slice_get, IfSome}
 use Rattle.std.proofs.lemmas.Result.{on_ok_weaker}
-use Rattle.bucket_db.specs.Changes.{IsJoinable, IsJoined, with_joined}
+use Rattle.bucket_db.specs.Changes.{IsJoinable}
 use Rattle.bucket_db.specs.Rows.{AreRows, Rows, buckets_of}
 use Rattle.bucket_db.specs.declared.row.Row.{Row}
 use Rattle.bucket_db.proofs.Counts.{on_either}

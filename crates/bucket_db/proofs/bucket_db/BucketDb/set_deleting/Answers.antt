@@ -1,4 +1,4 @@
-use Rattle.std.proofs.Common.{◌<◌, length, Some, refl, sym, ap, subst, List}
+use Rattle.std.proofs.Common.{◌<◌, length, refl, sym, ap, subst, List}
 use Rattle.bucket_db.specs.Rows.{AreRows, Rows}
 use Rattle.bucket_db.specs.declared.row.Row.{Row}
 use Rattle.bucket_db.proofs.RowLists.{set_at_row, set_buckets}
