@@ -119,7 +119,8 @@ impl Bucket {
         requires { self.bits < 58 }
         ensures first { result.0 ≡ first_child self }
         ensures second { result.1 ≡ second_child self }
-        ensures parts { (key : ℕ) → IsIn self key ↔ (IsIn (first_child self) key ⊎ IsIn (second_child self) key) }
+        ensures parts { (key : ℕ)
+            → IsIn self key ↔ (IsIn (first_child self) key ⊎ IsIn (second_child self) key) }
         ensures apart { (key : ℕ) → IsIn (first_child self) key → IsIn (second_child self) key → ⊥ }
     {
         let bits = self.bits + 1;
@@ -183,7 +184,8 @@ impl Bucket {
     /// The bucket of this number.
     fn of_number(number: u64) -> Result<Bucket, BadBucket>
         ensures read { IfOk result (λ b. IsBucket b × (b.bits ≡ number / 2 ^ 58) × (b.low ≡ number % 2 ^ 58)) }
-        ensures refused { OnErr result (IsBucket (record { bits = number / 2 ^ 58; low = number % 2 ^ 58 }) → ⊥) }
+        ensures refused { OnErr result
+            (IsBucket (record { bits = number / 2 ^ 58; low = number % 2 ^ 58 }) → ⊥) }
     {
         let bits = (number / (1 << 58)) as u8;
         let low = number % (1 << 58);

@@ -110,7 +110,8 @@ impl ClusterState {
     pub(crate) fn with_distributors(self, count: u8) -> ClusterState
         requires some { 1 ≤ count }
         requires few { count ≤ 32 }
-        ensures { result ≡ record { version = self.version; distributors = replicate count Up; nodes = self.nodes } }
+        ensures { result
+            ≡ record { version = self.version; distributors = replicate count Up; nodes = self.nodes } }
     {
         ClusterState {
             distributors: Marks::all_up(count),
@@ -122,7 +123,8 @@ impl ClusterState {
     pub(crate) fn with_nodes(self, count: u8) -> ClusterState
         requires some { 1 ≤ count }
         requires few { count ≤ 32 }
-        ensures { result ≡ record { version = self.version; distributors = self.distributors; nodes = replicate count Up } }
+        ensures { result
+            ≡ record { version = self.version; distributors = self.distributors; nodes = replicate count Up } }
     {
         ClusterState {
             nodes: Marks::all_up(count),

@@ -90,7 +90,8 @@ impl States {
         ensures cause { IfErr result (λ fault. publish_fault self.old state.now ≡ Some fault) }
         ensures err { OnErr result (self.new ≡ self.old) }
         ensures none { OnOk result (publish_fault self.old state.now ≡ None) }
-        ensures ok { OnOk result (self.new ≡ record { acks = self.old.acks; states = self.old.states ++ state.now ∷ [] }) }
+        ensures ok { OnOk result
+            (self.new ≡ record { acks = self.old.acks; states = self.old.states ++ state.now ∷ [] }) }
     {
         if let Some(fault) = self.fault(state) {
             return Err(fault);

@@ -20,7 +20,8 @@ fn is_numeral(digits: &[u8]) -> bool
 /// The number of these digits, where it is at most 2^63.
 fn magnitude(digits: &[u8]) -> Option<u64>
     requires digits { list_all is_ascii_digit digits.now ≡ true }
-    ensures { MatchOption result (2 ^ 63 < digits_value 10 digits.now) (λ v. (v ≡ digits_value 10 digits.now) × (v ≤ 2 ^ 63)) }
+    ensures { MatchOption result (2 ^ 63 < digits_value 10 digits.now)
+        (λ v. (v ≡ digits_value 10 digits.now) × (v ≤ 2 ^ 63)) }
 {
     let mut value: u128 = 0;
     for digit in digits {

@@ -17,9 +17,12 @@ ghost use Rattle.doc_types.specs.Values.{value_order};
 /// A token is a front of its text that isn't empty, so reading goes on; a word ends where no name byte
 /// follows and a number where no digit follows, so each is the longest at its place.
 pub fn tokens_are_fronts()
-    ensures front { (language : Language) (text rest : List ℕ) (t : Token) → token_at language text ≡ Some (t, rest) → IsFront text rest }
-    ensures words { (language : Language) (text rest w : List ℕ) → token_at language text ≡ Some (word w, rest) → (text ≡ w ++ rest) × BeginsNot is_name rest }
-    ensures numbers { (language : Language) (text rest : List ℕ) (z : ℤ) → token_at language text ≡ Some (integer z, rest) → BeginsNot is_ascii_digit rest }
+    ensures front { (language : Language) (text rest : List ℕ) (t : Token)
+        → token_at language text ≡ Some (t, rest) → IsFront text rest }
+    ensures words { (language : Language) (text rest w : List ℕ)
+        → token_at language text ≡ Some (word w, rest) → (text ≡ w ++ rest) × BeginsNot is_name rest }
+    ensures numbers { (language : Language) (text rest : List ℕ) (z : ℤ)
+        → token_at language text ≡ Some (integer z, rest) → BeginsNot is_ascii_digit rest }
 {}
 
 /// A text literal is what is spelled between its quotes: each byte as itself, or a backslash or a quote
@@ -35,7 +38,8 @@ pub fn literals_are_spelled()
 /// form, behind a `-` or not, and no digit follows.
 pub fn integers_are_decimal()
     ensures { (language : Language) (text rest : List ℕ) (z : ℤ)
-        → (token_at language text ≡ Some (integer z, rest)) ↔ (SaysInteger text z rest × BeginsNot is_ascii_digit rest) }
+        → (token_at language text ≡ Some (integer z, rest))
+        ↔ (SaysInteger text z rest × BeginsNot is_ascii_digit rest) }
 {}
 
 /// A JSON value is a schema exactly where it is an object of at most 16 types, each of which has a name and is
@@ -49,5 +53,6 @@ pub fn schemas_are_spelled()
 pub fn values_are_ordered()
     ensures same { (a b : FieldValue) → value_order a b ≡ Some Equal → a ≡ b }
     ensures turned { (a b : FieldValue) → value_order b a ≡ option_map ordering_reverse (value_order a b) }
-    ensures transitive { (a b c : FieldValue) → value_order a b ≡ Some Less → value_order b c ≡ Some Less → value_order a c ≡ Some Less }
+    ensures transitive { (a b c : FieldValue) → value_order a b ≡ Some Less → value_order b c ≡ Some Less
+        → value_order a c ≡ Some Less }
 {}

@@ -73,7 +73,8 @@ fn fields_of(alloc: Global, fields: &Map<String, Value>) -> Result<Vec<FieldOf>,
 
 /// The fields of a type; none where a value is no object.
 fn fields_in(alloc: Global, value: &Value) -> Result<Vec<FieldOf>, NoMemory>
-    ensures { IfOk result (λ list. map field_pair list.items ≡ fields_of (members_in (as_object (view value.now)))) }
+    ensures { IfOk result (λ list. map field_pair list.items
+        ≡ fields_of (members_in (as_object (view value.now)))) }
 {
     match value.as_object() {
         Some(fields) => fields_of(alloc, fields),
@@ -97,14 +98,16 @@ fn types_of(alloc: Global, members: &Map<String, Value>) -> Result<Vec<TypeOf>, 
 
 /// The type of a name.
 fn type_named<'a>(types: &'a [TypeOf], name: &str) -> Option<&'a TypeOf>
-    ensures { option_map (λ t. (type_pair t.now).1) result ≡ fin.find name_cmp name.now (map type_pair types.now) }
+    ensures { option_map (λ t. (type_pair t.now).1) result
+        ≡ fin.find name_cmp name.now (map type_pair types.now) }
 {
     types.iter().find(|t| t.name.as_str() == name)
 }
 
 /// The field of a name.
 fn field_named<'a>(fields: &'a [FieldOf], name: &str) -> Option<&'a FieldOf>
-    ensures { option_map (λ f. (field_pair f.now).1) result ≡ fin.find name_cmp name.now (map field_pair fields.now) }
+    ensures { option_map (λ f. (field_pair f.now).1) result
+        ≡ fin.find name_cmp name.now (map field_pair fields.now) }
 {
     fields.iter().find(|f| f.name.as_str() == name)
 }
@@ -114,8 +117,10 @@ impl Schema {
     /// names to `"int"`, `"text"`, `"ints"` or `"texts"`. A name is an ASCII letter and then up to 63
     /// ASCII letters, digits and `_`, and no word of selections or queries.
     pub fn from_json(alloc: Global, text: &str) -> Result<Schema, SchemaFault>
-        ensures read { IfOk result (λ schema. (schema_fault (read text.now) ≡ None) × (schema_in (read text.now) ≡ Some schema)) }
-        ensures refused { IfErr result (λ fault. (fault ≢ reason.NoMemory) → (schema_fault (read text.now) ≡ Some fault)) }
+        ensures read { IfOk result (λ schema. (schema_fault (read text.now) ≡ None)
+            × (schema_in (read text.now) ≡ Some schema)) }
+        ensures refused { IfErr result (λ fault. (fault ≢ reason.NoMemory)
+            → (schema_fault (read text.now) ≡ Some fault)) }
     {
         let value = match Value::from_str(alloc, text) {
             Ok(value) => value,
@@ -176,8 +181,10 @@ fn kind_of(fields: &[FieldOf], name: &str) -> Option<FieldType>
 
 /// The schema that a value says.
 fn schema_from(alloc: Global, value: &Value) -> Result<Schema, SchemaFault>
-    ensures read { IfOk result (λ schema. (schema_fault (Some (view value.now)) ≡ None) × (schema_in (Some (view value.now)) ≡ Some schema)) }
-    ensures refused { IfErr result (λ fault. (fault ≢ reason.NoMemory) → (schema_fault (Some (view value.now)) ≡ Some fault)) }
+    ensures read { IfOk result (λ schema. (schema_fault (Some (view value.now)) ≡ None)
+        × (schema_in (Some (view value.now)) ≡ Some schema)) }
+    ensures refused { IfErr result (λ fault. (fault ≢ reason.NoMemory)
+        → (schema_fault (Some (view value.now)) ≡ Some fault)) }
 {
     let Some(members) = value.as_object() else {
         return Err(SchemaFault::NotObject);

@@ -30,7 +30,8 @@ pub fn find_end<S: Source>(window: &mut Window, source: &mut S, room: u64) -> Li
     requires room { window.old.passed ≤ room }
     requires long { IsLong window.old }
     ensures found { Finds window.new room (S.left source.new) result }
-    ensures kept { (bytes : List ℕ) → HoldsIn bytes window.old (S.left source.old) → HoldsIn bytes window.new (S.left source.new) }
+    ensures kept { (bytes : List ℕ) → HoldsIn bytes window.old (S.left source.old)
+        → HoldsIn bytes window.new (S.left source.new) }
     ensures room { window.new.passed ≤ room }
     ensures long { IsLong window.new }
     ensures count { S.faults source.old ≤ S.faults source.new }

@@ -2,10 +2,10 @@
 //! the reader of lines.
 //!
 //! A `Source` may tell which bytes it has left, a `Sink` which bytes it took (`None` claims nothing);
-//! both count their faults, and a call fails only where that count rose; only the count of an end with a
-//! `last` value may stand there. A `LineReader` is seen as a
-//! `Reading`: what it holds ahead, how much of the current line it passed over, how many lines and
-//! bytes it gave, and its limits. Its contract speaks of the text that it stands in (`StandsIn`).
+//! both count their faults, and a call fails only where that count rose; where it has a `last` value it
+//! may stand there. A `LineReader` is seen as a `Reading`: what it holds ahead, how much of the current
+//! line it passed over, how many lines and bytes it gave, and its limits. Its contract speaks of the
+//! text that it stands in (`StandsIn`).
 //!
 //! ```text
 //! let mut reader = LineReader::new(alloc, 67_108_864, 50_000)?;

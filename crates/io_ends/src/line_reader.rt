@@ -55,8 +55,10 @@ impl LineReader {
     /// that passes it, the one on lines first. After a fault what lies ahead is no whole line.
     pub fn next<S: Source>(&mut self, source: &mut S, into: &mut Vec<u8>) -> Next
         ensures counts { Counts self.old self.new result }
-        ensures told { (text : List ℕ) → StandsIn text self.old (S.left source.old) → Tells text self.old result into.new.items }
-        ensures stands { (text : List ℕ) → StandsIn text self.old (S.left source.old) → StandsIn text self.new (S.left source.new) }
+        ensures told { (text : List ℕ) → StandsIn text self.old (S.left source.old)
+            → Tells text self.old result into.new.items }
+        ensures stands { (text : List ℕ) → StandsIn text self.old (S.left source.old)
+            → StandsIn text self.new (S.left source.new) }
         ensures count { S.faults source.old ≤ S.faults source.new }
         ensures fault { result ≡ Next.ReadFault → HasRisen S.last (S.faults source.old) (S.faults source.new) }
         ensures unended { result ≡ Next.ReadFault → NoLineFeed self.new.ahead }
@@ -71,8 +73,10 @@ impl LineReader {
     fn past_the_last<S: Source>(&mut self, source: &mut S) -> Next
         requires { self.old.lines ≡ self.old.max_lines }
         ensures counts { Stays self.old self.new × Counts self.old self.new result }
-        ensures told { (text : List ℕ) (line : List ℕ) → StandsIn text self.old (S.left source.old) → Tells text self.old result line }
-        ensures stands { (text : List ℕ) → StandsIn text self.old (S.left source.old) → StandsIn text self.new (S.left source.new) }
+        ensures told { (text : List ℕ) (line : List ℕ) → StandsIn text self.old (S.left source.old)
+            → Tells text self.old result line }
+        ensures stands { (text : List ℕ) → StandsIn text self.old (S.left source.old)
+            → StandsIn text self.new (S.left source.new) }
         ensures count { S.faults source.old ≤ S.faults source.new }
         ensures fault { result ≡ Next.ReadFault → HasRisen S.last (S.faults source.old) (S.faults source.new) }
         ensures unended { result ≡ Next.ReadFault → NoLineFeed self.new.ahead }
@@ -104,8 +108,10 @@ impl LineReader {
     fn next_line<S: Source>(&mut self, source: &mut S, into: &mut Vec<u8>) -> Next
         requires { self.old.lines < self.old.max_lines }
         ensures counts { Counts self.old self.new result }
-        ensures told { (text : List ℕ) → StandsIn text self.old (S.left source.old) → Tells text self.old result into.new.items }
-        ensures stands { (text : List ℕ) → StandsIn text self.old (S.left source.old) → StandsIn text self.new (S.left source.new) }
+        ensures told { (text : List ℕ) → StandsIn text self.old (S.left source.old)
+            → Tells text self.old result into.new.items }
+        ensures stands { (text : List ℕ) → StandsIn text self.old (S.left source.old)
+            → StandsIn text self.new (S.left source.new) }
         ensures count { S.faults source.old ≤ S.faults source.new }
         ensures fault { result ≡ Next.ReadFault → HasRisen S.last (S.faults source.old) (S.faults source.new) }
         ensures unended { result ≡ Next.ReadFault → NoLineFeed self.new.ahead }

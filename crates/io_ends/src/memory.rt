@@ -109,7 +109,8 @@ impl MemorySink {
     /// An empty sink whose calls of these numbers, from 0, fail; so does a call that wants memory.
     /// Takes no memory.
     pub fn new(alloc: Global, failing: Vec<u64>) -> MemorySink
-        ensures { result ≡ record { written = []; failing = failing.items; calls = 0; faults = 0; wants = false } }
+        ensures { result
+            ≡ record { written = []; failing = failing.items; calls = 0; faults = 0; wants = false } }
     {
         MemorySink {
             bytes: Vec::new(alloc),

@@ -108,7 +108,8 @@ impl Window {
         ensures ok { IfOk result (λ n. Fetches self.old self.new (S.left source.old) (S.left source.new) n) }
         ensures err { OnErr result ((self.new ≡ self.old) × Keeps (S.left source.old) (S.left source.new)) }
         ensures count { S.faults source.old ≤ S.faults source.new }
-        ensures fault { result ≡ Err FetchError.Fault → HasRisen S.last (S.faults source.old) (S.faults source.new) }
+        ensures fault { result ≡ Err FetchError.Fault
+            → HasRisen S.last (S.faults source.old) (S.faults source.new) }
     {
         self.compact();
         self.buffer.reserve(self.piece.len())?;
