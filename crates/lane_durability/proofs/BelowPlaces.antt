@@ -1,19 +1,19 @@
 -- What the journal below a version says of states, answers to Asks, and what a line read.
-use Rattle.std.proofs.Common.{◌≡◌, ℕ, ◌<◌, ◌≤◌, Bool, true, false, cond, [], ◌∷◌, Option, Some, None, refl, sym, ap, ◌∙◌, subst, arith, inl, inr, ◌⊎◌, eqb, ltb}
+use Rattle.std.proofs.Common.{◌≡◌, ℕ, ◌<◌, ◌≤◌, Bool, true, false, cond, [], ◌∷◌, Option, Some, None, refl, sym, ap, ◌∙◌, subst, arith, inl, inr, eqb}
 use Rattle.std.proofs.lemmas.Bool.{eqb-true}
 use Rattle.std.proofs.lemmas.Bool.Decides.{nat_tests}
 use Rattle.lane_journals.specs.Stamps.{Stamp}
-use Rattle.lane_journals.specs.Buckets.{Bucket, Id, key_of}
-use Rattle.lane_journals.specs.Events.{Content, Body, Ask, ReadDoc, Reply, Answer, Newer, NoBucket, Differs, NoMemory, Event, Published, Delivered, Returned}
-use Rattle.lane_journals.specs.Readers.{Journal, or_else, Beginning, began, Message, sent, first_reply, returned, version, store, is_ask, given_by, Given, asked_of, asked}
+use Rattle.lane_journals.specs.Buckets.{Bucket, Id}
+use Rattle.lane_journals.specs.Events.{Content, ReadDoc, Reply, Answer, Newer, NoBucket, Differs, NoMemory, Event, Returned}
+use Rattle.lane_journals.specs.Readers.{Journal, or_else, Beginning, began, Message, sent, first_reply, is_ask, given_by, Given, asked_of, asked}
 use Rattle.lane_journals.specs.Facts.{AnsweredAsk, AnsweredReady, ReadAt, ReadBack}
 use Rattle.lane_journals.specs.Legal.{MayDeliver, MayAnswer, Legal}
 use Rattle.lane_journals.specs.States.{state_of}
-use Rattle.lane_journals.specs.Below.{tells, keeps, keeps_return, kept, below}
+use Rattle.lane_journals.specs.Below.{keeps_return, kept, below}
 use Rattle.lane_journals.proofs.Basics.{first_reply-cases, sent_before, replied-sent}
 use Rattle.lane_durability.proofs.Below.{lt-true, same_below}
 use Rattle.lane_durability.proofs.BelowLines.{some-none, sent-back, sent-below}
-use Rattle.lane_durability.proofs.BelowReaders.{returned-back, returned-below, sent-either}
+use Rattle.lane_durability.proofs.BelowReaders.{returned-back, returned-below}
 use Rattle.lane_durability.proofs.Bounds.{bounds}
 use Rattle.lane_durability.proofs.Law.{first-back, first-below, later-back}
 

@@ -1,25 +1,25 @@
 -- The events of versions below a version are a legal journal, as it is kept.
-use Rattle.std.proofs.Common.{◌≡◌, ◌↔◌, ℕ, ◌<◌, ◌≤◌, Bool, true, false, cond, List, [], ◌∷◌, Option, Some, None, refl, sym, ap, ◌∙◌, subst, subst₂, arith, inl, inr, ◌⊎◌, eqb, ltb, eq-eqb}
+use Rattle.std.proofs.Common.{◌≡◌, ℕ, ◌<◌, ◌≤◌, Bool, true, false, cond, List, [], ◌∷◌, Option, Some, None, refl, sym, ap, ◌∙◌, subst, subst₂, arith, inl, inr, eqb, ltb, eq-eqb}
 use Rattle.std.proofs.lemmas.Bool.{cases_lt}
 use Rattle.std.proofs.lemmas.Bool.Decides.{nat_tests}
 use Rattle.cluster_states.specs.declared.cluster_state.ClusterState.{ClusterState}
 use Rattle.entry_maps.specs.declared.entry.Entry.{Entry}
-use Rattle.lane_journals.specs.Sets.{count, AtLeast}
-use Rattle.lane_journals.specs.Stamps.{Stamp, Le, same_stamp}
-use Rattle.lane_journals.specs.Buckets.{Id, Bucket, same_bucket, contains, meets, key_of}
+use Rattle.lane_journals.specs.Sets.{count}
+use Rattle.lane_journals.specs.Stamps.{Stamp, same_stamp}
+use Rattle.lane_journals.specs.Buckets.{Id, Bucket, same_bucket, meets, key_of}
 use Rattle.lane_journals.specs.Events as plain
 use Rattle.lane_journals.specs.Events.{Content, Event, Body, Reply}
-use Rattle.lane_journals.specs.Readers.{Journal, or_else, only_if, published, Beginning, began, Preparing, prepared, Message, round_in, sent, version, store, Given, answer, answered_store, complete, active, row_at, round_of, wrote, opened}
-use Rattle.lane_journals.specs.Facts.{IsRow, IsMember, ReadBack, AnsweredAsk, AnsweredReady, AnsweredApply}
+use Rattle.lane_journals.specs.Readers.{Journal, or_else, only_if, published, Beginning, began, Preparing, prepared, Message, round_in, sent, version, store, answer, complete, row_at, round_of, wrote, opened}
+use Rattle.lane_journals.specs.Facts.{IsRow, IsMember, AnsweredReady, AnsweredApply}
 use Rattle.lane_journals.specs.Pieces.{NodePiece, pieces}
-use Rattle.lane_journals.specs.Legal.{Carries, MaySend, MayDeliver, Permits, Legal, EnoughRead}
+use Rattle.lane_journals.specs.Legal.{Carries, MaySend, MayDeliver, Permits, Legal}
 use Rattle.lane_journals.specs.States.{state_of}
 use Rattle.lane_journals.specs.Below.{keeps, keeps_line, kept, below}
 use Rattle.lane_journals.specs.Meanings.{version_in, entry_at, id_in, written, pick, content, names, id_at, meaning_body, meaning_reply, meaning, history}
 use Rattle.lane_journals.specs.Naming.{IsEntry, IsHeld, Each, NamesSent, NamesReplied, NamesShown, EntriesShown, PiecesShown, ShowsPieces, WellNoted}
-use Rattle.lane_journals.specs.Places.{Setting, state_in, Owns, IsAmongFirst, IsActive, IsTarget, IsFirstMember, receivers_of, NamesRow, WasNamed, IsPartition, PlacedBody, PlacedDecision, IsElsewhere, Placed}
-use Rattle.lane_journals.specs.Endings.{HasSeen, IsDocument, NoDocument, Exactly, FellShort, OpeningFellShort, RoundFellShort, UnionFellShort, ReadsFellShort, StoresFellShort, UnpreparedFellShort, PreparedFellShort, MayEnd, Ended}
-use Rattle.lane_journals.specs.KeptJournals.{IsLegalStep, IsLegal}
+use Rattle.lane_journals.specs.Places.{Setting, state_in, Owns, IsAmongFirst, IsActive, IsTarget, receivers_of, NamesRow, WasNamed, IsPartition, PlacedBody, PlacedDecision, IsElsewhere, Placed}
+use Rattle.lane_journals.specs.Endings.{HasSeen, IsDocument, NoDocument, FellShort, OpeningFellShort, RoundFellShort, UnionFellShort, ReadsFellShort, StoresFellShort, UnpreparedFellShort, PreparedFellShort, MayEnd, Ended}
+use Rattle.lane_journals.specs.KeptJournals.{IsLegal}
 use Rattle.lane_journals.specs.declared.piece.Piece.{Piece}
 use Rattle.lane_journals.specs.declared.outcome.Outcome.{Outcome}
 use Rattle.lane_journals.specs.declared.outcome.Outcome.TheVariants.{Acked, Nothing, Found, Missing, ConditionFailed, BadUpdate, TooFew, OwnedElsewhere}
@@ -213,7 +213,6 @@ module _ (S : Setting) (P : ℕ → ℕ → Bool) (v : ℕ) where
       by_kept : (t : Bool) → kept v (history J) (meaning J e) ≡ t → history (kept_below v J) ≡ below v (history J) → history (cond t (e ∷ kept_below v J) (kept_below v J)) ≡ cond t (meaning J e ∷ below v (history J)) (below v (history J))
       by_kept true q ih = rw (meaning-below J l.0 e q (l.1).noted (l.1).permitted, ih) refl
       by_kept false q ih = ih
-
 
   -- ---- what is named
 
@@ -540,10 +539,14 @@ module _ (S : Setting) (P : ℕ → ℕ → Bool) (v : ℕ) where
         unprepared = move (λ K. prepared line K ≡ None) (prepared-below S.acks P v line (history J) lJ (low-line S.acks P v line (history J) b f lt) ∙ h.unprepared);
         short = elim h.short [
           | inl o ↦ inl (move (λ K. opened b.version K ≡ false) (opened-below v b.version lt (history J) ∙ o.0), move (λ K. OpeningFellShort K b.version a n y) (opening-below (history J) lJ b.version a n y lt o.1))
-          | inr r ↦ inr (r.0, move (λ K. row_at b.version (key_of b.id) K ≡ Some r.0) (row_at-below v b.version lt (history J) (key_of b.id) ∙ r.1), elim r.2 [
+          | inr r ↦ inr (
+            r.0,
+            move (λ K. row_at b.version (key_of b.id) K ≡ Some r.0) (row_at-below v b.version lt (history J) (key_of b.id) ∙ r.1),
+            elim r.2 [
               | inl k ↦ inl (move (λ K. RoundFellShort K b.version r.0 a n y) (round-below (history J) lJ b.version r.0 a n y lt k))
               | inr k ↦ inr (union-below J l b.version (key_of b.id) r.0 a n y lt k)
-            ])
+            ],
+          )
         ];
       }
 

@@ -1,5 +1,5 @@
 -- Documents whose number is even lie in the lane of even keys.
-use Rattle.std.proofs.Common.{◌≡◌, ℕ, ◌%◌, ◌^◌, ◌<◌, Option, Some, true, refl, sym, ap, ◌∙◌, arith, eq-eqb}
+use Rattle.std.proofs.Common.{◌≡◌, ℕ, ◌%◌, ◌^◌, Option, Some, true, refl, sym, ap, ◌∙◌, arith, eq-eqb}
 use Rattle.document_ids.specs.Parts.{number_of, group_of}
 use Rattle.global_ids.specs.Keys.{location_by, location_of}
 use Rattle.global_ids.specs.Keys as keys

@@ -11,6 +11,7 @@ pub mod Parted
 pub mod Pieces
 pub mod States
 pub mod Meant
+pub mod Published
 pub mod Walking
 pub mod SerialsAgain
 pub mod LifeFacts

@@ -1,10 +1,10 @@
 -- What the cluster states say of places: who owns the lane, which nodes are the targets of a row and in which
 -- order they come, into which rows an opening parts the lane.
-use Rattle.std.specs.Prelude.{◌≡◌, ◌≢◌, ◌==◌, ◌⊎◌, ◌↔◌, ◌≤◌, ℕ, true, List, [], ◌∷◌, Option, Some, None, take, codes, is_some, Contains, if◌then◌else◌}
+use Rattle.std.specs.Prelude.{◌≡◌, ◌≢◌, ◌==◌, ◌⊎◌, ◌↔◌, ◌≤◌, ℕ, true, List, [], ◌∷◌, ◌++◌, Option, Some, None, take, codes, is_some, Contains, if◌then◌else◌}
 use Rattle.bucket_ids.specs.Buckets.{IsBucket, parent_of}
 use Rattle.node_sets.specs.Members.{has_node}
 use Rattle.cluster_states.specs.declared.cluster_state.ClusterState.{ClusterState}
-use Rattle.cluster_states.specs.Publishing.{distributor_fault, up_fault}
+use Rattle.cluster_states.specs.Publishing.{Told, distributor_fault, up_fault}
 use Rattle.ideal_nodes.specs.Scores.{score_of, Ranks, Has}
 use Rattle.ideal_nodes.specs.Placement.{IsIdeal, IsOwner}
 use Rattle.lane_journals.specs.Buckets.{Bucket, contains, same_bucket, covers, first_child, second_child, key_of}
@@ -35,6 +35,16 @@ abbrev pub state_in : ℕ → List LaneEvent → Option ClusterState
 state_in v [] = None
 state_in v (Published s ∷ J) = or_else (state_in v J) (only_if (s.version == v) s)
 state_in v (_ ∷ J) = state_in v J
+
+-- all states that were published, oldest first
+abbrev pub published_states : List LaneEvent → List ClusterState
+published_states [] = []
+published_states (Published s ∷ J) = published_states J ++ s ∷ []
+published_states (_ ∷ J) = published_states J
+
+-- what the refusals of a publication go by
+abbrev pub told : Setting → List LaneEvent → Told
+told S J = record { acks = S.acks; states = published_states J }
 
 -- the distributor owns the lane under the version
 pub record Owns (S : Setting) (J : List LaneEvent) (d v : ℕ) : Type 0 where
