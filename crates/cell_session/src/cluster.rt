@@ -1,6 +1,7 @@
 ghost use Rattle.std.specs.Prelude.{◌≡◌, ◌==◌, ◌<◌, ◌≤◌, ◌^◌, ◌⊎◌, [], length, IfOk, OnOk, OnErr};
 ghost use Rattle.std.specs.FinMap as fin;
 ghost use Rattle.std.specs.Option.{option_copied};
+ghost use Rattle.global_ids.specs.Keys.{key_of, lane_of};
 ghost use Rattle.lane_laws.specs.Journals.{past};
 ghost use Rattle.lane_laws.specs.Readers.{store_of};
 ghost use Rattle.lane_laws.specs.declared.outcome.Outcome.TheVariants as outcome;
@@ -47,15 +48,22 @@ impl Model for Cluster {
     ghost invariant = { λ c. IsCluster c.bits (length c.lanes.items) };
 }
 
-/// The lane of a document; takes no memory.
-#[tactic(auto, unfolding(crate::specs::Lanes::lane_of_id, global_ids::specs::Keys::key_of))]
-fn lane_of_id(id: &DocId, bits: u8) -> usize
+/// The key of a document; takes no memory.
+#[tactic(auto, unfolding(global_ids::specs::Keys::key_of))]
+fn key_of(id: &DocId) -> u64
+    ensures { result ≡ key_of id.now }
+{
+    Gid::of(id).key()
+}
+
+/// The lane of a key; takes no memory.
+fn lane_at(key: u64, bits: u8) -> usize
     requires some { 1 ≤ bits }
     requires most { bits ≤ 6 }
-    ensures value { result ≡ lane_of_id bits id.now }
+    ensures value { result ≡ lane_of key bits }
     ensures within { result < 2 ^ bits }
 {
-    usize::from(lane_of(Gid::of(id).key(), bits))
+    usize::from(lane_of(key, bits))
 }
 
 impl Cluster {
@@ -107,7 +115,16 @@ impl Cluster {
     pub fn entry(&self, id: &DocId) -> Option<&Entry>
         ensures { option_copied result ≡ stored_in id.now self.now }
     {
-        self.lanes.get(lane_of_id(id, self.bits))?.entry(id)
+        self.entry_at(key_of(id), id)
+    }
+
+    /// The same of a document whose key is known.
+    #[tactic(auto, unfolding(crate::specs::Lanes::lane_of_id))]
+    fn entry_at(&self, key: u64, id: &DocId) -> Option<&Entry>
+        requires { key ≡ key_of id.now }
+        ensures { option_copied result ≡ stored_in id.now self.now }
+    {
+        self.lanes.get(lane_at(key, self.bits))?.entry_at(key, id)
     }
 
     /// How many entries the stores of a node hold, removes among them; at most 2^64 - 1.
@@ -194,8 +211,9 @@ impl Cluster {
             × (answer ≡ operation_answer setting line id self.new.journals)) }
         ensures err { OnErr result ((self.new ≡ self.old) ⊎ (self.new ≡ grown self.old line (with_write setting line id body self.old.journals))) }
     {
-        let outcome = self.write(alloc, setting, line, &id, body)?;
-        self.answer(alloc, &id, outcome)
+        let key = key_of(&id);
+        let outcome = self.write(alloc, setting, line, key, &id, body)?;
+        self.answer(alloc, key, &id, outcome)
     }
 
     /// Reads a document in its lane, and gives the answer.
@@ -211,47 +229,54 @@ impl Cluster {
             × (answer ≡ operation_answer setting line id self.new.journals)) }
         ensures err { OnErr result ((self.new ≡ self.old) ⊎ (self.new ≡ grown self.old line (with_read setting line id self.old.journals))) }
     {
-        let outcome = self.read(alloc, setting, line, &id)?;
-        self.answer(alloc, &id, outcome)
+        let key = key_of(&id);
+        let outcome = self.read(alloc, setting, line, key, &id)?;
+        self.answer(alloc, key, &id, outcome)
     }
 
     /// Writes an entry in the lane of its document.
+    #[tactic(auto, unfolding(crate::specs::Lanes::lane_of_id))]
     fn write(
         &mut self,
         alloc: Global,
         setting: Setting,
         line: u32,
+        key: u64,
         id: &DocId,
         body: Option<Document>,
     ) -> Result<Outcome, NoMemory>
-        requires { IsReady setting line self.old }
+        requires ready { IsReady setting line self.old }
+        requires key { key ≡ key_of id.now }
         ensures ok { IfOk result (λ ending. (self.new ≡ grown self.old line (with_write setting line id.now body self.old.journals))
             × (ending ≡ outcome.Acked (next_stamp setting.version (journal_in (lane_of_id setting.bits id.now) self.old.journals)))) }
         ensures err { OnErr result (self.new ≡ self.old) }
     {
-        let at = lane_of_id(id, setting.bits);
+        let at = lane_at(key, setting.bits);
         let lane = &mut self.lanes[at];
-        let outcome = lane.write(alloc, setting, line, id, body)?;
+        let outcome = lane.write(alloc, setting, line, key, id, body)?;
         self.dealt = line;
         Ok(outcome)
     }
 
     /// Reads a document in its lane.
+    #[tactic(auto, unfolding(crate::specs::Lanes::lane_of_id))]
     fn read(
         &mut self,
         alloc: Global,
         setting: Setting,
         line: u32,
+        key: u64,
         id: &DocId,
     ) -> Result<Outcome, NoMemory>
-        requires { IsReady setting line self.old }
+        requires ready { IsReady setting line self.old }
+        requires key { key ≡ key_of id.now }
         ensures ok { IfOk result (λ ending. (self.new ≡ grown self.old line (with_read setting line id.now self.old.journals))
             × (ending ≡ seen_outcome (fin.get (store_of (journal_in (lane_of_id setting.bits id.now) self.old.journals)) id.now))) }
         ensures err { OnErr result (self.new ≡ self.old) }
     {
-        let at = lane_of_id(id, setting.bits);
+        let at = lane_at(key, setting.bits);
         let lane = &mut self.lanes[at];
-        let outcome = lane.read(alloc, setting, line, id)?;
+        let outcome = lane.read(alloc, setting, line, key, id)?;
         self.dealt = line;
         Ok(outcome)
     }
@@ -260,15 +285,17 @@ impl Cluster {
     fn answer(
         &self,
         alloc: Global,
+        key: u64,
         id: &DocId,
         outcome: Outcome,
     ) -> Result<Option<Answer>, NoMemory>
+        requires { key ≡ key_of id.now }
         ensures { IfOk result (λ answer. answer ≡ outcome_answer outcome (stored_in id.now self.now)) }
     {
         match outcome {
             Outcome::Acked { stamp } => Ok(Some(Answer::Acked { stamp })),
             Outcome::Missing { seen } => Ok(Some(Answer::Missing { seen })),
-            Outcome::Found { stamp } => found_answer(alloc, self.entry(id), stamp),
+            Outcome::Found { stamp } => found_answer(alloc, self.entry_at(key, id), stamp),
         }
     }
 }

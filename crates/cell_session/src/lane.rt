@@ -1,6 +1,7 @@
 ghost use Rattle.std.specs.Prelude.{◌≡◌, ◌^◌, ◌<◌, [], IfOk, OnErr};
 ghost use Rattle.std.specs.FinMap as fin;
 ghost use Rattle.std.specs.Option.{option_copied};
+ghost use Rattle.global_ids.specs.Keys.{key_of};
 ghost use Rattle.lane_laws.specs.Journals.{past, events_of};
 ghost use Rattle.lane_laws.specs.Readers.{store_of};
 ghost use Rattle.lane_laws.specs.declared.outcome.Outcome.TheVariants as outcome;
@@ -66,6 +67,14 @@ impl Lane {
         self.store.get(id)
     }
 
+    /// The same of a document whose key is known.
+    pub fn entry_at(&self, key: u64, id: &DocId) -> Option<&Entry>
+        requires { key ≡ key_of id.now }
+        ensures { option_copied result ≡ fin.get (store_of self.now) id.now }
+    {
+        self.store.get_at(key, id)
+    }
+
     /// How many entries the store holds, removes among them.
     pub fn entries(&self) -> u64
         ensures { result ≡ fin.len (store_of self.now) }
@@ -92,9 +101,11 @@ impl Lane {
         alloc: Global,
         setting: Setting,
         line: u32,
+        key: u64,
         id: &DocId,
         body: Option<Document>,
     ) -> Result<Outcome, NoMemory>
+        requires key { key ≡ key_of id.now }
         requires fresh { events_of line self.old ≡ [] }
         requires few { drawn self.old < 2 ^ 63 }
         requires under { IsUnder setting.version self.old }
@@ -107,7 +118,7 @@ impl Lane {
         let entry = Entry { stamp, id, body };
         let new = write_events(alloc, setting, line, &entry)?;
         self.events.reserve(3)?;
-        self.store.put(entry)?;
+        self.store.put_at(key, entry)?;
         append_write(&mut self.events, new);
         self.stamps += 1;
         Ok(Outcome::Acked { stamp })
@@ -120,14 +131,16 @@ impl Lane {
         alloc: Global,
         setting: Setting,
         line: u32,
+        key: u64,
         id: &DocId,
     ) -> Result<Outcome, NoMemory>
+        requires key { key ≡ key_of id.now }
         requires fresh { events_of line self.old ≡ [] }
         ensures ok { IfOk result (λ ending. (self.new ≡ after_read setting line id.now self.old)
             × (ending ≡ seen_outcome (fin.get (store_of self.old) id.now))) }
         ensures err { OnErr result (self.new ≡ self.old) }
     {
-        let outcome = outcome_of(self.entry(id));
+        let outcome = outcome_of(self.entry_at(key, id));
         let id = id.copy(alloc)?;
         self.events.reserve(2)?;
         append_read(&mut self.events, setting, line, id, outcome);

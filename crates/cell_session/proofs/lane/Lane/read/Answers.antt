@@ -6,4 +6,4 @@ pub invariant_of-self-2 : goal.invariant_of-self-2
 invariant_of-self-2 c =
     lane_read c.args.setting _ _ _ _ _ c.args.id.now c.self.invariant
     (rw (← c.self.view_is) at c.requires.fresh)
-    (c.append_read.ensures ∙ rw (c.outcome_of-outcome.ensures, c.entry.ensures, c.in_ok-id.ensures, c.in_ok-reserve.ensures.items, c.self.view_is) refl)
+    (c.append_read.ensures ∙ rw (c.outcome_of-outcome.ensures, c.entry_at.ensures, c.in_ok-id.ensures, c.in_ok-reserve.ensures.items, c.self.view_is) refl)

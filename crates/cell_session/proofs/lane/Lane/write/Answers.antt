@@ -10,4 +10,4 @@ invariant_of-self-2 c =
     (rw (← c.self.view_is) at c.requires.fresh)
     (rw (← c.self.view_is) at c.next_stamp-stamp.ensures)
     (c.append_write.ensures ∙ rw (c.in_ok-new.ensures.0, c.in_ok-new.ensures.1, c.in_ok-new.ensures.2, c.in_ok-reserve.ensures.items, c.in_ok-id.ensures) refl)
-    (rw c.in_ok-id.ensures at c.in_ok-put.ensures.ok)
+    (rw c.in_ok-id.ensures at c.in_ok-put_at.ensures.ok)
