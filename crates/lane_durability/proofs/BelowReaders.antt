@@ -5,7 +5,7 @@ use Rattle.std.proofs.lemmas.Bool.Decides.{nat_tests}
 use Rattle.lane_journals.specs.Stamps.{Stamp}
 use Rattle.lane_journals.specs.Buckets.{Bucket, across, Id}
 use Rattle.lane_journals.specs.Events.{Reply, Answer, Newer, NoBucket, Differs, NoMemory, Decision, RoundBegun, RoundEnded, RowSplit, RowsJoined, ActiveOn, DeleteFrom, DeleteOver, Event, Delivered, Returned, Closed, Decided}
-use Rattle.lane_journals.specs.Readers.{Journal, or_else, Beginning, began, Preparing, prepared, Message, sent, first_reply, returned, is_answer, version, after_message, store, still_after, acceptable, piece_after, holds, base, Given, is_read, given_by, answer_of, answer, answers, stored_by, answered_store, lacks, takes_mark, complete}
+use Rattle.lane_journals.specs.Readers.{Journal, or_else, Beginning, began, Preparing, prepared, Message, sent, first_reply, returned, is_answer, version, after_message, store, still_after, acceptable, piece_after, holds, base, Given, is_read, given_by, answer_of, answer, answers, stored_by, answered_store, lacks, takes_mark, complete, was_named, named_after, stands, untouched_after}
 use Rattle.lane_journals.specs.Legal.{Replies, MayDeliver, Permits, Legal}
 use Rattle.lane_journals.specs.Below.{tells, keeps, keeps_return, keeps_line, kept, below}
 use Rattle.lane_journals.specs.Pieces.{after_reply}
@@ -255,6 +255,8 @@ module _ (acks : ℕ) (P : ℕ → ℕ → Bool) (v : ℕ) where
     pub least : version n L ≤ version n J
     pub versions : version n J < v → version n L ≡ version n J
     pub serials : version n J < v → (b : Bucket) (s : ℕ) → acceptable n b s L ≡ acceptable n b s J
+    pub named : version n J < v → (b : Bucket) (s : ℕ) → was_named n b s L ≡ was_named n b s J
+    pub standing : version n J < v → (b : Bucket) (s : ℕ) → stands n b s L ≡ stands n b s J
     pub pieces : version n J < v → (key : ℕ) → holds n key L ≡ holds n key J
     pub shapes : version n J < v → pieces_of n L ≡ pieces_of n J
     pub stores : (id : Id) → store n id L ≡ base v n id J
@@ -280,17 +282,21 @@ module _ (acks : ℕ) (P : ℕ → ℕ → Bool) (v : ℕ) where
     pub version : version n M ≡ version n L
     pub stores : (id : Id) → store n id M ≡ store n id L
     pub serials : (b : Bucket) (s : ℕ) → acceptable n b s M ≡ acceptable n b s L
+    pub named : (b : Bucket) (s : ℕ) → was_named n b s M ≡ was_named n b s L
+    pub standing : (b : Bucket) (s : ℕ) → stands n b s M ≡ stands n b s L
     pub pieces : (key : ℕ) → holds n key M ≡ holds n key L
     pub shapes : pieces_of n M ≡ pieces_of n L
 
   quiet-self : (L : Journal) (n : ℕ) → Quiet L L n
-  quiet-self L n = record { version = refl; stores = λ id. refl; serials = λ b s. refl; pieces = λ key. refl; shapes = refl }
+  quiet-self L n = record { version = refl; stores = λ id. refl; serials = λ b s. refl; named = λ b s. refl; standing = λ b s. refl; pieces = λ key. refl; shapes = refl }
 
   View-same : (L M J : Journal) (n : ℕ) (e : Event) → View L J n → Quiet (e ∷ J) J n → Quiet M L n → View M (e ∷ J) n
   View-same L M J n e x q q' = record {
     least = (let z = x.least in let a = q.version in let a' = q'.version in omega arith);
     versions = λ lt. (let a = q.version in let z = x.versions (omega arith) in q'.version ∙ z ∙ sym a);
     serials = λ lt b s. (let a = q.version in let z = x.serials (omega arith) b s in q'.serials b s ∙ z ∙ sym (q.serials b s));
+    named = λ lt b s. (let a = q.version in let z = x.named (omega arith) b s in q'.named b s ∙ z ∙ sym (q.named b s));
+    standing = λ lt b s. (let a = q.version in let z = x.standing (omega arith) b s in q'.standing b s ∙ z ∙ sym (q.standing b s));
     pieces = λ lt key. (let a = q.version in let z = x.pieces (omega arith) key in q'.pieces key ∙ z ∙ sym (q.pieces key));
     shapes = λ lt. (let a = q.version in let z = x.shapes (omega arith) in q'.shapes ∙ z ∙ sym q.shapes);
     stores = λ id. q'.stores id ∙ x.stores id ∙ sym (base-same n id J e q.version (q.stores id));
@@ -302,6 +308,8 @@ module _ (acks : ℕ) (P : ℕ → ℕ → Bool) (v : ℕ) where
     least = (let z = same in omega arith);
     versions = λ h. same;
     serials = λ h b t. rw (s, s', x.serials lt b t) refl;
+    named = λ h b t. rw (s, s', x.named lt b t) refl;
+    standing = λ h b t. rw (s, s', x.standing lt b t) refl;
     pieces = λ h key. rw (s, s', x.pieces lt key) refl;
     shapes = λ h. rw (s, s', x.shapes lt) refl;
     stores = λ id. rw (s, s', x.stores id ∙ base-low n id J lt) refl ∙ sym (base-low n id (Delivered k r ∷ J) lt');
@@ -316,17 +324,27 @@ module _ (acks : ℕ) (P : ℕ → ℕ → Bool) (v : ℕ) where
     least = (let z = x.least in let g = version-grows n J e in omega arith);
     versions = λ lt. absurd (omega arith);
     serials = λ lt b s. absurd (omega arith);
+    named = λ lt b s. absurd (omega arith);
+    standing = λ lt b s. absurd (omega arith);
     pieces = λ lt key. absurd (omega arith);
     shapes = λ lt. absurd (omega arith);
     stores = λ id. x.stores id ∙ sym (base-at n id J e h);
   }
 
   quiet-elsewhere : (K : Journal) (n k : ℕ) (r : Reply) (m : Message) → sent k K ≡ Some m → eqb m.receiver n ≡ false → Quiet (Delivered k r ∷ K) K n
-  quiet-elsewhere K n k r m h ne = record { version = rw (h, ne) refl; stores = λ id. rw h (stores r id); serials = λ b s. rw h (serials r b s); pieces = λ key. rw h (pieces r key); shapes = rw h (shapes r) }
+  quiet-elsewhere K n k r m h ne = record { version = rw (h, ne) refl; stores = λ id. rw h (stores r id); serials = λ b s. rw h (serials r b s); named = λ b s. rw h (named r b s); standing = λ b s. rw h (standing r b s); pieces = λ key. rw h (pieces r key); shapes = rw h (shapes r) }
     where
       stores : (y : Reply) (id : Id) → after_message n id y (Some m) (store n id K) ≡ store n id K
       stores (Answer a b) id = rw ne refl
       stores _ id = refl
+
+      named : (y : Reply) (b : Bucket) (s : ℕ) → named_after n b s y (Some m) (was_named n b s K) ≡ was_named n b s K
+      named (Answer a c) b s = rw ne refl
+      named _ b s = refl
+
+      standing : (y : Reply) (b : Bucket) (s : ℕ) → untouched_after n b s y (Some m) (stands n b s K) ≡ stands n b s K
+      standing (Answer a c) b s = rw ne refl
+      standing _ b s = refl
 
       serials : (y : Reply) (b : Bucket) (s : ℕ) → still_after n b s y (Some m) (acceptable n b s K) ≡ acceptable n b s K
       serials (Answer a c) b s = rw ne refl
@@ -396,7 +414,7 @@ module _ (acks : ℕ) (P : ℕ → ℕ → Bool) (v : ℕ) where
 
   -- the law's second half: what the journal below v says of nodes
   pub view : (J : Journal) → Legal acks P J → (n : ℕ) → View (below v J) J n
-  view [] l n = record { least = omega arith; versions = λ h. refl; serials = λ h b s. refl; pieces = λ h key. refl; shapes = λ h. refl; stores = λ id. refl }
+  view [] l n = record { least = omega arith; versions = λ h. refl; serials = λ h b s. refl; named = λ h b s. refl; standing = λ h b s. refl; pieces = λ h key. refl; shapes = λ h. refl; stores = λ id. refl }
   view (e ∷ J) l n = by_event e l.1 (view J l.0 n)
     where
       keep : (e : Event) → ((K : Journal) → Quiet (e ∷ K) K n) → (t : Bool) → View (below v J) J n → View (cond t (e ∷ below v J) (below v J)) (e ∷ J) n
@@ -405,4 +423,4 @@ module _ (acks : ℕ) (P : ℕ → ℕ → Bool) (v : ℕ) where
 
       by_event : (e : Event) → Permits acks P J e → View (below v J) J n → View (cond (kept v J e) (e ∷ below v J) (below v J)) (e ∷ J) n
       by_event (Delivered k r) p x = delivered-view J l.0 k r p n x
-      by_event e p x = keep e (λ K. record { version = refl; stores = λ id. refl; serials = λ b s. refl; pieces = λ key. refl; shapes = refl }) (kept v J e) x
+      by_event e p x = keep e (λ K. record { version = refl; stores = λ id. refl; serials = λ b s. refl; named = λ b s. refl; standing = λ b s. refl; pieces = λ key. refl; shapes = refl }) (kept v J e) x

@@ -304,6 +304,7 @@ module _ (acks : ℕ) (P : ℕ → ℕ → Bool) (v : ℕ) where
           serial = λ c s named w r d h shown had. x.serials low c s ∙ (p.show b is).serial c s named w r d h (shown-back J l w r m.receiver d h shown) had;
         };
         show_one = λ id is. p.show_one id is ∙ sym (base-low acks P v m.receiver id J low) ∙ sym (x.stores id);
+        fresh = λ c s h had. x.standing low c s ∙ p.fresh c s h (sym (x.named low c s) ∙ had);
         may_delete = λ b s is. x.serials low b s ∙ p.may_delete b s is;
       }
 

@@ -1,32 +1,33 @@
 -- The life of a lane under its first state.
-use Rattle.std.proofs.Common.{◌≡◌, ℕ, Bool, true, false, cond, List, [], ◌∷◌, Some, None, refl, sym, subst, arith, inl, inr, eqb}
+use Rattle.std.proofs.Common.{◌≡◌, ◌≢◌, ◌↔◌, ℕ, ◌^◌, ◌<◌, ◌≤◌, Bool, true, false, cond, List, [], ◌∷◌, Option, Some, None, refl, sym, ap, ◌∙◌, subst, subst₂, arith, inl, inr, ◌⊎◌, eqb, ltb, eq-eqb, zero, suc}
+use Rattle.std.proofs.lemmas.Bool.{eqb-true, cases_lt}
 use Rattle.std.proofs.lemmas.Bool.Decides.{nat_tests}
 use Rattle.lane_journals.specs.Sets.{count_below, count, AtLeast}
-use Rattle.lane_journals.specs.Stamps.{Le, same_stamp}
-use Rattle.lane_journals.specs.Buckets.{Bucket, contains, same_bucket, covers, meets, first_child, second_child, Id, key_of}
+use Rattle.lane_journals.specs.Stamps.{Stamp, Le, newer, is_older, same_stamp}
+use Rattle.lane_journals.specs.Buckets.{Bucket, contains, same_bucket, covers, meets, first_child, second_child, across, Id, same_id, key_of}
 use Rattle.lane_journals.specs.Events as plain
-use Rattle.lane_journals.specs.Readers.{round_of, running, Message, Given, answer, answered_store}
-use Rattle.lane_journals.specs.Facts.{AnsweredApply, AnsweredAsk, IsRow}
+use Rattle.lane_journals.specs.Readers.{Journal, Beginning, began, Preparing, prepared, closed, round_of, running, Message, sent, first_reply, store, acceptable, holds, Given, answer, answered_store, complete, active, deleting}
+use Rattle.lane_journals.specs.Facts.{Shown, AnsweredApply, AnsweredAsk, AnsweredReady, IsRow, IsMember, Idle}
 use Rattle.lane_journals.specs.Legal.{MayShow, MayUnite, IsQuiet, Permits}
-use Rattle.lane_journals.specs.Pieces.{pieces, Takes}
+use Rattle.lane_journals.specs.Pieces.{NodePiece, pieces, Takes}
 use Rattle.lane_journals.specs.States.{state_of}
 use Rattle.lane_journals.specs.Meanings.{nodes, content, names, meaning, history}
-use Rattle.lane_journals.specs.Naming.{NamesShown, WellNoted}
+use Rattle.lane_journals.specs.Naming.{NamesShown, PiecesShown, WellNoted}
 use Rattle.lane_journals.specs.Places.{Placed}
 use Rattle.lane_journals.specs.Endings.{Ended}
 use Rattle.lane_journals.specs.KeptJournals.{IsLegal}
-use Rattle.lane_journals.specs.Lives.{lane, setting, state_one, stamp_one, stamp_two}
+use Rattle.lane_journals.specs.Lives.{lane, setting, state_one, state_two, stamp_one, stamp_two, stamp_three}
 use Rattle.lane_journals.specs.declared.noted.NotedBody.TheVariants as body
 use Rattle.lane_journals.specs.declared.noted.NotedReply.TheVariants as reply
 use Rattle.lane_journals.specs.declared.decision.Decision.TheVariants as choice
 use Rattle.lane_journals.specs.declared.outcome.Outcome.TheVariants as outcome
 use Rattle.lane_journals.specs.declared.event.LaneEvent.{LaneEvent}
 use Rattle.lane_journals.specs.declared.event.LaneEvent.TheVariants as event
-use Rattle.lane_journals.proofs.Order.{Le_none}
-use Rattle.lane_journals.proofs.Ids.{same_id-refl}
+use Rattle.lane_journals.proofs.Order.{Le_refl, Le_none}
+use Rattle.lane_journals.proofs.Ids.{same_id-refl, same_id-true}
 use Rattle.lane_journals.proofs.BucketLaws.{children_apart, first_in, second_in}
-use Rattle.lane_journals.proofs.Walking.{EachSent, NumbersBelow, numbers, NotOf, unapplied, GoesTo, applied-to, NotLook, unasked, LinesDone, line-done, idle-done, EachReply, NamesOnly}
-use Rattle.lane_journals.proofs.LifeFacts.{some_same, same_read, same_test, two_1, both_two, has_both_0, has_both_1, enough_3, only_0, is_0, owns1, one_row, shows_nothing, small_1, receive_both, firstC, secondC}
+use Rattle.lane_journals.proofs.Walking.{EachSent, NumbersBelow, numbers, NotOf, unapplied, GoesTo, applied-to, NotLook, unasked, NotStore, unstored, LinesDone, line-done, idle-done, EachReply, NotNamed, unnamed-yet, NamesOnly}
+use Rattle.lane_journals.proofs.LifeFacts.{some_same, same_read, same_test, two_1, two_2, both_two, one_first, has_both_0, has_both_1, has_one_0, enough_3, enough_1, only_0, only_1, is_0, is_1, owns1, owns2, one_row, one_name, shows_nothing, nothing_joined, small_1, small_2, receive_both, receive_one, shows_one, firstC, secondC}
 
 module _ (id : Id) (inside : contains lane (key_of id) ≡ true) where
   abbrev a1 : List LaneEvent
@@ -73,7 +74,7 @@ module _ (id : Id) (inside : contains lane (key_of id) ≡ true) where
 
   may_a4 : Permits 1 (state_of (history a4)) (history a3) (meaning a3 (event.Delivered 1 (reply.Answer [] [])))
   unfolding same_stamp same_bucket
-  may_a4 = record { message = (record { version = 1; receiver = 0; body = plain.Ask; round = 0 }); was_sent = refl; runs = refl; reply = record { low = omega arith; has = tt; takes = tt; show = λ b is. cc; show_one = λ i is. cc; may_delete = λ b s is. cc } }
+  may_a4 = record { message = (record { version = 1; receiver = 0; body = plain.Ask; round = 0 }); was_sent = refl; runs = refl; reply = record { low = omega arith; has = tt; takes = tt; show = λ b is. cc; show_one = λ i is. cc; fresh = λ c s h w. cc; may_delete = λ b s is. cc } }
 
   noted_a4 : WellNoted a3 (event.Delivered 1 (reply.Answer [] []))
   noted_a4 = λ m h. subst (λ (x : Message). NamesShown a3 x [] []) (some_same (record { version = 1; receiver = 0; body = plain.Ask; round = 0 }) m h) (record { rising = tt; held = tt; asked = refl; shown = shows_nothing (λ b. true) })
@@ -112,7 +113,7 @@ module _ (id : Id) (inside : contains lane (key_of id) ≡ true) where
 
   may_a7 : Permits 1 (state_of (history a7)) (history a6) (meaning a6 (event.Delivered 2 (reply.Answer [] [])))
   unfolding same_stamp same_bucket
-  may_a7 = record { message = (record { version = 1; receiver = 1; body = plain.Ask; round = 0 }); was_sent = refl; runs = refl; reply = record { low = omega arith; has = tt; takes = tt; show = λ b is. cc; show_one = λ i is. cc; may_delete = λ b s is. cc } }
+  may_a7 = record { message = (record { version = 1; receiver = 1; body = plain.Ask; round = 0 }); was_sent = refl; runs = refl; reply = record { low = omega arith; has = tt; takes = tt; show = λ b is. cc; show_one = λ i is. cc; fresh = λ c s h w. cc; may_delete = λ b s is. cc } }
 
   noted_a7 : WellNoted a6 (event.Delivered 2 (reply.Answer [] []))
   noted_a7 = λ m h. subst (λ (x : Message). NamesShown a6 x [] []) (some_same (record { version = 1; receiver = 1; body = plain.Ask; round = 0 }) m h) (record { rising = tt; held = tt; asked = refl; shown = shows_nothing (λ b. true) })
@@ -160,7 +161,7 @@ module _ (id : Id) (inside : contains lane (key_of id) ≡ true) where
   done_r1 = tt
 
   quiet_r1 : IsQuiet 1 lane (history a9)
-  unfolding same_stamp same_bucket
+  unfolding same_stamp same_bucket 
   quiet_r1 = record { row = row_r1; no_round = refl; idle = idle-done (history a9) done_r1 1 lane }
 
   abbrev a10 : List LaneEvent
@@ -205,7 +206,7 @@ module _ (id : Id) (inside : contains lane (key_of id) ≡ true) where
 
   may_a12 : Permits 1 (state_of (history a12)) (history a11) (meaning a11 (event.Delivered 3 (reply.Answer [] [])))
   unfolding same_stamp same_bucket
-  may_a12 = record { message = (record { version = 1; receiver = 0; body = (plain.Read lane); round = 1 }); was_sent = refl; runs = refl; reply = record { low = omega arith; has = tt; takes = tt; show = λ b is. subst (λ (x : Bucket). MayShow (history a11) 0 x (record { content = content a11 ([]); names = names ([]) })) (same_read lane b is) shows_a3; show_one = λ i is. cc; may_delete = λ b s is. cc } }
+  may_a12 = record { message = (record { version = 1; receiver = 0; body = (plain.Read lane); round = 1 }); was_sent = refl; runs = refl; reply = record { low = omega arith; has = tt; takes = tt; show = λ b is. subst (λ (x : Bucket). MayShow (history a11) 0 x (record { content = content a11 ([]); names = names ([]) })) (same_read lane b is) shows_a3; show_one = λ i is. cc; fresh = λ c s h w. cc; may_delete = λ b s is. cc } }
 
   noted_a12 : WellNoted a11 (event.Delivered 3 (reply.Answer [] []))
   unfolding same_stamp same_bucket
@@ -253,7 +254,7 @@ module _ (id : Id) (inside : contains lane (key_of id) ≡ true) where
 
   may_a15 : Permits 1 (state_of (history a15)) (history a14) (meaning a14 (event.Delivered 4 (reply.Answer [] [])))
   unfolding same_stamp same_bucket
-  may_a15 = record { message = (record { version = 1; receiver = 1; body = (plain.Read lane); round = 1 }); was_sent = refl; runs = refl; reply = record { low = omega arith; has = tt; takes = tt; show = λ b is. subst (λ (x : Bucket). MayShow (history a14) 1 x (record { content = content a14 ([]); names = names ([]) })) (same_read lane b is) shows_a4; show_one = λ i is. cc; may_delete = λ b s is. cc } }
+  may_a15 = record { message = (record { version = 1; receiver = 1; body = (plain.Read lane); round = 1 }); was_sent = refl; runs = refl; reply = record { low = omega arith; has = tt; takes = tt; show = λ b is. subst (λ (x : Bucket). MayShow (history a14) 1 x (record { content = content a14 ([]); names = names ([]) })) (same_read lane b is) shows_a4; show_one = λ i is. cc; fresh = λ c s h w. cc; may_delete = λ b s is. cc } }
 
   noted_a15 : WellNoted a14 (event.Delivered 4 (reply.Answer [] []))
   unfolding same_stamp same_bucket
@@ -308,7 +309,7 @@ module _ (id : Id) (inside : contains lane (key_of id) ≡ true) where
 
   may_a18 : Permits 1 (state_of (history a18)) (history a17) (meaning a17 (event.Delivered 5 (reply.Answer [] [])))
   unfolding same_stamp same_bucket
-  may_a18 = record { message = (record { version = 1; receiver = 0; body = (plain.Apply lane (content a16 ([]))); round = 1 }); was_sent = refl; runs = refl; reply = record { low = omega arith; has = tt; takes = tt; show = λ b is. cc; show_one = λ i is. cc; may_delete = λ b s is. cc } }
+  may_a18 = record { message = (record { version = 1; receiver = 0; body = (plain.Apply lane (content a16 ([]))); round = 1 }); was_sent = refl; runs = refl; reply = record { low = omega arith; has = tt; takes = tt; show = λ b is. cc; show_one = λ i is. cc; fresh = λ c s h w. cc; may_delete = λ b s is. cc } }
 
   noted_a18 : WellNoted a17 (event.Delivered 5 (reply.Answer [] []))
   unfolding same_stamp same_bucket
@@ -363,7 +364,7 @@ module _ (id : Id) (inside : contains lane (key_of id) ≡ true) where
 
   may_a21 : Permits 1 (state_of (history a21)) (history a20) (meaning a20 (event.Delivered 6 (reply.Answer [] [])))
   unfolding same_stamp same_bucket
-  may_a21 = record { message = (record { version = 1; receiver = 1; body = (plain.Apply lane (content a19 ([]))); round = 1 }); was_sent = refl; runs = refl; reply = record { low = omega arith; has = tt; takes = tt; show = λ b is. cc; show_one = λ i is. cc; may_delete = λ b s is. cc } }
+  may_a21 = record { message = (record { version = 1; receiver = 1; body = (plain.Apply lane (content a19 ([]))); round = 1 }); was_sent = refl; runs = refl; reply = record { low = omega arith; has = tt; takes = tt; show = λ b is. cc; show_one = λ i is. cc; fresh = λ c s h w. cc; may_delete = λ b s is. cc } }
 
   noted_a21 : WellNoted a20 (event.Delivered 6 (reply.Answer [] []))
   unfolding same_stamp same_bucket
@@ -584,7 +585,7 @@ module _ (id : Id) (inside : contains lane (key_of id) ≡ true) where
 
   may_a34 : Permits 1 (state_of (history a34)) (history a33) (meaning a33 (event.Delivered 9 (reply.Answer [] [])))
   unfolding same_stamp same_bucket
-  may_a34 = record { message = (record { version = 1; receiver = 0; body = (plain.Store id stamp_two); round = 0 }); was_sent = refl; runs = refl; reply = record { low = omega arith; has = rw inside refl; takes = tt; show = λ b is. cc; show_one = λ i is. cc; may_delete = λ b s is. cc } }
+  may_a34 = record { message = (record { version = 1; receiver = 0; body = (plain.Store id stamp_two); round = 0 }); was_sent = refl; runs = refl; reply = record { low = omega arith; has = rw inside refl; takes = tt; show = λ b is. cc; show_one = λ i is. cc; fresh = λ c s h w. cc; may_delete = λ b s is. cc } }
 
   noted_a34 : WellNoted a33 (event.Delivered 9 (reply.Answer [] []))
   unfolding same_stamp same_bucket
@@ -628,7 +629,7 @@ module _ (id : Id) (inside : contains lane (key_of id) ≡ true) where
 
   may_a37 : Permits 1 (state_of (history a37)) (history a36) (meaning a36 (event.Delivered 10 (reply.Answer [] [])))
   unfolding same_stamp same_bucket
-  may_a37 = record { message = (record { version = 1; receiver = 1; body = (plain.Store id stamp_two); round = 0 }); was_sent = refl; runs = refl; reply = record { low = omega arith; has = rw inside refl; takes = tt; show = λ b is. cc; show_one = λ i is. cc; may_delete = λ b s is. cc } }
+  may_a37 = record { message = (record { version = 1; receiver = 1; body = (plain.Store id stamp_two); round = 0 }); was_sent = refl; runs = refl; reply = record { low = omega arith; has = rw inside refl; takes = tt; show = λ b is. cc; show_one = λ i is. cc; fresh = λ c s h w. cc; may_delete = λ b s is. cc } }
 
   noted_a37 : WellNoted a36 (event.Delivered 10 (reply.Answer [] []))
   unfolding same_stamp same_bucket
@@ -675,7 +676,7 @@ module _ (id : Id) (inside : contains lane (key_of id) ≡ true) where
   done_s1 = (refl, (refl, tt))
 
   quiet_s1 : IsQuiet 1 lane (history a39)
-  unfolding same_stamp same_bucket
+  unfolding same_stamp same_bucket 
   quiet_s1 = record { row = row_s1; no_round = refl; idle = idle-done (history a39) done_s1 1 lane }
 
   abbrev a40 : List LaneEvent
@@ -704,6 +705,7 @@ module _ (id : Id) (inside : contains lane (key_of id) ≡ true) where
           flip true e = absurd (children_apart lane key e h)
           flip false e = refl
 
+
   below_a11 : NumbersBelow 11 (history a40)
   below_a11 = (omega arith, (omega arith, (omega arith, (omega arith, (omega arith, (omega arith, (omega arith, (omega arith, (omega arith, (omega arith, tt))))))))))
 
@@ -730,7 +732,7 @@ module _ (id : Id) (inside : contains lane (key_of id) ≡ true) where
 
   may_a42 : Permits 1 (state_of (history a42)) (history a41) (meaning a41 (event.Delivered 11 (reply.Answer [] [])))
   unfolding same_stamp same_bucket
-  may_a42 = record { message = (record { version = 1; receiver = 1; body = (plain.Split (record { bits = 2; low = 0 })); round = 0 }); was_sent = refl; runs = refl; reply = record { low = omega arith; has = tt; takes = takes_a11; show = λ b is. cc; show_one = λ i is. cc; may_delete = λ b s is. cc } }
+  may_a42 = record { message = (record { version = 1; receiver = 1; body = (plain.Split (record { bits = 2; low = 0 })); round = 0 }); was_sent = refl; runs = refl; reply = record { low = omega arith; has = tt; takes = takes_a11; show = λ b is. cc; show_one = λ i is. cc; fresh = λ c s h w. cc; may_delete = λ b s is. cc } }
 
   noted_a42 : WellNoted a41 (event.Delivered 11 (reply.Answer [] []))
   unfolding same_stamp same_bucket
@@ -800,7 +802,7 @@ module _ (id : Id) (inside : contains lane (key_of id) ≡ true) where
 
   may_a45 : Permits 1 (state_of (history a45)) (history a44) (meaning a44 (event.Delivered 12 (reply.Answer [] [])))
   unfolding same_stamp same_bucket
-  may_a45 = record { message = (record { version = 1; receiver = 1; body = (plain.Join lane); round = 0 }); was_sent = refl; runs = refl; reply = record { low = omega arith; has = tt; takes = takes_a12; show = λ b is. cc; show_one = λ i is. cc; may_delete = λ b s is. cc } }
+  may_a45 = record { message = (record { version = 1; receiver = 1; body = (plain.Join lane); round = 0 }); was_sent = refl; runs = refl; reply = record { low = omega arith; has = tt; takes = takes_a12; show = λ b is. cc; show_one = λ i is. cc; fresh = λ c s h w. cc; may_delete = λ b s is. cc } }
 
   noted_a45 : WellNoted a44 (event.Delivered 12 (reply.Answer [] []))
   unfolding same_stamp same_bucket

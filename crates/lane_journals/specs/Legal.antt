@@ -5,7 +5,7 @@ use Rattle.lane_journals.specs.Sets.{count, AtLeast, both, outside}
 use Rattle.lane_journals.specs.Stamps.{Stamp, Le}
 use Rattle.lane_journals.specs.Buckets.{Id, Bucket, contains, first_child, second_child, across, key_of}
 use Rattle.lane_journals.specs.Events.{Content, Body, Ask, Read, ReadDoc, Store, Apply, Delete, Activate, Reply, Answer, Newer, NoBucket, Differs, NoMemory, Decision, RoundBegun, RoundEnded, RowSplit, RowsJoined, ActiveOn, DeleteFrom, DeleteOver, Event, Published, Heard, Begun, Opened, Prepared, Wrote, Sent, Delivered, Returned, Closed, Decided, Refused, Stopped, Started, Split, Join, Ready}
-use Rattle.lane_journals.specs.Readers.{Journal, published, known, stopped, held, Beginning, began, refused, stamps_of, Preparing, prepared, wrote, closed, opened, row_in, row_at, round_of, running, Message, sent, first_reply, returned, version, store, acceptable, holds, Given, answer, answered_store, complete, active, Deleting, deleting}
+use Rattle.lane_journals.specs.Readers.{Journal, published, known, stopped, held, Beginning, began, refused, stamps_of, Preparing, prepared, wrote, closed, opened, row_in, row_at, round_of, running, Message, sent, first_reply, returned, version, store, acceptable, was_named, stands, holds, Given, answer, answered_store, complete, active, Deleting, deleting}
 use Rattle.lane_journals.specs.Pieces.{any_covers, any_inside, any_meets, is_piece, ready_covers, pieces, Takes}
 use Rattle.lane_journals.specs.Facts.{Shown, Applied, AnsweredAsk, AnsweredApply, IsRow, IsMember, IsOpen, Idle, WasAsked, ReadBack}
 
@@ -200,6 +200,8 @@ pub record MayAnswer (J : Journal) (m : Message) (g : Given) : Type 0 where
   pub takes : Takes (pieces m.receiver J) m.body
   pub show : (b : Bucket) → m.body ≡ Read b → MayShow J m.receiver b g
   pub show_one : (id : Id) → m.body ≡ ReadDoc id → g.content id ≡ store m.receiver id J
+  -- a piece has one serial twice only if nothing was accepted there in between
+  pub fresh : (c : Bucket) (s : ℕ) → g.names c s ≡ true → was_named m.receiver c s J ≡ true → stands m.receiver c s J ≡ true
   -- and a Delete only where nothing was accepted since the piece was read
   pub may_delete : (b : Bucket) (s : ℕ) → m.body ≡ Delete b s → acceptable m.receiver b s J ≡ true
 

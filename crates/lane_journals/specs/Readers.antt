@@ -217,6 +217,29 @@ acceptable n b s [] = false
 acceptable n b s (Delivered k r ∷ J) = still_after n b s r (sent k J) (acceptable n b s J)
 acceptable n b s (_ ∷ J) = acceptable n b s J
 
+-- an answer of any kind named the piece with the serial
+abbrev pub named_after : ℕ → Bucket → ℕ → Reply → Option Message → Bool → Bool
+named_after n b s (Answer x names) (Some m) old = if m.receiver == n then (if names b s then true else old) else old
+named_after n b s _ _ old = old
+
+abbrev pub was_named : ℕ → Bucket → ℕ → Journal → Bool
+was_named n b s [] = false
+was_named n b s (Delivered k r ∷ J) = named_after n b s r (sent k J) (was_named n b s J)
+was_named n b s (_ ∷ J) = was_named n b s J
+
+-- and nothing was accepted there since
+abbrev pub untouched : Body → (Bucket → ℕ → Bool) → Bucket → ℕ → Bool → Bool
+untouched x names b s old = if names b s then true else still x names b s old
+
+abbrev pub untouched_after : ℕ → Bucket → ℕ → Reply → Option Message → Bool → Bool
+untouched_after n b s (Answer x names) (Some m) old = if m.receiver == n then untouched m.body names b s old else old
+untouched_after n b s _ _ old = old
+
+abbrev pub stands : ℕ → Bucket → ℕ → Journal → Bool
+stands n b s [] = false
+stands n b s (Delivered k r ∷ J) = untouched_after n b s r (sent k J) (stands n b s J)
+stands n b s (_ ∷ J) = stands n b s J
+
 -- the last Apply, Join or Delete over the key, if any, isn't a Delete
 abbrev pub has_piece : ℕ → Body → Bool → Bool
 has_piece key (Apply b u) old = if contains b key then true else old
