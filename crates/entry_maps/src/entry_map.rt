@@ -8,7 +8,7 @@ use crate::entry::Entry;
 use crate::stored::Stored;
 use bucket_ids::{Bucket, path_of};
 use document_ids::DocId;
-use global_ids::Gid;
+use global_ids::key_of;
 use std::alloc::Global;
 use std::marker::Model;
 use value_lists::NoMemory;
@@ -31,14 +31,6 @@ impl Model for EntryMap {
     ghost view = { λ m. entries_of (slots_in m.stored) };
 
     ghost invariant = { λ m. IsStored m.stored };
-}
-
-/// The key of a document's id.
-#[tactic(auto, unfolding(global_ids::specs::Keys::key_of))]
-fn key_of(id: &DocId) -> u64
-    ensures { result ≡ key_of id.now }
-{
-    Gid::of(id).key()
 }
 
 impl EntryMap {
