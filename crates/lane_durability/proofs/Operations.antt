@@ -8,8 +8,9 @@ use Rattle.lane_journals.specs.Events.{Content, Body, ReadDoc, Store, Reply, Ans
 use Rattle.lane_journals.specs.Readers.{Journal, known, Beginning, began, stamps_of, Preparing, prepared, closed, before_line, opened, Message, sent, is_answer, Accepted, version, store, Given, AckedBy, Acked}
 use Rattle.lane_journals.specs.Facts.{InRegion, ReadAt, IsOpen}
 use Rattle.lane_journals.specs.Legal.{IsNextStamp, MayBegin, MayPrepare, Belongs, MayCarry, MaySend, MayDeliver, MayClose, Legal}
+use Rattle.lane_journals.specs.Endings.{HasSeen}
 use Rattle.lane_journals.proofs.Order.{Le_trans, Le-at}
-use Rattle.lane_journals.proofs.Counts.{AtLeast-map, one_inside}
+use Rattle.lane_journals.proofs.Counts.{AtLeast-some, AtLeast-map, one_inside}
 use Rattle.lane_journals.proofs.Basics.{sent-stays, sent-cases, SentNow, sent_before, sent-member, sent-early, replied-sent, replied-accepted, first_reply-cases, accepted-cases, accepted-sent, began-cases, began-stays, prepared-stays, closed-before, opened-stays}
 use Rattle.lane_journals.proofs.Beginnings.{before-same, before-now, lasting, before-legal}
 use Rattle.lane_journals.proofs.Rows.{PreparedNow, open-cases}
@@ -205,6 +206,13 @@ module _ (acks : ℕ) (P : ℕ → ℕ → Bool) (some : 1 ≤ acks) where
         (AtLeast-map (λ n h. let r = h.1 in (r.number, r.message, r.was_sent, r.later, r.version, r.receiver, replied-accepted acks P J r.number (Answer h.0 r.names) r.reply refl)) enough))
     | inr more ↦ more
   ]
+
+  -- what an operation saw is no older than what was acknowledged before it began
+  pub seen-current : (J : Journal) → Legal acks P J → (k : ℕ) (b : Beginning) (p : Preparing) (seen : Option Stamp) → IsOpen b.version k b p J → HasSeen acks J k b seen → (w : ℕ) (s : Stamp) → Acked w b.id s (before_line k J) → Le (Some s) seen
+  seen-current J l k b p seen o h w s a =
+      let one = AtLeast-some acks _ some h.enough in
+      let low = read-version J l k b o.began (AtLeast-map (λ n r. (r.1.0, (r.1.1).read)) h.enough) w s a in
+      Le_trans _ _ _ (fresh J l b.version k b p o one.0 one.1.1.0 (one.1.1.1).read w s a low) (h.newest one.0 one.1.1.0 one.1.1.1)
 
   -- ---- search
 

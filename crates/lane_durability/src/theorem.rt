@@ -1,23 +1,22 @@
 //! The law on the versions below a version, and the durability theorem; no function here does anything.
 
-ghost use Rattle.std.specs.Prelude.{◌≡◌, ◌≤◌, ℕ, Bool, List};
-ghost use Rattle.lane_journals.specs.Readers.{Journal};
+ghost use Rattle.std.specs.Prelude.{◌≡◌, ℕ, List};
 ghost use Rattle.lane_journals.specs.Below.{below};
-ghost use Rattle.lane_journals.specs.Legal.{Legal};
 ghost use Rattle.lane_journals.specs.Meanings.{history};
 ghost use Rattle.lane_journals.specs.Places.{Setting};
 ghost use Rattle.lane_journals.specs.KeptJournals.{IsLegal};
 ghost use Rattle.lane_journals.specs.declared.event.LaneEvent.{LaneEvent};
+ghost use Rattle.lane_durability.specs.Laws.{InAll, InAllKept};
 ghost use Rattle.lane_durability.specs.KeptBelow.{kept_below};
-ghost use Rattle.lane_durability.specs.Durability.{VersionsStandAlone, IsFound, IsDurable, LaterIsNewer, ReadsAreFresh, EnoughReadsAreCurrent, CountedOnce, SearchIsCurrent, LateAreOutside, FewAreOutside};
+ghost use Rattle.lane_durability.specs.Durability.{VersionsStandAlone, IsFound, IsDurable, LaterIsNewer, ReadsAreFresh, EnoughReadsAreCurrent, SeenIsCurrent, CountedOnce, SearchIsCurrent, LateAreOutside, FewAreOutside};
 
 /// The events of the versions below a version are a legal journal, whose stores are what each node held
 /// as it first took that version or a greater one. So what was acknowledged below a published version
 /// is held by a node that serves under it, as that node takes it. The same holds of journals as they are
 /// kept, with places, names and outcomes.
 pub fn versions_below()
-    ensures law { (acks : ℕ) → 1 ≤ acks → (P : ℕ → ℕ → Bool) → (J : Journal) → Legal acks P J → VersionsStandAlone acks P J }
-    ensures found { (acks : ℕ) → 1 ≤ acks → (P : ℕ → ℕ → Bool) → (J : Journal) → Legal acks P J → IsFound P J }
+    ensures law { InAll VersionsStandAlone }
+    ensures found { InAll (λ acks P J. IsFound P J) }
     ensures kept { (S : Setting) (J : List LaneEvent) → IsLegal S J → (v : ℕ) → IsLegal S (kept_below v J) }
     ensures means { (S : Setting) (J : List LaneEvent) → IsLegal S J → (v : ℕ) → history (kept_below v J) ≡ below v (history J) }
 {}
@@ -27,27 +26,29 @@ pub fn versions_below()
 /// at enough nodes saw nothing older. Once a version is opened, what smaller versions sent is taken
 /// outside its nodes alone, and there are fewer than enough known nodes there.
 pub fn durability()
-    ensures durable { (acks : ℕ) → 1 ≤ acks → (P : ℕ → ℕ → Bool) → (J : Journal) → Legal acks P J → IsDurable acks J }
-    ensures later { (acks : ℕ) → 1 ≤ acks → (P : ℕ → ℕ → Bool) → (J : Journal) → Legal acks P J → LaterIsNewer J }
-    ensures fresh { (acks : ℕ) → 1 ≤ acks → (P : ℕ → ℕ → Bool) → (J : Journal) → Legal acks P J → ReadsAreFresh J }
-    ensures current { (acks : ℕ) → 1 ≤ acks → (P : ℕ → ℕ → Bool) → (J : Journal) → Legal acks P J → EnoughReadsAreCurrent acks J }
-    ensures late { (acks : ℕ) → 1 ≤ acks → (P : ℕ → ℕ → Bool) → (J : Journal) → Legal acks P J → LateAreOutside acks P J }
-    ensures few { (acks : ℕ) → 1 ≤ acks → (P : ℕ → ℕ → Bool) → (J : Journal) → Legal acks P J → FewAreOutside acks P J }
+    ensures durable { InAll (λ acks P J. IsDurable acks J) }
+    ensures later { InAll (λ acks P J. LaterIsNewer J) }
+    ensures fresh { InAll (λ acks P J. ReadsAreFresh J) }
+    ensures current { InAll (λ acks P J. EnoughReadsAreCurrent acks J) }
+    ensures seen { InAll (λ acks P J. SeenIsCurrent acks J) }
+    ensures late { InAll LateAreOutside }
+    ensures few { InAll FewAreOutside }
 {}
 
 /// The durability theorem of journals as they are kept.
 pub fn kept_journals_are_durable()
-    ensures durable { (S : Setting) → 1 ≤ S.acks → (J : List LaneEvent) → IsLegal S J → IsDurable S.acks (history J) }
-    ensures later { (S : Setting) → 1 ≤ S.acks → (J : List LaneEvent) → IsLegal S J → LaterIsNewer (history J) }
-    ensures fresh { (S : Setting) → 1 ≤ S.acks → (J : List LaneEvent) → IsLegal S J → ReadsAreFresh (history J) }
-    ensures current { (S : Setting) → 1 ≤ S.acks → (J : List LaneEvent) → IsLegal S J → EnoughReadsAreCurrent S.acks (history J) }
-    ensures apart { (S : Setting) → 1 ≤ S.acks → (J : List LaneEvent) → IsLegal S J → CountedOnce (history J) }
-    ensures held { (S : Setting) → 1 ≤ S.acks → (J : List LaneEvent) → IsLegal S J → SearchIsCurrent (history J) }
+    ensures durable { InAllKept (λ S J. IsDurable S.acks (history J)) }
+    ensures later { InAllKept (λ S J. LaterIsNewer (history J)) }
+    ensures fresh { InAllKept (λ S J. ReadsAreFresh (history J)) }
+    ensures current { InAllKept (λ S J. EnoughReadsAreCurrent S.acks (history J)) }
+    ensures seen { InAllKept (λ S J. SeenIsCurrent S.acks (history J)) }
+    ensures apart { InAllKept (λ S J. CountedOnce (history J)) }
+    ensures held { InAllKept (λ S J. SearchIsCurrent (history J)) }
 {}
 
 /// Regions of one version have no key in common, and a node that is at the version of its region holds
 /// there at least all that was acknowledged under that version and smaller ones.
 pub fn regions_count_once()
-    ensures apart { (acks : ℕ) → 1 ≤ acks → (P : ℕ → ℕ → Bool) → (J : Journal) → Legal acks P J → CountedOnce J }
-    ensures current { (acks : ℕ) → 1 ≤ acks → (P : ℕ → ℕ → Bool) → (J : Journal) → Legal acks P J → SearchIsCurrent J }
+    ensures apart { InAll (λ acks P J. CountedOnce J) }
+    ensures current { InAll (λ acks P J. SearchIsCurrent J) }
 {}

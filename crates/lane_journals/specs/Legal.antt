@@ -330,3 +330,7 @@ Permits acks P J (Started n) = stopped n J ≡ true
 abbrev pub Legal : ℕ → (ℕ → ℕ → Bool) → Journal → Type 0
 Legal acks P [] = Unit {0}
 Legal acks P (e ∷ J) = Legal acks P J × Permits acks P J e
+
+-- a fact of all legal journals
+abbrev pub OfLegal : (ℕ → (ℕ → ℕ → Bool) → Journal → Type 0) → Type 0
+OfLegal L = (acks : ℕ) (P : ℕ → ℕ → Bool) (J : Journal) → Legal acks P J → L acks P J

@@ -1,9 +1,9 @@
 -- The life of a lane: a legal journal in which a document is written under two states, and a node is emptied.
-use Rattle.std.specs.Prelude.{false, List, [], ◌∷◌, None, Some}
+use Rattle.std.specs.Prelude.{◌≡◌, true, false, List, [], ◌∷◌, None, Some}
 use Rattle.cluster_states.specs.declared.marks.Mark.TheVariants.{Up, Retired}
 use Rattle.cluster_states.specs.declared.cluster_state.ClusterState.{ClusterState}
 use Rattle.lane_journals.specs.Stamps.{Stamp}
-use Rattle.lane_journals.specs.Buckets.{Bucket, Id}
+use Rattle.lane_journals.specs.Buckets.{Bucket, Id, contains, key_of}
 use Rattle.lane_journals.specs.Places.{Setting}
 use Rattle.lane_journals.specs.declared.noted.NotedBody.TheVariants as body
 use Rattle.lane_journals.specs.declared.noted.NotedReply.TheVariants as reply
@@ -14,6 +14,10 @@ use Rattle.lane_journals.specs.declared.event.LaneEvent.TheVariants as event
 
 abbrev pub lane : Bucket
 lane = record { bits = 1; low = 0 }
+
+-- a fact of all documents of the lane
+abbrev pub OfDocuments : (Id → Type 0) → Type 0
+OfDocuments L = (id : Id) → contains lane (key_of id) ≡ true → L id
 
 abbrev pub setting : Setting
 setting = record { lane = lane; acks = 1; redundancy = 2 }

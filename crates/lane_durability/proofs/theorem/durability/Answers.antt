@@ -1,10 +1,11 @@
 use Rattle.lane_durability.proofs.Found.{durable, state-few}
-use Rattle.lane_durability.proofs.Operations.{newer-later, fresh, read-version, late-message}
+use Rattle.lane_durability.proofs.Operations.{newer-later, fresh, read-version, seen-current, late-message}
 use Rattle.lane_durability.proofs.theorem.durability.Goals as goal
 
 pub returns : goal.returns
 returns c = record {
   durable = λ acks some P J l. durable acks P some J l;
+  seen = λ acks some P J l. seen-current acks P some J l;
   later = λ acks some P J l. newer-later acks P some J l;
   fresh = λ acks some P J l. fresh acks P some J l;
   current = λ acks some P J l. read-version acks P some J l;
