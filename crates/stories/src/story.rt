@@ -35,33 +35,64 @@ impl Story {
     }
 }
 
-/// The bytes of these lines. `%repeat N TEXT` stands for N lines of a text, `%long N` for a line of
-/// N letters x, and `%open` takes the last line feed away.
+/// The bytes of these lines. Of a line that begins with a word behind `%`:
+///
+/// - `%repeat N LINE` stands for N times this line;
+/// - `%count N TEXT` for N lines of a text, each with its number from 1 in the place of `#`;
+/// - `%long N` for a line of N letters x;
+/// - `%bytes B ..` for these bytes, without a line feed;
+/// - `%open` takes the last line feed away, so that the next line goes on there.
 fn expand(alloc: Global, lines: &str) -> Result<Vec<u8>> {
     let mut bytes = Vec::new(alloc);
     for line in lines.lines() {
         if let Some(rest) = line.strip_prefix("%repeat ") {
-            let (count, text) = rest.split_once(' ').ok_or(anyhow!("no text to repeat"))?;
+            let (count, repeated) = rest.split_once(' ').ok_or(anyhow!("no line to repeat"))?;
             for _ in 0..count.parse::<u32>()? {
-                push_line(&mut bytes, text)?;
+                push(&mut bytes, repeated)?;
             }
-        } else if let Some(count) = line.strip_prefix("%long ") {
-            for _ in 0..count.parse::<u32>()? {
-                bytes.push(b'x')?;
+        } else if let Some(rest) = line.strip_prefix("%count ") {
+            let (count, text) = rest.split_once(' ').ok_or(anyhow!("no text to count"))?;
+            for before in 0..count.parse::<u32>()? {
+                push_numbered(alloc, &mut bytes, text, before + 1)?;
             }
-            bytes.push(b'\n')?;
-        } else if line == "%open" {
-            bytes.pop();
         } else {
-            push_line(&mut bytes, line)?;
+            push(&mut bytes, line)?;
         }
     }
     Ok(bytes)
 }
 
-/// Appends a line and its line feed.
-fn push_line(bytes: &mut Vec<u8>, line: &str) -> Result<()> {
-    bytes.extend_from_slice(line.as_bytes())?;
+/// Appends what a line stands for that is neither repeated nor counted.
+fn push(bytes: &mut Vec<u8>, line: &str) -> Result<()> {
+    if let Some(count) = line.strip_prefix("%long ") {
+        for _ in 0..count.parse::<u32>()? {
+            bytes.push(b'x')?;
+        }
+        bytes.push(b'\n')?;
+    } else if let Some(list) = line.strip_prefix("%bytes ") {
+        for byte in list.split(' ') {
+            bytes.push(byte.parse::<u8>()?)?;
+        }
+    } else if line == "%open" {
+        bytes.pop();
+    } else {
+        bytes.extend_from_slice(line.as_bytes())?;
+        bytes.push(b'\n')?;
+    }
+    Ok(())
+}
+
+/// Appends a line, with a number in the place of each `#`.
+fn push_numbered(alloc: Global, bytes: &mut Vec<u8>, text: &str, number: u32) -> Result<()> {
+    let number = format!(in alloc; "{number}")?;
+    let mut is_first = true;
+    for piece in text.split('#') {
+        if !is_first {
+            bytes.extend_from_slice(number.as_bytes())?;
+        }
+        is_first = false;
+        bytes.extend_from_slice(piece.as_bytes())?;
+    }
     bytes.push(b'\n')?;
     Ok(())
 }
