@@ -1,5 +1,6 @@
 -- A state may be published exactly where it isn't refused.
 use Rattle.std.proofs.Common.{◌≡◌, ℕ, ◌+◌, ◌-◌, ◌<◌, ◌≤◌, Bool, true, false, not, ◌&&◌, ◌||◌, cond, List, [], ◌∷◌, ◌++◌, length, Option, Some, None, refl, sym, ap, ◌∙◌, subst, arith, inl, inr, eqb, leb, ltb, eq-eqb, zero, suc, slice_get, slice_index_or}
+use Rattle.std.specs.Option.{option_or}
 use Rattle.std.proofs.lemmas.Bool.{eqb-true, cases_lt}
 use Rattle.std.proofs.lemmas.Bool.Decides.{nat_tests}
 use Rattle.std.proofs.lemmas.List.{length-append}
@@ -11,7 +12,7 @@ use Rattle.cluster_states.specs.declared.marks.Mark.TheVariants.{Up, Down, Retir
 use Rattle.cluster_states.specs.declared.cluster_state.ClusterState.{ClusterState}
 use Rattle.cluster_states.specs.declared.states.PublishFault.{PublishFault}
 use Rattle.cluster_states.specs.declared.states.PublishFault.TheVariants.{NotNewer, TooFewUp, TooManyOut}
-use Rattle.cluster_states.specs.Publishing.{newest_of, serves, is_known, how_many, up_of, out_of, older_fault, distributor_fault, up_fault, out_fault, room_fault, first_fault, publish_fault}
+use Rattle.cluster_states.specs.Publishing.{newest_of, serves, is_known, how_many, up_of, out_of, older_fault, distributor_fault, up_fault, out_fault, room_fault, publish_fault}
 use Rattle.lane_journals.specs.Sets.{count_below, count, both, outside}
 use Rattle.lane_journals.specs.Readers.{published, known}
 use Rattle.lane_journals.specs.Events as plain
@@ -25,7 +26,7 @@ use Rattle.lane_journals.specs.declared.event.LaneEvent.TheVariants as event
 
 -- ---- faults
 
-none-first : (a b : Option PublishFault) → first_fault a b ≡ None → (a ≡ None) × (b ≡ None)
+none-first : (a b : Option PublishFault) → option_or a b ≡ None → (a ≡ None) × (b ≡ None)
 none-first None b h = (refl, h)
 none-first (Some f) b h = cc
 
@@ -157,9 +158,9 @@ module _ (S : Setting) where
   -- what isn't refused may be published
   pub may-publish : (J : List LaneEvent) → IsLegal S J → 1 ≤ S.acks → (s : ClusterState) → length s.nodes ≤ 32 → publish_fault (told S J) s ≡ None → IsLegalStep S J (event.Published s)
   may-publish J l some s few h =
-      let a = none-first (older_fault (newest_of (published_states J)) s) (first_fault (distributor_fault s) (first_fault (up_fault S.acks s) (first_fault (out_fault (told S J) s) (room_fault (published_states J))))) h in
-      let b = none-first (distributor_fault s) (first_fault (up_fault S.acks s) (first_fault (out_fault (told S J) s) (room_fault (published_states J)))) a.1 in
-      let c = none-first (up_fault S.acks s) (first_fault (out_fault (told S J) s) (room_fault (published_states J))) b.1 in
+      let a = none-first (older_fault (newest_of (published_states J)) s) (option_or (distributor_fault s) (option_or (up_fault S.acks s) (option_or (out_fault (told S J) s) (room_fault (published_states J))))) h in
+      let b = none-first (distributor_fault s) (option_or (up_fault S.acks s) (option_or (out_fault (told S J) s) (room_fault (published_states J)))) a.1 in
+      let c = none-first (up_fault S.acks s) (option_or (out_fault (told S J) s) (room_fault (published_states J))) b.1 in
       let d = none-first (out_fault (told S J) s) (room_fault (published_states J)) c.1 in
       let low = newer (newest_of (published_states J)) refl a.0 in
       let up : S.acks ≤ up_of s = (let z = no-fault (ltb (up_of s) S.acks) (TooFewUp (up_of s) S.acks) c.0 in grind (arith, nat_tests)) in
