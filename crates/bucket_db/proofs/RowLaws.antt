@@ -1,14 +1,14 @@
 -- Splits and joins keep the rows a partition in rising number.
-use Rattle.std.proofs.Common.{◌≡◌, ℕ, zero, suc, ◌+◌, ◌-◌, ◌^◌, ◌<◌, ◌≤◌, Bool, true, false, not, ◌&&◌, nat_lt, List, [], ◌∷◌, length, get_or, cond, Option, Some, None, inl, inr, refl, sym, ap, ◌∙◌, subst, arith, mod-eq_of_lt, pow_pos}
+use Rattle.std.proofs.Common.{◌≡◌, ℕ, zero, suc, ◌+◌, ◌-◌, ◌%◌, ◌^◌, ◌<◌, ◌≤◌, ◌⊎◌, Bool, true, false, not, ◌&&◌, nat_lt, List, [], ◌∷◌, length, get_or, cond, Option, Some, None, inl, inr, refl, sym, ap, ◌∙◌, subst, arith, mod-eq_of_lt, pow_pos}
 use Rattle.std.specs.List.{count_by, filter, remove}
 use Rattle.std.specs.Prelude.{slice_get, IfSome}
 use Rattle.std.proofs.lemmas.Nat.{mod_below}
-use Rattle.std.proofs.lemmas.Option.{slice_get-get_or}
+use Rattle.std.proofs.lemmas.Option.{slice_get-get_or, slice_get_read}
 use Rattle.bucket_ids.specs.Buckets.{Low, IsBucket, has_key, covers, first_child, second_child, parent_of, sibling_of}
 use Rattle.bucket_ids.specs.Printed.{number_of}
-use Rattle.bucket_ids.proofs.KeySets.{sibling_parts, sibling_fits}
-use Rattle.bucket_db.specs.Changes.{placed, with_row, with_halves, split_at, with_joined, first_half, second_half, IsJoinable}
-use Rattle.bucket_db.specs.Rows.{AreBuckets, AreRows, buckets_of}
+use Rattle.bucket_ids.proofs.KeySets.{low_of_low, sibling_parts, sibling_fits}
+use Rattle.bucket_db.specs.Changes.{placed, with_row, with_halves, split_at, with_joined, first_half, second_half, CanJoin, IsJoinable, MayJoin}
+use Rattle.bucket_db.specs.Rows.{AreBuckets, AreRows, Rows, buckets_of}
 use Rattle.bucket_db.specs.declared.row.Row.{Row}
 use Rattle.bucket_db.proofs.Counts.{one_if, count_cons, count_at, count_none, count_parts}
 use Rattle.bucket_db.proofs.Inside.{low_below, key_in, key_has, covers_from, covers_key, first_valid, second_valid, halves}
@@ -224,3 +224,71 @@ pair_found lane rows slice at pair key result h same is only =
     let place_is : pair.place ≡ result = only pair.place pair.other (subst (λ (xs : List Row). slice_get xs pair.place ≡ Some pair.other) (sym same) pair.found)
     (subst (λ k. has_key pair.other.bucket k ≡ true) (sym is) (has_low pair.other.bucket ok)) in
     subst (λ i. slice_get rows i ≡ Some pair.other) place_is pair.found
+
+-- ---- whether a row may be joined
+
+true_of : (b : Bool) → 1 ≤ one_if b → b ≡ true
+true_of true h = refl
+true_of false h = absurd (omega (arith, h))
+
+-- the sibling of a row of more bits lies in the lane
+sibling_inside : (lane b : Low) → IsBucket b → lane.bits < b.bits → 1 < b.bits → has_key lane b.low ≡ true → has_key lane (sibling_of b).low ≡ true
+sibling_inside lane b ok inside more has =
+    let fits = sibling_fits b ok more in
+    let parent : (sibling_of b).low % 2 ^ (b.bits - 1) ≡ b.low % 2 ^ (b.bits - 1) =
+    ((sibling_parts b ok more (sibling_of b).low).1 (inr (low_below (sibling_of b) fits, mod-eq_of_lt fits.fits))).1 in
+    let le : lane.bits ≤ b.bits - 1 = omega arith in
+    key_has lane (sibling_of b).low
+    (sym (low_of_low (sibling_of b).low lane.bits (b.bits - 1) le) ∙ ap (λ x. x % 2 ^ lane.bits) parent
+    ∙ low_of_low b.low lane.bits (b.bits - 1) le ∙ key_in lane b.low has)
+
+pub read_more : (lane : Low) (read : Row) → IsBucket lane → lane.bits < read.bucket.bits → 1 < read.bucket.bits
+read_more lane read ok inside = omega (arith, ok.some)
+
+-- exactly one row has the number of the sibling
+pub sibling_once : (lane : Low) (rows slice : List Row) (at : ℕ) (read : Row) (sibling : Low) (key : ℕ) → AreRows lane (buckets_of rows) → slice ≡ rows
+    → at < length rows → read ≡ get_or rows at read → lane.bits < read.bucket.bits → sibling ≡ sibling_of read.bucket → key ≡ sibling.low
+    → count_by (λ b. has_key b key) (buckets_of slice) ≡ 1
+sibling_once lane rows slice at read sibling key h same lt is inside sibling_is key_is =
+    let b = read.bucket in
+    let there = bucket_at rows at read (slice_get_read rows (length rows) at read refl lt is) in
+    let ok = valid_at (buckets_of rows) at b h.valid there in
+    let more = read_more lane read h.bucket inside in
+    let own : count_by (λ x. has_key x b.low) (buckets_of rows) ≡ one_if (has_key lane b.low) = h.partition b.low (low_below b ok) in
+    let seen = count_at (λ x. has_key x b.low) (buckets_of rows) at b there (has_low b ok) in
+    let has = true_of (has_key lane b.low) (omega (arith, own, seen)) in
+    let low = (sibling_of b).low in
+    let one : count_by (λ x. has_key x low) (buckets_of rows) ≡ 1 =
+    h.partition low (low_below (sibling_of b) (sibling_fits b ok more)) ∙ ap one_if (sibling_inside lane b ok inside more has) in
+    let key_low : key ≡ low = key_is ∙ ap (λ (x : Low). x.low) sibling_is in
+    subst (λ (xs : List Row). count_by (λ x. has_key x key) (buckets_of xs) ≡ 1) (sym same) (subst (λ k. count_by (λ x. has_key x k) (buckets_of rows) ≡ 1) (sym key_low) one)
+
+pub may_be_joined : (d : Rows) (at place : ℕ) (read found : Row) (sibling : Low) → at < length d.rows → place < length d.rows
+    → read ≡ get_or d.rows at read → found ≡ get_or d.rows place found → sibling ≡ sibling_of read.bucket → d.lane.bits < read.bucket.bits → MayJoin read sibling found → CanJoin d at
+may_be_joined d at place read found sibling lt within is found_is sibling_is inside may =
+    let own : slice_get d.rows at ≡ Some read = slice_get_read d.rows (length d.rows) at read refl lt is in
+    let j : IsJoinable d.lane d.rows read found = record {
+      is_row = (place, within, sym found_is);
+      sibling = may.0 ∙ sibling_is;
+      inside = inside;
+      active = may.1.0;
+      deletes = may.1.1;
+    } in
+    subst (λ (o : Option Row). IfSome o (λ row. (other : Row) × IsJoinable d.lane d.rows row other)) (sym own) (found, j)
+
+pub must_be_joined : (d : Rows) (slice : List Row) (at place key : ℕ) (read found : Row) (sibling : Low) → AreRows d.lane (buckets_of d.rows) → slice ≡ d.rows → at < length d.rows
+    → read ≡ get_or d.rows at read → found ≡ get_or d.rows place found → sibling ≡ sibling_of read.bucket → key ≡ sibling.low
+    → ((i : ℕ) (r : Row) → slice_get slice i ≡ Some r → has_key r.bucket key ≡ true → i ≡ place) → CanJoin d at → MayJoin read sibling found
+must_be_joined d slice at place key read found sibling h same lt is found_is sibling_is key_is only can =
+    let pair = pair_at d.lane d.rows at lt can in
+    let low = pair_key d.lane d.rows at pair read sibling key is sibling_is key_is in
+    let there = pair_found d.lane d.rows slice at pair key place h same low only in
+    let row_is : read ≡ pair.row = read_is d.rows d.rows at read pair.row refl is pair.own in
+    let other_is : found ≡ pair.other = read_is d.rows d.rows place found pair.other refl found_is there in
+    let bucket : found.bucket ≡ sibling = ap (λ (r : Row). r.bucket) other_is ∙ pair.joinable.sibling ∙ ap (λ (r : Row). sibling_of r.bucket) (sym row_is) ∙ sym sibling_is in
+    let active : read.active ≡ found.active = ap (λ (r : Row). r.active) row_is ∙ pair.joinable.active ∙ ap (λ (r : Row). r.active) (sym other_is) in
+    let deletes : (read.deleting ≡ None) ⊎ (found.deleting ≡ None) = elim pair.joinable.deletes [
+      | inl none ↦ inl (ap (λ (r : Row). r.deleting) row_is ∙ none)
+      | inr none ↦ inr (ap (λ (r : Row). r.deleting) other_is ∙ none)
+    ] in
+    (bucket, (active, deletes))

@@ -1,5 +1,5 @@
 -- What the calls make of the rows.
-use Rattle.std.specs.Prelude.{◌≡◌, ◌⊎◌, ℕ, zero, suc, ◌<◌, ◌&&◌, not, nat_lt, List, [], ◌∷◌, Option, Some, None, slice_get, if◌then◌else◌}
+use Rattle.std.specs.Prelude.{◌≡◌, ◌⊎◌, ℕ, zero, suc, ◌<◌, ◌&&◌, not, nat_lt, List, [], ◌∷◌, Option, Some, None, slice_get, IfSome, if◌then◌else◌}
 use Rattle.std.specs.List.{Contains, filter, remove}
 use Rattle.bucket_ids.specs.Buckets.{Low, covers, first_child, second_child, parent_of, sibling_of}
 use Rattle.bucket_ids.specs.Printed.{number_of}
@@ -46,6 +46,14 @@ pub record IsJoinable (lane : Low) (rows : List Row) (row other : Row) : Type 0 
   pub inside : lane.bits < row.bucket.bits
   pub active : row.active ≡ other.active
   pub deletes : (row.deleting ≡ None) ⊎ (other.deleting ≡ None)
+
+-- the row of a place may be joined with another
+abbrev pub CanJoin : Rows → ℕ → Type 0
+CanJoin d at = IfSome (slice_get d.rows at) (λ row. (other : Row) × IsJoinable d.lane d.rows row other)
+
+-- the other row has the sibling's bucket, and neither marks nor Deletes stand against a join
+abbrev pub MayJoin : Row → Low → Row → Type 0
+MayJoin row sibling other = (other.bucket ≡ sibling) × ((row.active ≡ other.active) × ((row.deleting ≡ None) ⊎ (other.deleting ≡ None)))
 
 -- the rows inside the joined one go, and it comes
 abbrev pub with_joined : Row → List Row → List Row

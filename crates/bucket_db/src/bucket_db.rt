@@ -1,8 +1,8 @@
-ghost use Rattle.std.specs.Prelude.{◌≡◌, ℕ, ◌<◌, length, true, map, slice_get, Some, IfSome, IfOk, OnOk, OnErr};
+ghost use Rattle.std.specs.Prelude.{◌≡◌, ℕ, ◌<◌, length, true, map, slice_get, Some, IsTrue, ◌↔◌, IfSome, IfOk, OnOk, OnErr};
 ghost use Rattle.bucket_ids.specs.Buckets.{has_key, IsIn};
 ghost use Rattle.bucket_db.specs.Rows.{AreRows, buckets_of};
 ghost use Rattle.bucket_db.specs.Answers.{IsCoarsest, new_row};
-ghost use Rattle.bucket_db.specs.Changes.{split_at, with_rows, with_joined, IsJoinable, IsJoined, at_row};
+ghost use Rattle.bucket_db.specs.Changes.{split_at, with_rows, with_joined, IsJoinable, IsJoined, CanJoin, at_row};
 ghost use Rattle.bucket_db.specs.declared.row.Row.{Row};
 
 use crate::row::{Deleting, Row, new_rows};
@@ -72,11 +72,26 @@ impl BucketDb {
         changes::split_at(&mut self.rows, at)
     }
 
+    /// Whether a row may be joined: its sibling is a row, both have more bits than the lane's bucket
+    /// and the same active node or none, and not both have a Delete.
+    pub fn can_join(&self, at: usize) -> bool
+        requires { at < length self.now.rows }
+        ensures { IsTrue result ↔ CanJoin self.now at }
+    {
+        let row = &self.rows[at];
+        if row.bucket.bits() <= self.lane.bits() {
+            return false;
+        }
+        let sibling = row.bucket.sibling();
+        let place = search::place_of(&self.rows, sibling.low());
+        changes::may_join(row, sibling, &self.rows[place])
+    }
+
     /// Joins a row with its sibling, where that is a row too: common marks stay, and the Delete of
     /// either.
     pub fn join_rows(&mut self, at: usize) -> Result<(), NoMemory>
         requires place { at < length self.old.rows }
-        requires joinable { IfSome (slice_get self.old.rows at) (λ row. (other : Row) × IsJoinable self.old.lane self.old.rows row other) }
+        requires joinable { CanJoin self.old at }
         ensures ok { (row other : Row) → slice_get self.old.rows at ≡ Some row → IsJoinable self.old.lane self.old.rows row other
             → OnOk result ((joined : Row) × IsJoined row other joined × (self.new ≡ with_rows self.old (with_joined joined self.old.rows))) }
         ensures err { OnErr result (self.new ≡ self.old) }

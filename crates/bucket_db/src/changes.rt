@@ -1,8 +1,8 @@
-ghost use Rattle.std.specs.Prelude.{◌≡◌, ◌+◌, ◌<◌, ◌≤◌, length, not, Some, None, OnOk, OnErr, IfSome, slice_get, vec_len, vec_capacity};
+ghost use Rattle.std.specs.Prelude.{◌≡◌, ◌⊎◌, ◌+◌, ◌<◌, ◌≤◌, length, not, Some, None, IsTrue, ◌↔◌, OnOk, OnErr, IfSome, slice_get, vec_len, vec_capacity};
 ghost use Rattle.std.specs.List.{filter};
 ghost use Rattle.bucket_ids.specs.Buckets.{covers};
 ghost use Rattle.bucket_db.specs.Rows.{RisesFrom, buckets_of};
-ghost use Rattle.bucket_db.specs.Changes.{with_row, split_at, with_joined, IsJoined};
+ghost use Rattle.bucket_db.specs.Changes.{with_row, split_at, with_joined, IsJoined, MayJoin};
 ghost use Rattle.bucket_db.specs.declared.row.Row.{Row};
 
 use crate::row::{Deleting, Row, number_of};
@@ -74,6 +74,40 @@ fn joined(row: &Row, other: &Row) -> Row
         active: row.active,
         deleting: either(row.deleting, other.deleting),
     }
+}
+
+/// Whether two rows have the same active node, or none.
+fn same_active(own: Option<u8>, other: Option<u8>) -> bool
+    ensures { IsTrue result ↔ (own ≡ other) }
+{
+    match (own, other) {
+        (Some(node), Some(active)) => node == active,
+        (None, None) => true,
+        _ => false,
+    }
+}
+
+/// Whether not both are there.
+fn at_most_one(own: Option<Deleting>, other: Option<Deleting>) -> bool
+    ensures { IsTrue result ↔ ((own ≡ None) ⊎ (other ≡ None)) }
+{
+    match (own, other) {
+        (Some(_), Some(_)) => false,
+        _ => true,
+    }
+}
+
+/// Whether the other row has the sibling's bucket, and may be joined with the row.
+pub fn may_join(row: &Row, sibling: Bucket, other: &Row) -> bool
+    ensures { IsTrue result ↔ MayJoin row.now sibling other.now }
+{
+    if number_of(other.bucket) != number_of(sibling) {
+        return false;
+    }
+    if !at_most_one(row.deleting, other.deleting) {
+        return false;
+    }
+    same_active(row.active, other.active)
 }
 
 /// Removes the rows that lie inside a bucket.
