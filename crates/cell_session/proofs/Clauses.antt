@@ -5,9 +5,9 @@ use Rattle.std.proofs.lemmas.List.{get_or_past}
 use Rattle.std.specs.Io.KnownBytes.{Appends}
 use Rattle.io_ends.specs.Lines.{lines_of, end_of}
 use Rattle.io_ends.specs.declared.next.LimitKind.{LimitKind}
-use Rattle.feed_lines.specs.Lines.{command_of}
-use Rattle.feed_lines.specs.declared.command.Command.{Command}
-use Rattle.feed_lines.specs.declared.command.Command.TheVariants as command
+use Rattle.cell_session.specs.Asking.{command_of}
+use Rattle.cell_session.specs.declared.asked.Asked.{Asked}
+use Rattle.cell_session.specs.declared.asked.Asked.TheVariants as command
 use Rattle.lane_laws.specs.Journals.{Journal, events_of}
 use Rattle.lane_laws.specs.Legal.{IsLegal}
 use Rattle.lane_laws.specs.Readers.{begun_in}
@@ -62,7 +62,7 @@ ends_in_order end s text left c before now (inr some) lane earlier line early fi
   | inr past ↦ absurd (not_begun (journal_in lane c.journals) line (past_journal c.journals lane (omega (arith, some.dealt.lanes, past))) second)
 ]
 
-all_lanes : (end : Status) (s : Setting) (cs : List Command) (c : Cell) (before now : Option (List ℕ)) → length c.journals ≡ lane_count s → Writes end s cs c.journals before now → HasLanes end s c.journals
+all_lanes : (end : Status) (s : Setting) (cs : List Asked) (c : Cell) (before now : Option (List ℕ)) → length c.journals ≡ lane_count s → Writes end s cs c.journals before now → HasLanes end s c.journals
 all_lanes status.Done s cs c before now is wrote = is
 all_lanes status.ReadFault s cs c before now is wrote = is
 all_lanes status.WriteFault s cs c before now is wrote = is
@@ -81,7 +81,7 @@ unfolding end_of
 none_dealt None left count is = tt
 none_dealt (Some t) left count is = subst (λ n. DealsWith status.NoMemory t n left) (sym is) (record { within = record { some = omega arith; few = omega arith; within = omega arith }; stops = tt })
 
-some_dealt : (end : Status) (text left : Option (List ℕ)) (cs : List Command) → IfTold text (λ t. AreFirst t cs) → IfTold text (λ t. StopsAt end t (length cs) left) → IfTold text (λ t. DealsWith end t (length cs) left)
+some_dealt : (end : Status) (text left : Option (List ℕ)) (cs : List Asked) → IfTold text (λ t. AreFirst t cs) → IfTold text (λ t. StopsAt end t (length cs) left) → IfTold text (λ t. DealsWith end t (length cs) left)
 some_dealt end None left cs first stops = tt
 some_dealt end (Some t) left cs first stops = record { within = first.within; stops = stops }
 
@@ -109,26 +109,24 @@ only_past : (s : Setting) (lane line : ℕ) (id : List ℕ) (P : Type 0) → lan
 only_past s lane line id P past =
     no_match P (events_of line [] ≡ []) (lane_of_id s.bits id == lane) (line_other (lane_of_id s.bits id) lane (λ e. omega (arith, e, lane_small s.bits id, past))) refl
 
-events_past : (s : Setting) (lane line : ℕ) (c : Command) → lane_count s ≤ lane → HasEvents s lane line c []
+events_past : (s : Setting) (lane line : ℕ) (c : Asked) → lane_count s ≤ lane → HasEvents s lane line c []
 events_past s lane line command.Blank past = refl
 events_past s lane line command.TooLong past = refl
-events_past s lane line command.Unbuilt past = refl
-events_past s lane line (command.Put id document) past = only_past s lane line id _ past
-events_past s lane line (command.Remove id) past = only_past s lane line id _ past
-events_past s lane line (command.Get id) past = only_past s lane line id _ past
+events_past s lane line (command.Bad why) past = refl
+events_past s lane line (command.Feed op) past = only_past s lane line op.id _ past
 
-command_at : (cs : List Command) (k : ℕ) → k < length cs → (c : Command) × (slice_get cs k ≡ Some c)
+command_at : (cs : List Asked) (k : ℕ) → k < length cs → (c : Asked) × (slice_get cs k ≡ Some c)
 command_at [] k h = absurd (omega (arith, h))
 command_at (c ∷ cs) zero h = (c, refl)
 command_at (c ∷ cs) (suc k) h = command_at cs k (omega (arith, h))
 
-taken_at : (lines : List (List ℕ)) (n k : ℕ) (c : Command) → slice_get (map command_of (take n lines)) k ≡ Some c → (bytes : List ℕ) × ((slice_get lines k ≡ Some bytes) × (c ≡ command_of bytes))
+taken_at : (lines : List (List ℕ)) (n k : ℕ) (c : Asked) → slice_get (map command_of (take n lines)) k ≡ Some c → (bytes : List ℕ) × ((slice_get lines k ≡ Some bytes) × (c ≡ command_of bytes))
 taken_at lines zero k c h = cc h
 taken_at [] (suc n) k c h = cc h
 taken_at (l ∷ lines) (suc n) zero c h = (l, (refl, sym (some_is (command_of l) c h)))
 taken_at (l ∷ lines) (suc n) (suc k) c h = taken_at lines n k c h
 
-asked_at : (text : Option (List ℕ)) (cs : List Command) (k : ℕ) (c : Command) → IfTold text (λ t. AreFirst t cs) → slice_get cs k ≡ Some c → IsCommandAt text k c
+asked_at : (text : Option (List ℕ)) (cs : List Asked) (k : ℕ) (c : Asked) → IfTold text (λ t. AreFirst t cs) → slice_get cs k ≡ Some c → IsCommandAt text k c
 asked_at None cs k c first at = tt
 asked_at (Some t) cs k c first at = taken_at (lines_of t) (length cs) k c (ap (λ l. slice_get l k) (sym first.lines) ∙ at)
 
@@ -162,7 +160,7 @@ known_outcomes end s known text left c before now is ends = subst (λ (x : Setti
 
 -- ---- the bytes written
 
-some_written : (end : Status) (s : Setting) (text : Option (List ℕ)) (cs : List Command) (c : Cell) (before now : Option (List ℕ)) → IfTold text (λ t. AreFirst t cs) → length cs ≡ c.dealt → Writes end s cs c.journals before now
+some_written : (end : Status) (s : Setting) (text : Option (List ℕ)) (cs : List Asked) (c : Cell) (before now : Option (List ℕ)) → IfTold text (λ t. AreFirst t cs) → length cs ≡ c.dealt → Writes end s cs c.journals before now
     → IfTold text (λ t. Writes end s (commands_of t c.dealt) c.journals before now)
 some_written end s None cs c before now first count wrote = tt
 some_written end s (Some t) cs c before now first count wrote = subst (λ l. Writes end s l c.journals before now) (first.lines ∙ ap (commands_of t) count) wrote
@@ -179,7 +177,7 @@ ends_written end s text left c before now (inr some) = some_written end s text s
 
 -- ---- no session over lines ends with usage
 
-not_usage : (end : Status) (s : Setting) (cs : List Command) (c : Cell) (before now : Option (List ℕ)) → Writes end s cs c.journals before now → end ≡ status.Usage → ⊥
+not_usage : (end : Status) (s : Setting) (cs : List Asked) (c : Cell) (before now : Option (List ℕ)) → Writes end s cs c.journals before now → end ≡ status.Usage → ⊥
 not_usage end s cs c before now wrote is = subst (λ e. Writes e s cs c.journals before now) is wrote
 
 pub ends_usage : (end : Status) (s : Setting) (text left : Option (List ℕ)) (c : Cell) (before now : Option (List ℕ)) → EndsAs end s text left c before now → end ≡ status.Usage → ⊥

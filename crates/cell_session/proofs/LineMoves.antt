@@ -1,29 +1,37 @@
 -- What a line's events change in its lane, and what they leave.
-use Rattle.std.proofs.Common.{◌≡◌, ◌≢◌, ◌==◌, ℕ, ◌+◌, ◌≤◌, Bool, true, false, cond, List, [], ◌∷◌, ◌++◌, Option, None, Some, refl, sym, ap, ◌∙◌, arith, MatchBool}
+use Rattle.std.proofs.Common.{◌≡◌, ◌≢◌, ◌==◌, ℕ, ◌+◌, ◌≤◌, Bool, true, false, cond, List, [], ◌∷◌, ◌++◌, Option, None, Some, Result, Ok, Err, refl, sym, ap, ◌∙◌, subst, arith, MatchBool}
 use Rattle.std.specs.FinMap as fin
 use Rattle.stamps.specs.declared.stamp.Stamp.{Stamp}
-use Rattle.entry_maps.specs.declared.document.Document.{Document}
+use Rattle.documents.specs.Fields.{Contents}
 use Rattle.entry_maps.specs.declared.entry.Entry.{Entry}
 use Rattle.lane_laws.specs.declared.event.LaneEvent.{LaneEvent}
 use Rattle.lane_laws.specs.declared.event.LaneEvent.TheVariants as event
-use Rattle.lane_laws.specs.declared.outcome.Outcome.{Outcome}
-use Rattle.lane_laws.specs.declared.outcome.Outcome.TheVariants as outcome
+use Rattle.messages.specs.declared.outcome.Outcome.{Outcome}
+use Rattle.messages.specs.declared.outcome.Outcome.TheVariants as outcome
 use Rattle.lane_laws.specs.Journals.{Journal, events_of, is_of}
 use Rattle.lane_laws.specs.Legal.{IsLegal}
 use Rattle.lane_laws.specs.Readers.{or_else, only_if, begun_in, wrote_in, closed_in, before_line, stamps_of, entry_at, store_of}
 use Rattle.lane_laws.proofs.Lookups.{or_else-second, line_same, line_other, only_if-true, only_if-false}
 use Rattle.lane_laws.proofs.OrderLaws.{events_of-other, fresh_wrote, fresh_closed}
 use Rattle.lane_laws.proofs.JournalLaws.{entry_at-stays, closed-found}
-use Rattle.feed_lines.specs.declared.command.Command.{Command}
-use Rattle.feed_lines.specs.declared.command.Command.TheVariants as command
+use Rattle.cell_session.specs.declared.asked.Asked.{Asked}
+use Rattle.cell_session.specs.declared.asked.Asked.TheVariants as command
 use Rattle.cell_session.specs.Lanes.{lane_of_id}
 use Rattle.cell_session.specs.LaneState.{IsClosed, drawn, IsUnder}
-use Rattle.cell_session.specs.LineEvents.{next_stamp, write_events, seen_outcome}
-use Rattle.cell_session.specs.Operations.{beginning_of, HasWrite, HasRead, HasEvents}
+use Rattle.doc_updates.specs.declared.fault.UpdateFault.{UpdateFault}
+use Rattle.messages.specs.Meaning.{goes_ahead, effect}
+use Rattle.messages.specs.declared.operation.OpKind.{OpKind}
+use Rattle.messages.specs.declared.operation.OpKind.TheVariants as kind
+use Rattle.messages.specs.declared.operation.Operation.{Operation}
+use Rattle.cell_session.specs.Deeds.{document_in, stamp_in, seen_outcome, deed_by, write_deed, deed_of, IsDrawn, IsFit}
+use Rattle.cell_session.specs.LineEvents.{next_stamp, write_events, draw_events, read_events}
+use Rattle.cell_session.specs.declared.deed.Deed.{Deed}
+use Rattle.cell_session.specs.declared.deed.Deed.TheVariants.{Write, Draw, Show}
+use Rattle.cell_session.specs.Operations.{beginning_of, seen_by, HasWrite, HasDraw, HasRead, HasDeed, HasOperation, HasEvents}
 use Rattle.cell_session.specs.Output.{outcome_answer, closed_answer}
-use Rattle.cell_session.specs.Steps.{after_write, after_read}
+use Rattle.cell_session.specs.Steps.{after_deed, deed_in, after_operation}
 use Rattle.cell_session.specs.declared.setting.Setting.{Setting}
-use Rattle.cell_session.proofs.LaneSteps.{begun_first, legal_write, legal_read, closed_write, closed_read}
+use Rattle.cell_session.proofs.LaneSteps.{begun_first, legal_write, legal_read, legal_draw, closed_write, closed_read, closed_draw}
 
 -- the journal J' is J with the events of line k, of a version
 pub record IsLine (v k : ℕ) (J J' : Journal) : Type 0 where
@@ -75,13 +83,13 @@ line_written s J k e legal closed fresh is =
       under = λ h. one_more s.version k s.distributor e.id e.stamp J h;
     }
 
-pub line_read : (s : Setting) (J : Journal) (k : ℕ) (id : List ℕ) → IsLegal J → IsClosed J → events_of k J ≡ [] → IsLine s.version k J (after_read s k id J)
-line_read s J k id legal closed fresh =
+line_read : (s : Setting) (J : Journal) (k : ℕ) (id : List ℕ) (ending : Outcome) → IsLegal J → IsClosed J → events_of k J ≡ [] → ending ≡ seen_outcome (fin.get (store_of J) id) → IsLine s.version k J (read_events s k id ending ++ J)
+line_read s J k id ending legal closed fresh is =
     let begun = event.Begun k s.distributor s.version id None in
-    let ended = event.Closed k (seen_outcome (fin.get (store_of J) id)) in
+    let ended = event.Closed k ending in
     record {
-      legal = legal_read s J k id legal closed fresh;
-      closed = closed_read s J k id (seen_outcome (fin.get (store_of J) id)) closed;
+      legal = legal_read s J k id ending legal closed fresh is;
+      closed = closed_read s J k id ending closed;
       other_events = λ j h. past_one j ended (begun ∷ J) (turn j k h) ∙ past_one j begun J (turn j k h);
       other_before = λ j h. ap (λ t. cond t J (before_line j J)) (turn j k h);
       own_before = ap (λ t. cond t J (before_line k J)) (line_same k);
@@ -93,9 +101,54 @@ line_read s J k id legal closed fresh =
       under = λ h. h;
     }
 
+line_drawn : (s : Setting) (J : Journal) (k : ℕ) (id : List ℕ) (ending : Outcome) → IsLegal J → IsClosed J → events_of k J ≡ [] → IsDrawn ending → IsLine s.version k J (draw_events s k id (next_stamp s.version J) ending ++ J)
+line_drawn s J k id ending legal closed fresh drawn =
+    let stamp = next_stamp s.version J in
+    let begun = event.Begun k s.distributor s.version id (Some stamp) in
+    let ended = event.Closed k ending in
+    record {
+      legal = legal_draw s J k id stamp ending legal closed fresh refl drawn;
+      closed = closed_draw s J k id stamp ending closed;
+      other_events = λ j h. past_one j ended (begun ∷ J) (turn j k h) ∙ past_one j begun J (turn j k h);
+      other_before = λ j h. ap (λ t. cond t J (before_line j J)) (turn j k h);
+      own_before = ap (λ t. cond t J (before_line k J)) (line_same k);
+      other_begun = λ j h. other_lookup (begun_in j J) (k == j) _ (turn j k h);
+      other_wrote = λ j h. refl;
+      other_closed = λ j h. other_lookup (closed_in j J) (k == j) _ (turn j k h);
+      entries = λ t x h. h;
+      few = omega arith;
+      under = λ h. one_more s.version k s.distributor id stamp J h;
+    }
+
+-- the events of a deed that the line may do
+line_deed : (s : Setting) (J : Journal) (k : ℕ) (id : List ℕ) (deed : Deed) → IsLegal J → IsClosed J → events_of k J ≡ [] → IsFit (fin.get (store_of J) id) deed → IsLine s.version k J (after_deed s k id deed J)
+line_deed s J k id (Write body) legal closed fresh fit = line_written s J k (record { stamp = next_stamp s.version J; id = id; body = body }) legal closed fresh refl
+line_deed s J k id (Draw ending) legal closed fresh fit = line_drawn s J k id ending legal closed fresh fit
+line_deed s J k id (Show ending) legal closed fresh fit = line_read s J k id ending legal closed fresh fit
+
+fit_by : (seen : Option Entry) (r : Result (Option Contents) UpdateFault) → IsFit seen (deed_by r)
+fit_by seen (Ok body) = tt
+fit_by seen (Err fault) = tt
+
+fit_write : (id : List ℕ) (k : OpKind) (seen : Option Entry) → IsFit seen (write_deed id k seen)
+fit_write id k seen = elim (goes_ahead k (document_in seen)) as (λ b. IsFit seen (cond b (deed_by (effect id k (document_in seen))) (Draw (outcome.Nothing (stamp_in seen))))) [
+  | true ↦ fit_by seen (effect id k (document_in seen))
+  | false ↦ tt
+]
+
+-- what an operation does, it may do
+pub deed_fits : (id : List ℕ) (k : OpKind) (seen : Option Entry) → IsFit seen (deed_of id k seen)
+deed_fits id (kind.Put d) seen = fit_write id (kind.Put d) seen
+deed_fits id (kind.Update u) seen = fit_write id (kind.Update u) seen
+deed_fits id kind.Remove seen = fit_write id kind.Remove seen
+deed_fits id kind.Get seen = refl
+
+pub line_operation : (s : Setting) (J : Journal) (k : ℕ) (op : Operation) → IsLegal J → IsClosed J → events_of k J ≡ [] → IsLine s.version k J (after_operation s k op J)
+line_operation s J k op legal closed fresh = line_deed s J k op.id (deed_in op J) legal closed fresh (deed_fits op.id op.kind (fin.get (store_of J) op.id))
+
 -- ---- what the line began, wrote and closed
 
-abbrev entry_with : Stamp → List ℕ → Option Document → Entry
+abbrev entry_with : Stamp → List ℕ → Option Contents → Entry
 entry_with stamp id body = record { stamp = stamp; id = id; body = body }
 
 pub own_closed : (J : Journal) (k : ℕ) (ending : Outcome) → events_of k J ≡ [] → or_else (closed_in k J) (only_if (k == k) ending) ≡ Some ending
@@ -104,22 +157,41 @@ own_closed J k ending fresh = or_else-second (closed_in k J) _ (fresh_closed J k
 own_wrote : (J : Journal) (k : ℕ) (e : Entry) → events_of k J ≡ [] → or_else (wrote_in k J) (only_if (k == k) e) ≡ Some e
 own_wrote J k e fresh = or_else-second (wrote_in k J) _ (fresh_wrote J k fresh) ∙ only_if-true (k == k) e (line_same k)
 
-pub has_write : (s : Setting) (J J' : Journal) (k : ℕ) (id : List ℕ) (body : Option Document) → J' ≡ after_write s k id body J → IsLine s.version k J J' → events_of k J ≡ [] → HasWrite s k id body J'
-has_write s J J' k id body is line fresh =
+has_write : (s : Setting) (J J' : Journal) (k : ℕ) (id : List ℕ) (body : Option Contents) → J' ≡ after_deed s k id (Write body) J → before_line k J' ≡ J → events_of k J ≡ [] → HasWrite s k id body J'
+has_write s J J' k id body is own fresh =
     let stamp = next_stamp s.version J in
-    let before : stamp ≡ next_stamp s.version (before_line k J') = ap (next_stamp s.version) (sym line.own_before) in
+    let before : stamp ≡ next_stamp s.version (before_line k J') = ap (next_stamp s.version) (sym own) in
     record {
       begun = ap (begun_in k) is ∙ begun_first J k s.distributor s.version id (Some stamp) fresh ∙ ap (λ t. Some (beginning_of s id (Some t))) before;
       wrote = ap (wrote_in k) is ∙ own_wrote J k (entry_with stamp id body) fresh ∙ ap (λ t. Some (entry_with t id body)) before;
       closed = ap (closed_in k) is ∙ own_closed J k (outcome.Acked stamp) fresh ∙ ap (λ t. Some (outcome.Acked t)) before;
     }
 
-pub has_read : (s : Setting) (J J' : Journal) (k : ℕ) (id : List ℕ) → J' ≡ after_read s k id J → IsLine s.version k J J' → events_of k J ≡ [] → HasRead s k id J'
-has_read s J J' k id is line fresh = record {
+has_read : (s : Setting) (J J' : Journal) (k : ℕ) (id : List ℕ) (ending : Outcome) → J' ≡ read_events s k id ending ++ J → events_of k J ≡ [] → HasRead s k id ending J'
+has_read s J J' k id ending is fresh = record {
   begun = ap (begun_in k) is ∙ begun_first J k s.distributor s.version id None fresh;
   wrote = ap (wrote_in k) is ∙ fresh_wrote J k fresh;
-  closed = ap (closed_in k) is ∙ own_closed J k (seen_outcome (fin.get (store_of J) id)) fresh ∙ ap (λ b. Some (seen_outcome (fin.get (store_of b) id))) (sym line.own_before);
+  closed = ap (closed_in k) is ∙ own_closed J k ending fresh;
 }
+
+has_draw : (s : Setting) (J J' : Journal) (k : ℕ) (id : List ℕ) (ending : Outcome) → J' ≡ draw_events s k id (next_stamp s.version J) ending ++ J → before_line k J' ≡ J → events_of k J ≡ [] → HasDraw s k id ending J'
+has_draw s J J' k id ending is own fresh =
+    let stamp = next_stamp s.version J in
+    let before : stamp ≡ next_stamp s.version (before_line k J') = ap (next_stamp s.version) (sym own) in
+    record {
+      begun = ap (begun_in k) is ∙ begun_first J k s.distributor s.version id (Some stamp) fresh ∙ ap (λ t. Some (beginning_of s id (Some t))) before;
+      wrote = ap (wrote_in k) is ∙ fresh_wrote J k fresh;
+      closed = ap (closed_in k) is ∙ own_closed J k ending fresh;
+    }
+
+has_deed : (s : Setting) (J J' : Journal) (k : ℕ) (id : List ℕ) (deed : Deed) → J' ≡ after_deed s k id deed J → before_line k J' ≡ J → events_of k J ≡ [] → HasDeed s k id deed J'
+has_deed s J J' k id (Write body) is own fresh = has_write s J J' k id body is own fresh
+has_deed s J J' k id (Draw ending) is own fresh = has_draw s J J' k id ending is own fresh
+has_deed s J J' k id (Show ending) is own fresh = has_read s J J' k id ending is fresh
+
+pub has_operation : (s : Setting) (J J' : Journal) (k : ℕ) (op : Operation) → J' ≡ after_operation s k op J → IsLine s.version k J J' → events_of k J ≡ [] → HasOperation s k op J'
+has_operation s J J' k op is line fresh =
+    subst (λ j. HasDeed s k op.id (deed_of op.id op.kind (fin.get (store_of j) op.id)) J') (sym line.own_before) (has_deed s J J' k op.id (deed_in op J) is line.own_before fresh)
 
 -- ---- what an earlier line has, it keeps
 
@@ -131,37 +203,53 @@ pub record IsSame (j : ℕ) (J J' : Journal) : Type 0 where
   pub wrote : wrote_in j J' ≡ wrote_in j J
   pub closed : closed_in j J' ≡ closed_in j J
 
-write_stays : (s : Setting) (J J' : Journal) (j : ℕ) (id : List ℕ) (body : Option Document) → IsSame j J J' → HasWrite s j id body J → HasWrite s j id body J'
+write_stays : (s : Setting) (J J' : Journal) (j : ℕ) (id : List ℕ) (body : Option Contents) → IsSame j J J' → HasWrite s j id body J → HasWrite s j id body J'
 write_stays s J J' j id body same h = record {
   begun = same.begun ∙ h.begun ∙ ap (λ b. Some (beginning_of s id (Some (next_stamp s.version b)))) (sym same.before);
   wrote = same.wrote ∙ h.wrote ∙ ap (λ b. Some (entry_with (next_stamp s.version b) id body)) (sym same.before);
   closed = same.closed ∙ h.closed ∙ ap (λ b. Some (outcome.Acked (next_stamp s.version b))) (sym same.before);
 }
 
-read_stays : (s : Setting) (J J' : Journal) (j : ℕ) (id : List ℕ) → IsSame j J J' → HasRead s j id J → HasRead s j id J'
-read_stays s J J' j id same h = record {
+draw_stays : (s : Setting) (J J' : Journal) (j : ℕ) (id : List ℕ) (ending : Outcome) → IsSame j J J' → HasDraw s j id ending J → HasDraw s j id ending J'
+draw_stays s J J' j id ending same h = record {
+  begun = same.begun ∙ h.begun ∙ ap (λ b. Some (beginning_of s id (Some (next_stamp s.version b)))) (sym same.before);
+  wrote = same.wrote ∙ h.wrote;
+  closed = same.closed ∙ h.closed;
+}
+
+read_stays : (s : Setting) (J J' : Journal) (j : ℕ) (id : List ℕ) (ending : Outcome) → IsSame j J J' → HasRead s j id ending J → HasRead s j id ending J'
+read_stays s J J' j id ending same h = record {
   begun = same.begun ∙ h.begun;
   wrote = same.wrote ∙ h.wrote;
-  closed = same.closed ∙ h.closed ∙ ap (λ b. Some (seen_outcome (fin.get (store_of b) id))) (sym same.before);
+  closed = same.closed ∙ h.closed;
 }
+
+deed_stays : (s : Setting) (J J' : Journal) (j : ℕ) (id : List ℕ) (deed : Deed) → IsSame j J J' → HasDeed s j id deed J → HasDeed s j id deed J'
+deed_stays s J J' j id (Write body) same h = write_stays s J J' j id body same h
+deed_stays s J J' j id (Draw ending) same h = draw_stays s J J' j id ending same h
+deed_stays s J J' j id (Show ending) same h = read_stays s J J' j id ending same h
+
+operation_stays : (s : Setting) (J J' : Journal) (j : ℕ) (op : Operation) → IsSame j J J' → HasOperation s j op J → HasOperation s j op J'
+operation_stays s J J' j op same h =
+    subst (λ b. HasDeed s j op.id (deed_of op.id op.kind (fin.get (store_of b) op.id)) J') (sym same.before) (deed_stays s J J' j op.id (deed_of op.id op.kind (seen_by j op.id J)) same h)
 
 only_stays : (J J' : Journal) (t : Bool) (j : ℕ) (P Q : Type 0) → (P → Q) → events_of j J' ≡ events_of j J → MatchBool t P (events_of j J ≡ []) → MatchBool t Q (events_of j J' ≡ [])
 only_stays J J' true j P Q f es h = f h
 only_stays J J' false j P Q f es h = es ∙ h
 
-pub events_stay : (s : Setting) (J J' : Journal) (lane j : ℕ) (c : Command) → IsSame j J J' → HasEvents s lane j c J → HasEvents s lane j c J'
+pub events_stay : (s : Setting) (J J' : Journal) (lane j : ℕ) (c : Asked) → IsSame j J J' → HasEvents s lane j c J → HasEvents s lane j c J'
 events_stay s J J' lane j command.Blank same h = same.events ∙ h
 events_stay s J J' lane j command.TooLong same h = same.events ∙ h
-events_stay s J J' lane j command.Unbuilt same h = same.events ∙ h
-events_stay s J J' lane j (command.Put id document) same h = only_stays J J' (lane_of_id s.bits id == lane) j _ _ (write_stays s J J' j id (Some document) same) same.events h
-events_stay s J J' lane j (command.Remove id) same h = only_stays J J' (lane_of_id s.bits id == lane) j _ _ (write_stays s J J' j id None same) same.events h
-events_stay s J J' lane j (command.Get id) same h = only_stays J J' (lane_of_id s.bits id == lane) j _ _ (read_stays s J J' j id same) same.events h
+events_stay s J J' lane j (command.Bad why) same h = same.events ∙ h
+events_stay s J J' lane j (command.Feed op) same h = only_stays J J' (lane_of_id s.bits op.id == lane) j _ _ (operation_stays s J J' j op same) same.events h
 
 -- an earlier line's answer stays
 closed_same : (J J' : Journal) (j v k : ℕ) (o : Option Outcome) → IsLegal J → IsLine v k J J' → closed_in j J ≡ o → closed_answer o J' ≡ closed_answer o J
 closed_same J J' j v k None legal line is = refl
 closed_same J J' j v k (Some (outcome.Acked t)) legal line is = refl
 closed_same J J' j v k (Some (outcome.Missing seen)) legal line is = refl
+closed_same J J' j v k (Some (outcome.Nothing seen)) legal line is = refl
+closed_same J J' j v k (Some (outcome.BadUpdate fault)) legal line is = refl
 closed_same J J' j v k (Some (outcome.Found t)) legal line is =
     let was = closed-found J j t legal is in
     ap (λ o. outcome_answer (outcome.Found t) o) (line.entries t was.0 was.1 ∙ sym was.1)

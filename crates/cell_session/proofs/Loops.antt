@@ -12,8 +12,8 @@ use Rattle.io_ends.specs.declared.next.LimitKind.{LimitKind}
 use Rattle.io_ends.specs.declared.next.LimitKind.TheVariants as limit
 use Rattle.io_ends.proofs.FeedPlaces.{NoLineFeed-append}
 use Rattle.io_ends.proofs.ReaderStarts.{start_at}
-use Rattle.feed_lines.specs.Lines.{command_of}
-use Rattle.feed_lines.specs.declared.command.Command.{Command}
+use Rattle.cell_session.specs.Asking.{command_of}
+use Rattle.cell_session.specs.declared.asked.Asked.{Asked}
 use Rattle.cell_session.specs.Answering.{IsAllOrNothing, StopsAs}
 use Rattle.cell_session.specs.Cells.{Cell}
 use Rattle.cell_session.specs.Dealing.{AreFirst, EndsAs}
@@ -36,7 +36,7 @@ use Rattle.cell_session.proofs.SessionSteps.{kept_none, kept_command, command_mo
 -- ---- the commands of the first lines of a text
 
 -- one line more
-first_more : (text : List ℕ) (cs : List Command) (bytes : List ℕ) → AreFirst text cs → slice_get (lines_of text) (length cs) ≡ Some bytes → length cs < MOST_LINES → end_of (length cs + 1) text ≤ MOST_BYTES
+first_more : (text : List ℕ) (cs : List Asked) (bytes : List ℕ) → AreFirst text cs → slice_get (lines_of text) (length cs) ≡ Some bytes → length cs < MOST_LINES → end_of (length cs + 1) text ≤ MOST_BYTES
     → AreFirst text (cs ++ command_of bytes ∷ [])
 first_more text cs bytes first at few within =
     let n = length cs in
@@ -52,7 +52,7 @@ first_more text cs bytes first at few within =
       };
     }
 
-told_more : (text : Option (List ℕ)) (reader reader' : Reading) (left left' : Option (List ℕ)) (cs : List Command) (number : ℕ) (c : Command)
+told_more : (text : Option (List ℕ)) (reader reader' : Reading) (left left' : Option (List ℕ)) (cs : List Asked) (number : ℕ) (c : Asked)
     → IfTold text (IsBehind reader left cs) → length cs ≡ reader.lines → reader.max_lines ≡ MOST_LINES → reader.max_bytes ≡ MOST_BYTES
     → ((t : List ℕ) → StandsIn t reader left → Shows t reader (step.Command number c))
     → ((t : List ℕ) → StandsIn t reader left → StandsIn t reader' left')
@@ -66,7 +66,7 @@ told_more (Some text) reader reader' left left' cs number c told count lines byt
     (omega (arith, within.lines, count, lines)) (subst (λ k. end_of (k + 1) text ≤ MOST_BYTES) (sym count) (omega (arith, within.bytes, bytes))) in
     (subst (λ x. AreFirst text (cs ++ x ∷ [])) (sym shown.0.1.1) first, stands text told.1)
 
-first_of : (text : Option (List ℕ)) (cs : List Command) (reader : Reading) (left : Option (List ℕ)) → IfTold text (IsBehind reader left cs) → IfTold text (λ t. AreFirst t cs)
+first_of : (text : Option (List ℕ)) (cs : List Asked) (reader : Reading) (left : Option (List ℕ)) → IfTold text (IsBehind reader left cs) → IfTold text (λ t. AreFirst t cs)
 first_of None cs reader left told = tt
 first_of (Some text) cs reader left told = told.0
 
@@ -104,7 +104,7 @@ pub so_far_ready : (s : Setting) (text left : Option (List ℕ)) (reader : Readi
 so_far_ready s text left reader c before now number so is few = ready_next s so.commands c number so.setting so.bits so.kept (omega (arith, is, so.count)) (omega (arith, so.count, few))
 
 -- what one line more keeps, whatever was written
-record IsMore (s : Setting) (text left' : Option (List ℕ)) (reader reader' : Reading) (cs : List Command) (old new : Cell) (number : ℕ) (c : Command) : Type 0 where
+record IsMore (s : Setting) (text left' : Option (List ℕ)) (reader reader' : Reading) (cs : List Asked) (old new : Cell) (number : ℕ) (c : Asked) : Type 0 where
   count : length (cs ++ c ∷ []) ≡ number
   dealt : new.dealt ≡ number
   bits : new.bits ≡ old.bits
@@ -114,7 +114,7 @@ record IsMore (s : Setting) (text left' : Option (List ℕ)) (reader reader' : R
   earlier : output_of s cs new.journals ≡ output_of s cs old.journals
   output : output_of s (cs ++ c ∷ []) new.journals ≡ output_of s cs old.journals ++ report_in s number c new.journals
 
-one_more : (s : Setting) (text left left' : Option (List ℕ)) (reader reader' : Reading) (old new : Cell) (before now : Option (List ℕ)) (number : ℕ) (c : Command)
+one_more : (s : Setting) (text left left' : Option (List ℕ)) (reader reader' : Reading) (old new : Cell) (before now : Option (List ℕ)) (number : ℕ) (c : Asked)
     → (so : IsSoFar s text reader left old before now) → reader.max_lines ≡ MOST_LINES → reader.max_bytes ≡ MOST_BYTES
     → ((t : List ℕ) → StandsIn t reader left → Shows t reader (step.Command number c))
     → ((t : List ℕ) → StandsIn t reader left → StandsIn t reader' left')
@@ -137,7 +137,7 @@ one_more s text left left' reader reader' old new before now number c so lines b
           ∙ ap (λ x. output_of s cs old.journals ++ report_in s number c x) (sym journals);
     }
 
-pub so_far_more : (s : Setting) (text left left' : Option (List ℕ)) (reader reader' : Reading) (old new : Cell) (before now now' : Option (List ℕ)) (number : ℕ) (c : Command)
+pub so_far_more : (s : Setting) (text left left' : Option (List ℕ)) (reader reader' : Reading) (old new : Cell) (before now now' : Option (List ℕ)) (number : ℕ) (c : Asked)
     → IsSoFar s text reader left old before now → reader.max_lines ≡ MOST_LINES → reader.max_bytes ≡ MOST_BYTES
     → ((t : List ℕ) → StandsIn t reader left → Shows t reader (step.Command number c))
     → ((t : List ℕ) → StandsIn t reader left → StandsIn t reader' left')
@@ -176,7 +176,7 @@ passes limit.Lines text reader count is lines bytes past = (omega (arith, is, pa
 passes limit.Bytes text reader count is lines bytes past =
     (omega (arith, is, past.0), (omega (arith, is, past.1.0, lines), subst (λ k. MOST_BYTES < end_of (k + 1) text) (sym is) (omega (arith, past.1.1, bytes))))
 
-stops_of : (end : Status) (text left left' : Option (List ℕ)) (reader reader' : Reading) (cs : List Command)
+stops_of : (end : Status) (text left left' : Option (List ℕ)) (reader reader' : Reading) (cs : List Asked)
     → IfTold text (IsBehind reader left cs) → length cs ≡ reader.lines → reader.max_lines ≡ MOST_LINES → reader.max_bytes ≡ MOST_BYTES
     → ((t : List ℕ) → StandsIn t reader left → Finishes t reader end)
     → ((t : List ℕ) → StandsIn t reader left → StandsIn t reader' left')
@@ -207,7 +207,7 @@ over_with end s text left left' reader reader' c before now so lines bytes finis
   output = wrote;
 })
 
-written_by : (end : Status) (s : Setting) (cs : List Command) (c : Cell) (before now : Option (List ℕ)) (last : Option ℕ) (a b : ℕ) → IsReadEnd end last a b → Appends before now (output_of s cs c.journals)
+written_by : (end : Status) (s : Setting) (cs : List Asked) (c : Cell) (before now : Option (List ℕ)) (last : Option ℕ) (a b : ℕ) → IsReadEnd end last a b → Appends before now (output_of s cs c.journals)
     → Writes end s cs c.journals before now
 written_by status.Done s cs c before now last a b may wrote = wrote
 written_by status.ReadFault s cs c before now last a b may wrote = wrote
@@ -235,7 +235,7 @@ no_claim None left count = tt
 no_claim (Some text) left count = tt
 
 -- where the sink failed
-pub fault_ends : (why : Stop) (s : Setting) (text left left' : Option (List ℕ)) (reader reader' : Reading) (old new : Cell) (before now now' : Option (List ℕ)) (number : ℕ) (c : Command)
+pub fault_ends : (why : Stop) (s : Setting) (text left left' : Option (List ℕ)) (reader reader' : Reading) (old new : Cell) (before now now' : Option (List ℕ)) (number : ℕ) (c : Asked)
     → IsSoFar s text reader left old before now → reader.max_lines ≡ MOST_LINES → reader.max_bytes ≡ MOST_BYTES
     → ((t : List ℕ) → StandsIn t reader left → Shows t reader (step.Command number c))
     → ((t : List ℕ) → StandsIn t reader left → StandsIn t reader' left')
@@ -276,7 +276,7 @@ pub appends_nothing : (a b : Option (List ℕ)) → Keeps a b → Appends a b []
 appends_nothing a b kept = appends_kept a a b [] (Appends-nil a) kept
 
 -- where memory wanted before a line's report was written
-pub memory_ends : (why : Stop) (s : Setting) (text left left' : Option (List ℕ)) (reader reader' : Reading) (old new : Cell) (before now now' : Option (List ℕ)) (number : ℕ) (c : Command)
+pub memory_ends : (why : Stop) (s : Setting) (text left left' : Option (List ℕ)) (reader reader' : Reading) (old new : Cell) (before now now' : Option (List ℕ)) (number : ℕ) (c : Asked)
     → IsSoFar s text reader left old before now → reader.max_lines ≡ MOST_LINES → reader.max_bytes ≡ MOST_BYTES
     → ((t : List ℕ) → StandsIn t reader left → Shows t reader (step.Command number c))
     → ((t : List ℕ) → StandsIn t reader left → StandsIn t reader' left')

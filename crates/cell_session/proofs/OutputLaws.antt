@@ -3,8 +3,8 @@ use Rattle.std.proofs.Common.{◌≡◌, ◌≢◌, ◌⊎◌, ℕ, suc, ◌+◌
 use Rattle.lane_laws.specs.Journals.{Journal}
 use Rattle.lane_laws.specs.Legal.{IsLegal}
 use Rattle.lane_laws.specs.Readers.{closed_in}
-use Rattle.feed_lines.specs.declared.command.Command.{Command}
-use Rattle.feed_lines.specs.declared.command.Command.TheVariants as command
+use Rattle.cell_session.specs.declared.asked.Asked.{Asked}
+use Rattle.cell_session.specs.declared.asked.Asked.TheVariants as command
 use Rattle.cell_session.specs.Lanes.{lane_of_id, journal_in}
 use Rattle.cell_session.specs.Output.{closed_answer, operation_answer, bytes_of, report_in, output_from, output_of}
 use Rattle.cell_session.specs.Settings.{lane_count}
@@ -24,33 +24,31 @@ moved_answer v j k J J' (inr same) legal h = ap (λ x. closed_answer (closed_in 
 operation_stays : (s : Setting) (j k : ℕ) (id : List ℕ) (Js Js' : List Journal) → Moves s k Js Js' → AllLegal s Js → j ≢ k → operation_answer s j id Js' ≡ operation_answer s j id Js
 operation_stays s j k id Js Js' moves legal h = moved_answer s.version j k _ _ (moves (lane_of_id s.bits id) (lane_small s.bits id)) (legal (lane_of_id s.bits id) (lane_small s.bits id)) h
 
-report_stays : (s : Setting) (j k : ℕ) (c : Command) (Js Js' : List Journal) → Moves s k Js Js' → AllLegal s Js → j ≢ k → report_in s j c Js' ≡ report_in s j c Js
+report_stays : (s : Setting) (j k : ℕ) (c : Asked) (Js Js' : List Journal) → Moves s k Js Js' → AllLegal s Js → j ≢ k → report_in s j c Js' ≡ report_in s j c Js
 report_stays s j k command.Blank Js Js' moves legal h = refl
 report_stays s j k command.TooLong Js Js' moves legal h = refl
-report_stays s j k command.Unbuilt Js Js' moves legal h = refl
-report_stays s j k (command.Put id document) Js Js' moves legal h = ap (bytes_of j) (operation_stays s j k id Js Js' moves legal h)
-report_stays s j k (command.Remove id) Js Js' moves legal h = ap (bytes_of j) (operation_stays s j k id Js Js' moves legal h)
-report_stays s j k (command.Get id) Js Js' moves legal h = ap (bytes_of j) (operation_stays s j k id Js Js' moves legal h)
+report_stays s j k (command.Bad why) Js Js' moves legal h = refl
+report_stays s j k (command.Feed op) Js Js' moves legal h = ap (bytes_of j) (operation_stays s j k op.id Js Js' moves legal h)
 
 below_apart : (start n k : ℕ) → start + suc n ≤ k → start ≢ k
 below_apart start n k h e = omega arith
 
-output_stays : (s : Setting) (start k : ℕ) (cs : List Command) (Js Js' : List Journal) → Moves s k Js Js' → AllLegal s Js → start + length cs ≤ k → output_from s start cs Js' ≡ output_from s start cs Js
+output_stays : (s : Setting) (start k : ℕ) (cs : List Asked) (Js Js' : List Journal) → Moves s k Js Js' → AllLegal s Js → start + length cs ≤ k → output_from s start cs Js' ≡ output_from s start cs Js
 output_stays s start k [] Js Js' moves legal h = refl
 output_stays s start k (c ∷ cs) Js Js' moves legal h =
     ap₂ (λ a b. a ++ b) (report_stays s start k c Js Js' moves legal (below_apart start (length cs) k h)) (output_stays s (suc start) k cs Js Js' moves legal (omega arith))
 
-output-push : (s : Setting) (start : ℕ) (cs : List Command) (c : Command) (Js : List Journal) → output_from s start (cs ++ c ∷ []) Js ≡ output_from s start cs Js ++ report_in s (start + length cs) c Js
+output-push : (s : Setting) (start : ℕ) (cs : List Asked) (c : Asked) (Js : List Journal) → output_from s start (cs ++ c ∷ []) Js ≡ output_from s start cs Js ++ report_in s (start + length cs) c Js
 output-push s start [] c Js = append-nil (report_in s start c Js) ∙ ap (λ n. report_in s n c Js) (omega arith)
 output-push s start (x ∷ cs) c Js =
     ap (λ l. report_in s start x Js ++ l) (output-push s (suc start) cs c Js ∙ ap (λ n. output_from s (suc start) cs Js ++ report_in s n c Js) (omega arith))
     ∙ sym (append_assoc (report_in s start x Js) (output_from s (suc start) cs Js) (report_in s (start + suc (length cs)) c Js))
 
 -- the output of the earlier lines stays
-pub output_kept : (s : Setting) (cs : List Command) (Js Js' : List Journal) (k : ℕ) → IsKept s cs Js → k ≡ length cs + 1 → Moves s k Js Js' → output_of s cs Js' ≡ output_of s cs Js
+pub output_kept : (s : Setting) (cs : List Asked) (Js Js' : List Journal) (k : ℕ) → IsKept s cs Js → k ≡ length cs + 1 → Moves s k Js Js' → output_of s cs Js' ≡ output_of s cs Js
 output_kept s cs Js Js' k kept is moves = output_stays s 1 k cs Js Js' moves kept.dealt.legal (omega arith)
 
-pub output_more : (s : Setting) (cs : List Command) (c : Command) (Js Js' : List Journal) (k : ℕ) → IsKept s cs Js → k ≡ length cs + 1 → Moves s k Js Js'
+pub output_more : (s : Setting) (cs : List Asked) (c : Asked) (Js Js' : List Journal) (k : ℕ) → IsKept s cs Js → k ≡ length cs + 1 → Moves s k Js Js'
     → output_of s (cs ++ c ∷ []) Js' ≡ output_of s cs Js ++ report_in s k c Js'
 output_more s cs c Js Js' k kept is moves =
     output-push s 1 cs c Js' ∙ ap₂ (λ a n. a ++ report_in s n c Js') (output_kept s cs Js Js' k kept is moves) (omega arith)

@@ -3,25 +3,25 @@ use Rattle.std.proofs.Common.{◌≡◌, ◌≢◌, ◌==◌, ◌⊎◌, ℕ, ze
 use Rattle.std.proofs.lemmas.Bool.{cases_eq, false≢true}
 use Rattle.std.proofs.lemmas.List.{length-replicate}
 use Rattle.std.proofs.lemmas.Nat.{mod_below, pow_pos}
-use Rattle.entry_maps.specs.declared.document.Document.{Document}
 use Rattle.global_ids.specs.Keys.{key_of}
 use Rattle.lane_laws.specs.Journals.{Journal, events_of}
 use Rattle.lane_laws.specs.Legal.{IsLegal}
 use Rattle.lane_laws.specs.Readers.{begun_in, wrote_in, closed_in, before_line}
 use Rattle.lane_laws.proofs.Lookups.{line_other, some_of}
 use Rattle.lane_laws.proofs.OrderLaws.{fresh_begun}
-use Rattle.feed_lines.specs.declared.command.Command.{Command}
-use Rattle.feed_lines.specs.declared.command.Command.TheVariants as command
+use Rattle.cell_session.specs.declared.asked.Asked.{Asked}
+use Rattle.cell_session.specs.declared.asked.Asked.TheVariants as command
 use Rattle.cell_session.specs.Cells.{Cell}
 use Rattle.cell_session.specs.Lanes.{lane_of_id, journal_in}
 use Rattle.cell_session.specs.LaneState.{IsClosed, drawn, IsUnder}
 use Rattle.cell_session.specs.LineEvents.{next_stamp}
-use Rattle.cell_session.specs.Operations.{HasWrite, HasRead, HasEvents}
+use Rattle.messages.specs.declared.operation.Operation.{Operation}
+use Rattle.cell_session.specs.Operations.{HasOperation, HasEvents}
 use Rattle.cell_session.specs.Settings.{lane_count, IsSetting}
 use Rattle.cell_session.specs.SoFar.{IsKept}
-use Rattle.cell_session.specs.Steps.{IsReady, after_write, after_read, with_write, with_read, with_command}
+use Rattle.cell_session.specs.Steps.{IsReady, after_operation, with_operation, with_command}
 use Rattle.cell_session.specs.declared.setting.Setting.{Setting}
-use Rattle.cell_session.proofs.LineMoves.{IsLine, IsSame, line_written, line_read, has_write, has_read, events_stay}
+use Rattle.cell_session.proofs.LineMoves.{IsLine, IsSame, line_operation, has_operation, events_stay}
 
 pub lane_small : (bits : ℕ) (id : List ℕ) → lane_of_id bits id < 2 ^ bits
 unfolding lane_of_id
@@ -82,7 +82,7 @@ own_order v k J J' (inl line) fresh closed some j h began =
     subst (λ x. IsSome (closed_in j x)) (sym line.own_before) (closed j was.0 was.1)
 own_order v k J J' (inr same) fresh closed some j h began = absurd (false≢true (subst IsSome (ap (begun_in k) same ∙ fresh_begun J k fresh) some))
 
-lane_order : (s : Setting) (cs : List Command) (Js Js' : List Journal) (k lane : ℕ) → IsKept s cs Js → k ≡ length cs + 1 → lane < lane_count s
+lane_order : (s : Setting) (cs : List Asked) (Js Js' : List Journal) (k lane : ℕ) → IsKept s cs Js → k ≡ length cs + 1 → lane < lane_count s
     → IsLine s.version k (journal_in lane Js) (journal_in lane Js') ⊎ (journal_in lane Js' ≡ journal_in lane Js)
     → (earlier line : ℕ) → earlier < line → IsSome (begun_in earlier (journal_in lane Js')) → IsSome (begun_in line (journal_in lane Js'))
     → IsSome (closed_in earlier (before_line line (journal_in lane Js')))
@@ -107,7 +107,7 @@ lane_order s cs Js Js' k lane kept is h m earlier line before first second = eli
         let none = fresh_begun (journal_in lane Js) line (kept.dealt.no_others line lane h (inr (omega arith))) in
         false≢true (subst IsSome none began)
 
-pub kept_step : (s : Setting) (cs : List Command) (c : Command) (Js Js' : List Journal) (k : ℕ) → IsKept s cs Js → k ≡ length cs + 1 → length Js' ≡ lane_count s → Moves s k Js Js'
+pub kept_step : (s : Setting) (cs : List Asked) (c : Asked) (Js Js' : List Journal) (k : ℕ) → IsKept s cs Js → k ≡ length cs + 1 → length Js' ≡ lane_count s → Moves s k Js Js'
     → ((lane : ℕ) → lane < lane_count s → HasEvents s lane k c (journal_in lane Js')) → IsKept s (cs ++ c ∷ []) Js'
 kept_step s cs c Js Js' k kept is lanes moves own = record {
   dealt = record {
@@ -119,7 +119,7 @@ kept_step s cs c Js Js' k kept is lanes moves own = record {
           events_stay s _ _ lane (j + 1) x (moved_same s.version k _ _ (moves lane h) (j + 1) apart) (kept.dealt.events j lane x old.1 h)
       | inr new ↦
           let same : k ≡ j + 1 = omega (arith, new.0) in
-          subst (λ (y : Command). HasEvents s lane (j + 1) y (journal_in lane Js')) new.1 (subst (λ n. HasEvents s lane n c (journal_in lane Js')) same (own lane h))
+          subst (λ (y : Asked). HasEvents s lane (j + 1) y (journal_in lane Js')) new.1 (subst (λ n. HasEvents s lane n c (journal_in lane Js')) same (own lane h))
     ];
     no_others = λ line lane h far.
         let apart : line ≢ k = λ e. far_apart cs c line k is e far in
@@ -131,11 +131,11 @@ kept_step s cs c Js Js' k kept is lanes moves own = record {
   under = λ lane h. moved_under s.version k _ _ (moves lane h) (kept.under lane h);
 }
   where
-    far_apart : (cs : List Command) (c : Command) (line k : ℕ) → k ≡ length cs + 1 → line ≡ k → (line ≡ 0) ⊎ (length (cs ++ c ∷ []) < line) → ⊥
+    far_apart : (cs : List Asked) (c : Asked) (line k : ℕ) → k ≡ length cs + 1 → line ≡ k → (line ≡ 0) ⊎ (length (cs ++ c ∷ []) < line) → ⊥
     far_apart cs c line k is e (inl none) = omega arith
     far_apart cs c line k is e (inr far) = omega (arith, length-append cs (c ∷ []))
 
-    nearer : (cs : List Command) (c : Command) (line : ℕ) → (line ≡ 0) ⊎ (length (cs ++ c ∷ []) < line) → (line ≡ 0) ⊎ (length cs < line)
+    nearer : (cs : List Asked) (c : Asked) (line : ℕ) → (line ≡ 0) ⊎ (length (cs ++ c ∷ []) < line) → (line ≡ 0) ⊎ (length cs < line)
     nearer cs c line (inl none) = inl none
     nearer cs c line (inr far) = inr (omega (arith, length-append cs (c ∷ [])))
 
@@ -144,7 +144,7 @@ kept_step s cs c Js Js' k kept is lanes moves own = record {
 no_move : (s : Setting) (k : ℕ) (Js : List Journal) → Moves s k Js Js
 no_move s k Js lane h = inr refl
 
-fresh_in : (s : Setting) (cs : List Command) (Js : List Journal) (k lane : ℕ) → IsKept s cs Js → k ≡ length cs + 1 → lane < lane_count s → events_of k (journal_in lane Js) ≡ []
+fresh_in : (s : Setting) (cs : List Asked) (Js : List Journal) (k lane : ℕ) → IsKept s cs Js → k ≡ length cs + 1 → lane < lane_count s → events_of k (journal_in lane Js) ≡ []
 fresh_in s cs Js k lane kept is h = kept.dealt.no_others k lane h (inr (omega arith))
 
 -- a lane other than the one that was written
@@ -176,64 +176,41 @@ only_there s k Js at J There h there fresh lane within = elim (cases_eq lane at)
   | inr other ↦ pick_false _ _ (at == lane) (line_other at lane (λ e. other (sym e))) (ap (events_of k) (set_other Js lane at J other) ∙ fresh lane within)
 ]
 
-lane_in : (s : Setting) (cs : List Command) (Js : List Journal) (id : List ℕ) → IsKept s cs Js → lane_of_id s.bits id < length Js
+lane_in : (s : Setting) (cs : List Asked) (Js : List Journal) (id : List ℕ) → IsKept s cs Js → lane_of_id s.bits id < length Js
 lane_in s cs Js id kept = subst (λ n. lane_of_id s.bits id < n) (sym kept.dealt.lanes) (lane_small s.bits id)
 
--- the events of a write and of a read in the lane of the document
-write_line : (s : Setting) (cs : List Command) (Js : List Journal) (k : ℕ) (id : List ℕ) (body : Option Document) → IsKept s cs Js → k ≡ length cs + 1
-    → IsLine s.version k (journal_in (lane_of_id s.bits id) Js) (after_write s k id body (journal_in (lane_of_id s.bits id) Js))
-write_line s cs Js k id body kept is =
-    let at = lane_of_id s.bits id in
-    let small = lane_small s.bits id in
-    line_written s (journal_in at Js) k (record { stamp = next_stamp s.version (journal_in at Js); id = id; body = body }) (kept.dealt.legal at small) (kept.closed at small) (fresh_in s cs Js k at kept is small) refl
-
-read_line : (s : Setting) (cs : List Command) (Js : List Journal) (k : ℕ) (id : List ℕ) → IsKept s cs Js → k ≡ length cs + 1
-    → IsLine s.version k (journal_in (lane_of_id s.bits id) Js) (after_read s k id (journal_in (lane_of_id s.bits id) Js))
-read_line s cs Js k id kept is =
-    let at = lane_of_id s.bits id in
-    let small = lane_small s.bits id in
-    line_read s (journal_in at Js) k id (kept.dealt.legal at small) (kept.closed at small) (fresh_in s cs Js k at kept is small)
+-- the events of an operation in the lane of its document
+operation_line : (s : Setting) (cs : List Asked) (Js : List Journal) (k : ℕ) (op : Operation) → IsKept s cs Js → k ≡ length cs + 1
+    → IsLine s.version k (journal_in (lane_of_id s.bits op.id) Js) (after_operation s k op (journal_in (lane_of_id s.bits op.id) Js))
+operation_line s cs Js k op kept is =
+    let at = lane_of_id s.bits op.id in
+    let small = lane_small s.bits op.id in
+    line_operation s (journal_in at Js) k op (kept.dealt.legal at small) (kept.closed at small) (fresh_in s cs Js k at kept is small)
 
 -- a line has its events in one lane, or in none
-write_moves : (s : Setting) (cs : List Command) (Js : List Journal) (k : ℕ) (id : List ℕ) (body : Option Document) → IsKept s cs Js → k ≡ length cs + 1 → Moves s k Js (with_write s k id body Js)
-write_moves s cs Js k id body kept is = set_moves s k Js (lane_of_id s.bits id) _ (lane_in s cs Js id kept) (write_line s cs Js k id body kept is)
+operation_moves : (s : Setting) (cs : List Asked) (Js : List Journal) (k : ℕ) (op : Operation) → IsKept s cs Js → k ≡ length cs + 1 → Moves s k Js (with_operation s k op Js)
+operation_moves s cs Js k op kept is = set_moves s k Js (lane_of_id s.bits op.id) _ (lane_in s cs Js op.id kept) (operation_line s cs Js k op kept is)
 
-pub command_moves : (s : Setting) (cs : List Command) (c : Command) (Js : List Journal) (k : ℕ) → IsKept s cs Js → k ≡ length cs + 1 → Moves s k Js (with_command s k c Js)
+pub command_moves : (s : Setting) (cs : List Asked) (c : Asked) (Js : List Journal) (k : ℕ) → IsKept s cs Js → k ≡ length cs + 1 → Moves s k Js (with_command s k c Js)
 command_moves s cs command.Blank Js k kept is = no_move s k Js
 command_moves s cs command.TooLong Js k kept is = no_move s k Js
-command_moves s cs command.Unbuilt Js k kept is = no_move s k Js
-command_moves s cs (command.Put id document) Js k kept is = write_moves s cs Js k id (Some document) kept is
-command_moves s cs (command.Remove id) Js k kept is = write_moves s cs Js k id None kept is
-command_moves s cs (command.Get id) Js k kept is = set_moves s k Js (lane_of_id s.bits id) _ (lane_in s cs Js id kept) (read_line s cs Js k id kept is)
+command_moves s cs (command.Bad why) Js k kept is = no_move s k Js
+command_moves s cs (command.Feed op) Js k kept is = operation_moves s cs Js k op kept is
 
-kept_write : (s : Setting) (cs : List Command) (c : Command) (Js : List Journal) (k : ℕ) (id : List ℕ) (body : Option Document) → IsKept s cs Js → k ≡ length cs + 1
-    → ((lane : ℕ) → lane < lane_count s → MatchBool (lane_of_id s.bits id == lane) (HasWrite s k id body (journal_in lane (with_write s k id body Js))) (events_of k (journal_in lane (with_write s k id body Js)) ≡ [])
-    → HasEvents s lane k c (journal_in lane (with_write s k id body Js)))
-    → IsKept s (cs ++ c ∷ []) (with_write s k id body Js)
-kept_write s cs c Js k id body kept is has =
-    let at = lane_of_id s.bits id in
+kept_operation : (s : Setting) (cs : List Asked) (Js : List Journal) (k : ℕ) (op : Operation) → IsKept s cs Js → k ≡ length cs + 1 → IsKept s (cs ++ command.Feed op ∷ []) (with_operation s k op Js)
+kept_operation s cs Js k op kept is =
+    let at = lane_of_id s.bits op.id in
     let J = journal_in at Js in
-    let fresh = fresh_in s cs Js k at kept is (lane_small s.bits id) in
-    let line = write_line s cs Js k id body kept is in
-    kept_step s cs c Js (with_write s k id body Js) k kept is (length-set Js at (after_write s k id body J) ∙ kept.dealt.lanes) (write_moves s cs Js k id body kept is)
-    (λ lane h. has lane h (only_there s k Js at (after_write s k id body J) (HasWrite s k id body) (lane_in s cs Js id kept) (has_write s J (after_write s k id body J) k id body refl line fresh) (λ l b. fresh_in s cs Js k l kept is b) lane h))
+    let fresh = fresh_in s cs Js k at kept is (lane_small s.bits op.id) in
+    let line = operation_line s cs Js k op kept is in
+    kept_step s cs (command.Feed op) Js (with_operation s k op Js) k kept is (length-set Js at (after_operation s k op J) ∙ kept.dealt.lanes) (operation_moves s cs Js k op kept is)
+    (λ lane h. only_there s k Js at (after_operation s k op J) (HasOperation s k op) (lane_in s cs Js op.id kept) (has_operation s J (after_operation s k op J) k op refl line fresh) (λ l b. fresh_in s cs Js k l kept is b) lane h)
 
-kept_read : (s : Setting) (cs : List Command) (Js : List Journal) (k : ℕ) (id : List ℕ) → IsKept s cs Js → k ≡ length cs + 1 → IsKept s (cs ++ command.Get id ∷ []) (with_read s k id Js)
-kept_read s cs Js k id kept is =
-    let at = lane_of_id s.bits id in
-    let J = journal_in at Js in
-    let fresh = fresh_in s cs Js k at kept is (lane_small s.bits id) in
-    let line = read_line s cs Js k id kept is in
-    kept_step s cs (command.Get id) Js (with_read s k id Js) k kept is (length-set Js at (after_read s k id J) ∙ kept.dealt.lanes) (command_moves s cs (command.Get id) Js k kept is)
-    (λ lane h. only_there s k Js at (after_read s k id J) (HasRead s k id) (lane_in s cs Js id kept) (has_read s J (after_read s k id J) k id refl line fresh) (λ l b. fresh_in s cs Js k l kept is b) lane h)
-
-pub kept_command : (s : Setting) (cs : List Command) (c : Command) (Js : List Journal) (k : ℕ) → IsKept s cs Js → k ≡ length cs + 1 → IsKept s (cs ++ c ∷ []) (with_command s k c Js)
+pub kept_command : (s : Setting) (cs : List Asked) (c : Asked) (Js : List Journal) (k : ℕ) → IsKept s cs Js → k ≡ length cs + 1 → IsKept s (cs ++ c ∷ []) (with_command s k c Js)
 kept_command s cs command.Blank Js k kept is = kept_step s cs command.Blank Js Js k kept is kept.dealt.lanes (no_move s k Js) (λ lane h. fresh_in s cs Js k lane kept is h)
 kept_command s cs command.TooLong Js k kept is = kept_step s cs command.TooLong Js Js k kept is kept.dealt.lanes (no_move s k Js) (λ lane h. fresh_in s cs Js k lane kept is h)
-kept_command s cs command.Unbuilt Js k kept is = kept_step s cs command.Unbuilt Js Js k kept is kept.dealt.lanes (no_move s k Js) (λ lane h. fresh_in s cs Js k lane kept is h)
-kept_command s cs (command.Put id document) Js k kept is = kept_write s cs (command.Put id document) Js k id (Some document) kept is (λ lane h there. there)
-kept_command s cs (command.Remove id) Js k kept is = kept_write s cs (command.Remove id) Js k id None kept is (λ lane h there. there)
-kept_command s cs (command.Get id) Js k kept is = kept_read s cs Js k id kept is
+kept_command s cs (command.Bad why) Js k kept is = kept_step s cs (command.Bad why) Js Js k kept is kept.dealt.lanes (no_move s k Js) (λ lane h. fresh_in s cs Js k lane kept is h)
+kept_command s cs (command.Feed op) Js k kept is = kept_operation s cs Js k op kept is
 
 -- ---- the start, and the next line
 
@@ -260,7 +237,7 @@ kept_none s = record {
   under = λ lane h. subst (IsUnder s.version) (sym (empty_journal (lane_count s) lane)) refl;
 }
 
-pub ready_next : (s : Setting) (cs : List Command) (c : Cell) (k : ℕ) → IsSetting s → c.bits ≡ s.bits → IsKept s cs c.journals → k ≡ length cs + 1 → length cs < 2 ^ 63 → IsReady s k c
+pub ready_next : (s : Setting) (cs : List Asked) (c : Cell) (k : ℕ) → IsSetting s → c.bits ≡ s.bits → IsKept s cs c.journals → k ≡ length cs + 1 → length cs < 2 ^ 63 → IsReady s k c
 ready_next s cs c k setting bits kept is few = record {
   setting = setting;
   bits = bits;

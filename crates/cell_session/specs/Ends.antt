@@ -5,8 +5,8 @@ use Rattle.io_ends.specs.Causes.{AppendsFront}
 use Rattle.io_ends.specs.Lines.{lines_of, end_of, NoLineFeed}
 use Rattle.io_ends.specs.declared.next.LimitKind.{LimitKind}
 use Rattle.io_ends.specs.declared.next.LimitKind.TheVariants as limit
-use Rattle.feed_lines.specs.Lines.{command_of}
-use Rattle.feed_lines.specs.declared.command.Command.{Command}
+use Rattle.cell_session.specs.Asking.{command_of}
+use Rattle.cell_session.specs.declared.asked.Asked.{Asked}
 use Rattle.lane_laws.specs.Journals.{Journal}
 use Rattle.reports.specs.ReportText.{usage_text}
 use Rattle.cell_session.specs.Output.{report_in, output_of}
@@ -22,7 +22,7 @@ IfTold None P = Unit {0}
 IfTold (Some bytes) P = P bytes
 
 -- what the first lines of a text ask for
-abbrev pub commands_of : List ℕ → ℕ → List Command
+abbrev pub commands_of : List ℕ → ℕ → List Asked
 commands_of text count = map command_of (take count (lines_of text))
 
 -- ---- lanes
@@ -70,9 +70,9 @@ pub record DealsWith (end : Status) (text : List ℕ) (count : ℕ) (left : Opti
 -- ---- the bytes written
 
 -- the sink took the reports of all lines but the last, and a front of that one's
-pub record TakesFront (s : Setting) (commands : List Command) (Js : List Journal) (before now : Option (List ℕ)) : Type 0 where
-  pub earlier : List Command
-  pub last : Command
+pub record TakesFront (s : Setting) (commands : List Asked) (Js : List Journal) (before now : Option (List ℕ)) : Type 0 where
+  pub earlier : List Asked
+  pub last : Asked
   pub all : commands ≡ earlier ++ last ∷ []
   pub front : List ℕ
   pub rest : List ℕ
@@ -80,13 +80,13 @@ pub record TakesFront (s : Setting) (commands : List Command) (Js : List Journal
   pub output : Appends before now (output_of s earlier Js ++ front)
 
 -- the sink took the reports of all lines but the last
-pub record TakesAllButOne (s : Setting) (commands : List Command) (Js : List Journal) (before now : Option (List ℕ)) : Type 0 where
-  pub earlier : List Command
-  pub last : Command
+pub record TakesAllButOne (s : Setting) (commands : List Asked) (Js : List Journal) (before now : Option (List ℕ)) : Type 0 where
+  pub earlier : List Asked
+  pub last : Asked
   pub all : commands ≡ earlier ++ last ∷ []
   pub output : Appends before now (output_of s earlier Js)
 
-abbrev pub Writes : Status → Setting → List Command → List Journal → Option (List ℕ) → Option (List ℕ) → Type 0
+abbrev pub Writes : Status → Setting → List Asked → List Journal → Option (List ℕ) → Option (List ℕ) → Type 0
 Writes status.Done s commands Js before now = Appends before now (output_of s commands Js)
 Writes status.ReadFault s commands Js before now = Appends before now (output_of s commands Js)
 Writes (status.Limit which) s commands Js before now = Appends before now (output_of s commands Js)

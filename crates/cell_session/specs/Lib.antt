@@ -14,3 +14,5 @@ pub mod Answering
 pub mod Reads
 pub mod Dealing
 pub mod SoFar
+pub mod Asking
+pub mod Deeds

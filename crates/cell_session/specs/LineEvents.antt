@@ -1,11 +1,10 @@
 -- The events of one line.
 use Rattle.std.specs.Prelude.{ℕ, ◌+◌, List, [], ◌∷◌, Option, None, Some}
 use Rattle.stamps.specs.declared.stamp.Stamp.{Stamp}
-use Rattle.entry_maps.specs.declared.document.Document.{Document}
 use Rattle.entry_maps.specs.declared.entry.Entry.{Entry}
 use Rattle.lane_laws.specs.declared.event.LaneEvent.TheVariants as event
-use Rattle.lane_laws.specs.declared.outcome.Outcome.{Outcome}
-use Rattle.lane_laws.specs.declared.outcome.Outcome.TheVariants as outcome
+use Rattle.messages.specs.declared.outcome.Outcome.{Outcome}
+use Rattle.messages.specs.declared.outcome.Outcome.TheVariants as outcome
 use Rattle.lane_laws.specs.Journals.{Journal}
 use Rattle.lane_laws.specs.Readers.{stamps_of}
 use Rattle.cell_session.specs.declared.setting.Setting.{Setting}
@@ -23,12 +22,6 @@ write_events s line entry =
 abbrev pub read_events : Setting → ℕ → List ℕ → Outcome → Journal
 read_events s line id ending = event.Closed line ending ∷ event.Begun line s.distributor s.version id None ∷ []
 
--- what a get answers where an entry has this body
-abbrev pub body_outcome : Stamp → Option Document → Outcome
-body_outcome stamp None = outcome.Missing (Some stamp)
-body_outcome stamp (Some document) = outcome.Found stamp
-
--- what a get answers by the entry that it saw: found with the entry's stamp exactly where there is a document
-abbrev pub seen_outcome : Option Entry → Outcome
-seen_outcome None = outcome.Missing None
-seen_outcome (Some entry) = body_outcome entry.stamp entry.body
+-- a stamp is drawn, and nothing is written
+abbrev pub draw_events : Setting → ℕ → List ℕ → Stamp → Outcome → Journal
+draw_events s line id stamp ending = event.Closed line ending ∷ event.Begun line s.distributor s.version id (Some stamp) ∷ []

@@ -3,7 +3,7 @@ use Rattle.std.specs.Prelude.{◌≡◌, ℕ, ◌+◌, ◌≤◌, List, length, 
 use Rattle.io_ends.specs.Causes.{HasRisen}
 use Rattle.io_ends.specs.Lines.{lines_of, NoLineFeed}
 use Rattle.io_ends.specs.Reading.{Reading, Grows, IsWithin, Reaches}
-use Rattle.feed_lines.specs.Lines.{command_of}
+use Rattle.cell_session.specs.Asking.{command_of}
 use Rattle.cell_session.specs.declared.next_command.Step.{Step}
 use Rattle.cell_session.specs.declared.next_command.Step.TheVariants as step
 use Rattle.cell_session.specs.declared.status.Status.{Status}

@@ -6,9 +6,9 @@ ghost use Rattle.cell_session.specs.Output.{bytes_of, report_in};
 ghost use Rattle.cell_session.specs.Steps.{IsReady, after_line};
 ghost use Rattle.cell_session.specs.declared.answering.Stop.TheVariants as stop;
 
+use crate::asked::Asked;
 use crate::cluster::Cluster;
 use crate::setting::Setting;
-use feed_lines::Command;
 use io_ends::{Sink, WriteFault, write_all};
 use reports::{Answer, report};
 use std::alloc::Global;
@@ -45,7 +45,7 @@ pub fn answer_line<K: Sink>(
     alloc: Global,
     setting: Setting,
     line: u32,
-    command: Command,
+    command: Asked,
     sink: &mut K,
     cluster: &mut Cluster,
 ) -> Result<(), Stop>

@@ -1,26 +1,23 @@
 ghost use Rattle.std.specs.Prelude.{◌≡◌, ◌==◌, ◌<◌, ◌≤◌, ◌^◌, ◌⊎◌, [], length, IfOk, OnOk, OnErr};
-ghost use Rattle.std.specs.FinMap as fin;
 ghost use Rattle.std.specs.Option.{option_copied};
 ghost use Rattle.global_ids.specs.Keys.{key_of, lane_of};
 ghost use Rattle.lane_laws.specs.Journals.{past};
-ghost use Rattle.lane_laws.specs.Readers.{store_of};
-ghost use Rattle.lane_laws.specs.declared.outcome.Outcome.TheVariants as outcome;
 ghost use Rattle.cell_session.specs.Answering.{IsAllOrNothing};
 ghost use Rattle.cell_session.specs.Lanes.{lane_of_id, journal_in};
-ghost use Rattle.cell_session.specs.LineEvents.{next_stamp, seen_outcome};
 ghost use Rattle.cell_session.specs.Output.{body_answer, found_answer, outcome_answer, operation_answer, answer_in};
 ghost use Rattle.cell_session.specs.Settings.{IsSetting};
-ghost use Rattle.cell_session.specs.Steps.{IsReady, with_write, with_read, grown, after_line, opened};
+ghost use Rattle.cell_session.specs.Steps.{IsReady, ending_of, with_operation, grown, after_line, opened};
 ghost use Rattle.cell_session.specs.Stores.{stored_in, entries_in};
 
+use crate::asked::Asked;
 use crate::lane::Lane;
 use crate::setting::Setting;
 use document_ids::DocId;
-use entry_maps::{Document, Entry};
-use feed_lines::Command;
+use entry_maps::Entry;
 use global_ids::{Gid, lane_of};
-use lane_laws::{LaneEvent, Outcome};
-use reports::{Answer, Cause};
+use lane_laws::LaneEvent;
+use messages::{Operation, Outcome};
+use reports::Answer;
 use stamps::Stamp;
 use std::alloc::Global;
 use std::marker::Model;
@@ -167,7 +164,7 @@ impl Cluster {
         alloc: Global,
         setting: Setting,
         line: u32,
-        command: Command,
+        command: Asked,
     ) -> Result<Option<Answer>, NoMemory>
         requires { IsReady setting line self.old }
         ensures ok { IfOk result (λ answer. (self.new ≡ after_line setting line command self.old)
@@ -175,108 +172,59 @@ impl Cluster {
         ensures err { OnErr result (IsAllOrNothing setting line command self.old self.new) }
     {
         match command {
-            Command::Blank => {
+            Asked::Blank => {
                 self.dealt = line;
                 Ok(None)
             }
-            Command::TooLong => {
+            Asked::TooLong => {
                 self.dealt = line;
                 Ok(Some(Answer::TooLong))
             }
-            Command::Unbuilt => {
+            Asked::Bad { cause } => {
                 self.dealt = line;
-                Ok(Some(Answer::BadLine {
-                    cause: Cause::Unbuilt,
-                }))
+                Ok(Some(Answer::BadLine { cause }))
             }
-            Command::Put { id, document } => {
-                self.answer_write(alloc, setting, line, id, Some(document))
-            }
-            Command::Remove { id } => self.answer_write(alloc, setting, line, id, None),
-            Command::Get { id } => self.answer_read(alloc, setting, line, id),
+            Asked::Feed { operation } => self.answer_operation(alloc, setting, line, &operation),
         }
     }
 
-    /// Writes an entry in the lane of its document, and gives the answer.
-    fn answer_write(
+    /// Does what an operation asks for in the lane of its document, and gives the answer.
+    fn answer_operation(
         &mut self,
         alloc: Global,
         setting: Setting,
         line: u32,
-        id: DocId,
-        body: Option<Document>,
+        operation: &Operation,
     ) -> Result<Option<Answer>, NoMemory>
         requires { IsReady setting line self.old }
-        ensures ok { IfOk result (λ answer. (self.new ≡ grown self.old line (with_write setting line id body self.old.journals))
-            × (answer ≡ operation_answer setting line id self.new.journals)) }
-        ensures err { OnErr result ((self.new ≡ self.old) ⊎ (self.new ≡ grown self.old line (with_write setting line id body self.old.journals))) }
+        ensures ok { IfOk result (λ answer. (self.new ≡ grown self.old line (with_operation setting line operation.now self.old.journals))
+            × (answer ≡ operation_answer setting line operation.now.id self.new.journals)) }
+        ensures err { OnErr result ((self.new ≡ self.old) ⊎ (self.new ≡ grown self.old line (with_operation setting line operation.now self.old.journals))) }
     {
-        let key = key_of(&id);
-        let outcome = self.write(alloc, setting, line, key, &id, body)?;
-        self.answer(alloc, key, &id, outcome)
+        let key = key_of(&operation.id);
+        let outcome = self.operate(alloc, setting, line, key, operation)?;
+        self.answer(alloc, key, &operation.id, outcome)
     }
 
-    /// Reads a document in its lane, and gives the answer.
-    fn answer_read(
-        &mut self,
-        alloc: Global,
-        setting: Setting,
-        line: u32,
-        id: DocId,
-    ) -> Result<Option<Answer>, NoMemory>
-        requires { IsReady setting line self.old }
-        ensures ok { IfOk result (λ answer. (self.new ≡ grown self.old line (with_read setting line id self.old.journals))
-            × (answer ≡ operation_answer setting line id self.new.journals)) }
-        ensures err { OnErr result ((self.new ≡ self.old) ⊎ (self.new ≡ grown self.old line (with_read setting line id self.old.journals))) }
-    {
-        let key = key_of(&id);
-        let outcome = self.read(alloc, setting, line, key, &id)?;
-        self.answer(alloc, key, &id, outcome)
-    }
-
-    /// Writes an entry in the lane of its document.
+    /// Does what an operation asks for in the lane of its document.
     #[tactic(auto, unfolding(crate::specs::Lanes::lane_of_id))]
-    fn write(
+    fn operate(
         &mut self,
         alloc: Global,
         setting: Setting,
         line: u32,
         key: u64,
-        id: &DocId,
-        body: Option<Document>,
+        operation: &Operation,
     ) -> Result<Outcome, NoMemory>
         requires ready { IsReady setting line self.old }
-        requires key { key ≡ key_of id.now }
-        ensures ok { IfOk result (λ ending. (self.new ≡ grown self.old line (with_write setting line id.now body self.old.journals))
-            × (ending ≡ outcome.Acked (next_stamp setting.version (journal_in (lane_of_id setting.bits id.now) self.old.journals)))) }
+        requires key { key ≡ key_of operation.now.id }
+        ensures ok { IfOk result (λ ending. (self.new ≡ grown self.old line (with_operation setting line operation.now self.old.journals))
+            × (ending ≡ ending_of setting operation.now (journal_in (lane_of_id setting.bits operation.now.id) self.old.journals))) }
         ensures err { OnErr result (self.new ≡ self.old) }
     {
         let at = lane_at(key, setting.bits);
         let lane = &mut self.lanes[at];
-        let outcome = lane.write(alloc, setting, line, key, id, body)?;
-        self.dealt = line;
-        Ok(outcome)
-    }
-
-    /// Reads a document in its lane.
-    #[tactic(auto, unfolding(crate::specs::Lanes::lane_of_id))]
-    fn read(
-        &mut self,
-        alloc: Global,
-        setting: Setting,
-        line: u32,
-        key: u64,
-        id: &DocId,
-    ) -> Result<Outcome, NoMemory>
-        requires ready { IsReady setting line self.old }
-        requires key { key ≡ key_of id.now }
-        ensures ok { IfOk result (λ ending. (self.new ≡ grown self.old line (with_read setting line id.now self.old.journals))
-            × (ending ≡ seen_outcome (fin.get (store_of (journal_in (lane_of_id setting.bits id.now) self.old.journals)) id.now))) }
-        ensures err { OnErr result (self.new ≡ self.old) }
-    {
-        let at = lane_at(key, setting.bits);
-        let lane = &mut self.lanes[at];
-        let outcome = lane.read(alloc, setting, line, key, id)?;
+        let outcome = lane.operate(alloc, setting, line, key, operation)?;
         self.dealt = line;
         Ok(outcome)
     }
@@ -295,6 +243,8 @@ impl Cluster {
         match outcome {
             Outcome::Acked { stamp } => Ok(Some(Answer::Acked { stamp })),
             Outcome::Missing { seen } => Ok(Some(Answer::Missing { seen })),
+            Outcome::Nothing { .. } => Ok(Some(Answer::Nothing)),
+            Outcome::BadUpdate { fault } => Ok(Some(Answer::BadUpdate { fault })),
             Outcome::Found { stamp } => found_answer(alloc, self.entry_at(key, id), stamp),
         }
     }

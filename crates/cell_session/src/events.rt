@@ -1,12 +1,14 @@
 ghost use Rattle.std.specs.Prelude.{◌≡◌, ◌∷◌, ◌++◌, ◌+◌, ◌≤◌, [], Some, None, IfOk, vec_len, vec_capacity};
 ghost use Rattle.lane_laws.specs.Journals.{past};
 ghost use Rattle.lane_laws.specs.declared.event.LaneEvent.TheVariants as event;
-ghost use Rattle.lane_laws.specs.declared.outcome.Outcome.TheVariants as outcome;
+ghost use Rattle.messages.specs.declared.outcome.Outcome.TheVariants as outcome;
 
 use crate::setting::Setting;
 use document_ids::DocId;
 use entry_maps::Entry;
-use lane_laws::{LaneEvent, Outcome};
+use lane_laws::LaneEvent;
+use messages::Outcome;
+use stamps::Stamp;
 use std::alloc::Global;
 use value_lists::{NoMemory, TryCopy};
 
@@ -82,6 +84,31 @@ pub fn append_read(
             version: setting.version,
             id,
             stamp: None,
+        },
+    );
+    push_within(events, LaneEvent::Closed { line, outcome });
+}
+
+/// Appends the two events of a line that draws a stamp and writes nothing, for which there is room.
+pub fn append_draw(
+    events: &mut Vec<LaneEvent>,
+    setting: Setting,
+    line: u32,
+    id: DocId,
+    stamp: Stamp,
+    outcome: Outcome,
+)
+    requires { vec_len events.old + 2 ≤ vec_capacity events.old }
+    ensures { past events.new.items ≡ event.Closed line outcome ∷ event.Begun line setting.distributor setting.version id (Some stamp) ∷ past events.old.items }
+{
+    push_within(
+        events,
+        LaneEvent::Begun {
+            line,
+            distributor: setting.distributor,
+            version: setting.version,
+            id,
+            stamp: Some(stamp),
         },
     );
     push_within(events, LaneEvent::Closed { line, outcome });

@@ -4,16 +4,21 @@ ghost use Rattle.std.specs.Option.{option_copied};
 ghost use Rattle.global_ids.specs.Keys.{key_of};
 ghost use Rattle.lane_laws.specs.Journals.{past, events_of};
 ghost use Rattle.lane_laws.specs.Readers.{store_of};
-ghost use Rattle.lane_laws.specs.declared.outcome.Outcome.TheVariants as outcome;
+ghost use Rattle.messages.specs.declared.outcome.Outcome.TheVariants as outcome;
 ghost use Rattle.cell_session.specs.LaneState.{drawn, IsUnder};
-ghost use Rattle.cell_session.specs.LineEvents.{next_stamp, body_outcome, seen_outcome};
-ghost use Rattle.cell_session.specs.Steps.{after_write, after_read};
+ghost use Rattle.cell_session.specs.Deeds.{seen_outcome, deed_outcome, IsDrawn, IsFit};
+ghost use Rattle.cell_session.specs.LineEvents.{next_stamp};
+ghost use Rattle.cell_session.specs.Steps.{after_deed, after_operation, ending_of};
+ghost use Rattle.cell_session.specs.declared.deed.Deed.TheVariants as deed;
 
-use crate::events::{append_read, append_write, write_events};
+use crate::deed::{Deed, deed_of};
+use crate::events::{append_draw, append_read, append_write, write_events};
 use crate::setting::Setting;
 use document_ids::DocId;
-use entry_maps::{Document, Entry, EntryMap};
-use lane_laws::{LaneEvent, Outcome};
+use documents::Document;
+use entry_maps::{Entry, EntryMap};
+use lane_laws::LaneEvent;
+use messages::{Operation, Outcome};
 use stamps::Stamp;
 use std::alloc::Global;
 use std::marker::Model;
@@ -94,9 +99,57 @@ impl Lane {
         }
     }
 
+    /// Does what an operation of a line that has no event asks for. The only error is want of memory,
+    /// which leaves the lane as it was.
+    pub fn operate(
+        &mut self,
+        alloc: Global,
+        setting: Setting,
+        line: u32,
+        key: u64,
+        operation: &Operation,
+    ) -> Result<Outcome, NoMemory>
+        requires key { key ≡ key_of operation.now.id }
+        requires fresh { events_of line self.old ≡ [] }
+        requires few { drawn self.old < 2 ^ 63 }
+        requires under { IsUnder setting.version self.old }
+        ensures ok { IfOk result (λ ending. (self.new ≡ after_operation setting line operation.now self.old)
+            × (ending ≡ ending_of setting operation.now self.old)) }
+        ensures err { OnErr result (self.new ≡ self.old) }
+    {
+        let deed = deed_of(alloc, operation, self.entry_at(key, &operation.id))?;
+        self.carry_out(alloc, setting, line, key, &operation.id, deed)
+    }
+
+    /// Does what an operation on a document does by the newest entry of it.
+    fn carry_out(
+        &mut self,
+        alloc: Global,
+        setting: Setting,
+        line: u32,
+        key: u64,
+        id: &DocId,
+        deed: Deed,
+    ) -> Result<Outcome, NoMemory>
+        requires key { key ≡ key_of id.now }
+        requires fresh { events_of line self.old ≡ [] }
+        requires few { drawn self.old < 2 ^ 63 }
+        requires under { IsUnder setting.version self.old }
+        requires fits { IsFit (fin.get (store_of self.old) id.now) deed }
+        ensures ok { IfOk result (λ ending. (self.new ≡ after_deed setting line id.now deed self.old)
+            × (ending ≡ deed_outcome (next_stamp setting.version self.old) deed)) }
+        ensures err { OnErr result (self.new ≡ self.old) }
+    {
+        match deed {
+            Deed::Write { body } => self.write(alloc, setting, line, key, id, body),
+            Deed::Draw { outcome } => self.draw(alloc, setting, line, id, outcome),
+            Deed::Show { outcome } => self.read(alloc, setting, line, id, outcome),
+        }
+    }
+
     /// Writes an entry of a line that has no event. The only error is want of memory, which leaves the
     /// lane as it was.
-    pub fn write(
+    fn write(
         &mut self,
         alloc: Global,
         setting: Setting,
@@ -109,7 +162,7 @@ impl Lane {
         requires fresh { events_of line self.old ≡ [] }
         requires few { drawn self.old < 2 ^ 63 }
         requires under { IsUnder setting.version self.old }
-        ensures ok { IfOk result (λ ending. (self.new ≡ after_write setting line id.now body self.old)
+        ensures ok { IfOk result (λ ending. (self.new ≡ after_deed setting line id.now (deed.Write body) self.old)
             × (ending ≡ outcome.Acked (next_stamp setting.version self.old))) }
         ensures err { OnErr result (self.new ≡ self.old) }
     {
@@ -124,46 +177,51 @@ impl Lane {
         Ok(Outcome::Acked { stamp })
     }
 
-    /// Reads a document for a line that has no event. The only error is want of memory, which leaves the
-    /// lane as it was.
-    pub fn read(
+    /// Draws a stamp for a line that has no event, and ends it so. The only error is want of memory,
+    /// which leaves the lane as it was.
+    fn draw(
         &mut self,
         alloc: Global,
         setting: Setting,
         line: u32,
-        key: u64,
         id: &DocId,
+        outcome: Outcome,
     ) -> Result<Outcome, NoMemory>
-        requires key { key ≡ key_of id.now }
         requires fresh { events_of line self.old ≡ [] }
-        ensures ok { IfOk result (λ ending. (self.new ≡ after_read setting line id.now self.old)
-            × (ending ≡ seen_outcome (fin.get (store_of self.old) id.now))) }
+        requires few { drawn self.old < 2 ^ 63 }
+        requires under { IsUnder setting.version self.old }
+        requires drawn { IsDrawn outcome }
+        ensures ok { IfOk result (λ ending. (self.new ≡ after_deed setting line id.now (deed.Draw outcome) self.old) × (ending ≡ outcome)) }
         ensures err { OnErr result (self.new ≡ self.old) }
     {
-        let outcome = outcome_of(self.entry_at(key, id));
+        let stamp = self.next_stamp(setting.version);
         let id = id.copy(alloc)?;
+        let noted = outcome.copy(alloc)?;
         self.events.reserve(2)?;
-        append_read(&mut self.events, setting, line, id, outcome);
+        append_draw(&mut self.events, setting, line, id, stamp, noted);
+        self.stamps += 1;
         Ok(outcome)
     }
-}
 
-/// What a get answers by the entry that it saw.
-fn outcome_of(seen: Option<&Entry>) -> Outcome
-    ensures { result ≡ seen_outcome (option_copied seen.entry) }
-{
-    match seen {
-        Some(entry) => body_outcome(entry.stamp, &entry.body),
-        None => Outcome::Missing { seen: None },
-    }
-}
-
-/// What a get answers where an entry has this body.
-fn body_outcome(stamp: Stamp, body: &Option<Document>) -> Outcome
-    ensures { result ≡ body_outcome stamp body.now }
-{
-    match body {
-        Some(_) => Outcome::Found { stamp },
-        None => Outcome::Missing { seen: Some(stamp) },
+    /// Begins and ends a line that has no event without a stamp. The only error is want of memory, which
+    /// leaves the lane as it was.
+    fn read(
+        &mut self,
+        alloc: Global,
+        setting: Setting,
+        line: u32,
+        id: &DocId,
+        outcome: Outcome,
+    ) -> Result<Outcome, NoMemory>
+        requires fresh { events_of line self.old ≡ [] }
+        requires shown { outcome ≡ seen_outcome (fin.get (store_of self.old) id.now) }
+        ensures ok { IfOk result (λ ending. (self.new ≡ after_deed setting line id.now (deed.Show outcome) self.old) × (ending ≡ outcome)) }
+        ensures err { OnErr result (self.new ≡ self.old) }
+    {
+        let id = id.copy(alloc)?;
+        let noted = outcome.copy(alloc)?;
+        self.events.reserve(2)?;
+        append_read(&mut self.events, setting, line, id, noted);
+        Ok(outcome)
     }
 }

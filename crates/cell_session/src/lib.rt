@@ -13,7 +13,9 @@
 #![tactic(auto)]
 
 mod answering;
+pub mod asked;
 pub mod cluster;
+pub mod deed;
 mod events;
 pub mod lane;
 pub mod limits;
@@ -22,6 +24,7 @@ pub mod running;
 pub mod setting;
 pub mod status;
 
+pub use asked::Asked;
 pub use cluster::Cluster;
 pub use lane::Lane;
 pub use running::run_one;

@@ -1,9 +1,11 @@
-ghost use Rattle.std.specs.Prelude.{◌≤◌, ℕ, List};
+ghost use Rattle.std.specs.Prelude.{◌≡◌, ◌≤◌, ℕ, List};
 ghost use Rattle.io_ends.specs.Reading.{StandsIn};
+ghost use Rattle.cell_session.specs.Asking.{session_types};
 ghost use Rattle.cell_session.specs.Reads.{Advances, Shows, CausedBySource, IsOfLine};
 
+use crate::asked::{Asked, asked_of};
 use crate::status::Status;
-use feed_lines::{Command, read_line};
+use doc_types::Schema;
 use io_ends::{LineReader, Next, Source};
 use std::alloc::Global;
 
@@ -11,7 +13,7 @@ use std::alloc::Global;
 #[derive(Drop)]
 pub enum Step {
     /// The command of the line of this number.
-    Command { number: u32, command: Command },
+    Command { number: u32, command: Asked },
     /// No further line is dealt with, and the session ends so.
     Over { status: Status },
 }
@@ -19,10 +21,12 @@ pub enum Step {
 /// The next line's command, or how the session ends.
 pub fn next_command<S: Source>(
     alloc: Global,
+    schema: &Schema,
     reader: &mut LineReader,
     source: &mut S,
     line: &mut Vec<u8>,
 ) -> Step
+    requires { schema.now ≡ session_types }
     ensures advances { Advances reader.old reader.new result }
     ensures shows { (text : List ℕ) → StandsIn text reader.old (S.left source.old) → Shows text reader.old result }
     ensures stands { (text : List ℕ) → StandsIn text reader.old (S.left source.old) → StandsIn text reader.new (S.left source.new) }
@@ -30,10 +34,10 @@ pub fn next_command<S: Source>(
     ensures cause { CausedBySource result S.last (S.faults source.old) (S.faults source.new) }
 {
     match reader.next(source, line) {
-        Next::Line { number } => line_command(alloc, number, line),
+        Next::Line { number } => line_command(alloc, schema, number, line),
         Next::TooLong { number } => Step::Command {
             number,
-            command: Command::TooLong,
+            command: Asked::TooLong,
         },
         Next::End => Step::Over {
             status: Status::Done,
@@ -51,10 +55,11 @@ pub fn next_command<S: Source>(
 }
 
 /// The command of a line that was read.
-fn line_command(alloc: Global, number: u32, line: &[u8]) -> Step
+fn line_command(alloc: Global, schema: &Schema, number: u32, line: &[u8]) -> Step
+    requires { schema.now ≡ session_types }
     ensures { IsOfLine result number line.now }
 {
-    let Ok(command) = read_line(alloc, line) else {
+    let Ok(command) = asked_of(alloc, schema, line) else {
         return Step::Over {
             status: Status::NoMemory,
         };

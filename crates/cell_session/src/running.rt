@@ -9,6 +9,7 @@ ghost use Rattle.cell_session.specs.Operations.{HaveOutcomes};
 ghost use Rattle.cell_session.specs.Settings.{default_setting, IsSetting};
 
 use crate::answering::{Stop, answer_line};
+use crate::asked::session_schema;
 use crate::cluster::Cluster;
 use crate::limits::{MOST_BYTES, MOST_LINES};
 use crate::next_command::{Step, next_command};
@@ -96,9 +97,12 @@ fn run_lines<S: Source, K: Sink>(
     let Ok(mut reader) = LineReader::new(alloc, MOST_BYTES, MOST_LINES) else {
         return Status::NoMemory;
     };
+    let Ok(schema) = session_schema(alloc) else {
+        return Status::NoMemory;
+    };
     let mut line = Vec::new(alloc);
     loop {
-        let (number, command) = match next_command(alloc, &mut reader, source, &mut line) {
+        let (number, command) = match next_command(alloc, &schema, &mut reader, source, &mut line) {
             Step::Command { number, command } => (number, command),
             Step::Over { status } => return status,
         };

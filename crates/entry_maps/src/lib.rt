@@ -17,7 +17,6 @@
 
 mod chunks;
 mod cuts;
-pub mod document;
 mod edits;
 pub mod entry;
 pub mod entry_map;
@@ -26,6 +25,6 @@ mod runs;
 mod slots;
 mod stored;
 
-pub use document::Document;
+pub use documents::Document;
 pub use entry::Entry;
 pub use entry_map::EntryMap;

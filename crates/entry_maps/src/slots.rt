@@ -19,8 +19,11 @@ pub struct Kept {
 impl Model for Kept {
     ghost use Rattle.std.specs.Arc.{arc_value};
     ghost use Rattle.entry_maps.specs.declared.entry.Entry.{Entry};
+    ghost use Rattle.entry_maps.specs.EntryCodes.{entry_code};
 
     ghost Value = { Entry };
+
+    ghost coded = { entry_code };
 
     ghost view = { λ k. arc_value k.entry };
 }

@@ -1,1 +1,3 @@
-pub mod MemberCounts
+pub mod TextLaws
+pub mod LineTests
+pub mod LineLaws

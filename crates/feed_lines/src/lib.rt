@@ -1,17 +1,23 @@
-//! Feed lines: what a line of input asks for.
+//! Input lines: what a line asks for, or why it is bad.
 //!
-//! A line is one JSON object with exactly one verb. `specs/Lines.antt` says what each line means
-//! (`command_of`, from its bytes); `read_line` answers just that.
+//! A line is one JSON object with exactly one verb. `specs/Tests.antt` lists what a line has to meet,
+//! in the order in which the causes of a bad line come: the first test that fails gives the cause.
+//! `specs/Meaning.antt` says what a line that meets them all asks for, and `laws` says it for each verb
+//! in one record.
 //!
 //! ```text
-//! {"put":"id:ns:music:n=0:a","fields":{"title":"One"}}
+//! {"put":"id:ns:music:n=0:a","fields":{"title":"One","year":1990}}
+//! {"update":"id:ns:music:n=0:a","fields":{"year":{"increment":1}}}
 //! {"remove":"id:ns:music:n=0:a"}
 //! {"get":"id:ns:music:n=0:a"}
 //! ```
 #![tactic(auto)]
 
 pub mod command;
+mod keys;
+pub mod laws;
 mod reading;
+mod shape;
 
-pub use command::Command;
+pub use command::{Cause, Command, LineFault};
 pub use reading::{LONGEST, read_line};

@@ -1,15 +1,26 @@
-ghost use Rattle.std.specs.Prelude.{◌≡◌, Some, IfOk, option_map};
+ghost use Rattle.std.specs.Prelude.{◌≡◌, true, Ok, Err, Some, option_map, if◌then◌else◌};
 ghost use Rattle.std.specs.List.{list_all};
 ghost use Rattle.serde_json.specs.Read.{read};
 ghost use Rattle.serde_json.specs.View.{view};
-ghost use Rattle.feed_lines.specs.Lines.{is_blank, member_count, text_at, music_id, title_in, title_of, put_with, put_of, get_with, key_of, data_command, json_command, text_command, command_of};
+ghost use Rattle.doc_types.specs.Schemas.{is_object};
+ghost use Rattle.feed_lines.specs.Meaning.{is_blank, is_blank_line, id_said, verb_said, data_said, json_said, text_said, line_said, Gives, cause_of};
+ghost use Rattle.feed_lines.specs.Tests.{has_type};
+ghost use Rattle.feed_lines.specs.declared.command.Cause.TheVariants as cause;
+ghost use Rattle.feed_lines.specs.declared.command.Command.TheVariants as command;
+ghost use Rattle.feed_lines.specs.declared.command.LineFault.TheVariants as line_fault;
+ghost use Rattle.feed_lines.specs.declared.keys.Verb.TheVariants as verb;
 
-use crate::command::Command;
-use document_ids::{DocId, IdFault};
-use entry_maps::Document;
+use crate::command::{Cause, Command, LineFault};
+use crate::keys::Verb;
+use crate::shape::{has_right_keys, id_in, is_built, verb_of};
+use doc_types::Schema;
+use doc_updates::Update;
+use document_ids::DocId;
+use documents::{Document, DocumentFault};
+use messages::{OpKind, Operation};
 use serde_json::Value;
 use std::alloc::Global;
-use value_lists::{NoMemory, TextValue};
+use value_lists::TryCopy;
 
 /// The most bytes of a line, without its line feed.
 pub const LONGEST: usize = 65_536;
@@ -26,161 +37,239 @@ fn all_blank(bytes: &[u8]) -> bool
     bytes.iter().all(|byte| is_blank_byte(*byte))
 }
 
-#[tactic(auto, unfolding(crate::specs::Lines::member_count))]
-fn member_count(value: &Value) -> usize
-    ensures { result ≡ member_count (view value.now) }
+#[tactic(auto, unfolding(crate::specs::Meaning::is_blank_line))]
+fn is_blank_line(bytes: &[u8]) -> bool
+    ensures { result ≡ is_blank_line bytes.now }
 {
-    match value.as_object() {
-        Some(members) => members.len(),
-        None => 0,
-    }
+    bytes.len() <= LONGEST && all_blank(bytes)
 }
 
-fn text_at<'a>(key: &str, value: &'a Value) -> Option<&'a str>
-    ensures { option_map (λ text. text.now) result ≡ text_at key.now (view value.now) }
+/// The cause that a fault of the fields is.
+fn cause_of(fault: DocumentFault) -> LineFault
+    ensures { result ≡ cause_of fault }
 {
-    value.get(key)?.as_str()
-}
-
-#[tactic(auto, unfolding(crate::specs::Lines::is_music))]
-fn parse_music(alloc: Global, text: &str) -> Result<Option<DocId>, NoMemory>
-    ensures { IfOk result (λ id. id ≡ music_id (Some text.now)) }
-{
-    let id = match DocId::parse(alloc, text) {
-        Ok(id) => id,
-        Err(IdFault::NoMemory) => return Err(NoMemory),
-        Err(_) => return Ok(None),
+    let cause = match fault {
+        DocumentFault::UnknownType => Cause::Type,
+        DocumentFault::UnknownField { .. } => Cause::Field,
+        DocumentFault::WrongValue { .. } => Cause::Value,
+        DocumentFault::TooLarge { .. } => Cause::Size,
+        DocumentFault::NoMemory => return LineFault::NoMemory,
     };
-    if id.type_name() == "music" {
-        Ok(Some(id))
+    LineFault::BadLine { cause }
+}
+
+/// The cause where `fields` is no object.
+fn no_object(id: &DocId, schema: &Schema) -> Cause
+    ensures { result ≡ (if has_type schema.now id.now then cause.Value else cause.Type) }
+{
+    if schema.has_type(id.type_name()) {
+        Cause::Value
     } else {
-        Ok(None)
+        Cause::Type
     }
 }
 
-fn music_id(alloc: Global, text: Option<&str>) -> Result<Option<DocId>, NoMemory>
-    ensures { IfOk result (λ id. id ≡ music_id (option_map (λ text. text.now) text.entry)) }
+/// A bad line of this cause.
+fn bad(cause: Cause) -> LineFault
+    ensures { result ≡ line_fault.BadLine cause }
 {
-    match text {
-        Some(text) => parse_music(alloc, text),
-        None => Ok(None),
-    }
+    LineFault::BadLine { cause }
 }
 
-#[tactic(auto, unfolding(crate::specs::Lines::title_in))]
-fn title_in(alloc: Global, fields: &Value) -> Result<Option<TextValue>, NoMemory>
-    ensures { IfOk result (λ title. title ≡ title_in (view fields.now)) }
+/// An operation on a document.
+fn feed(id: DocId, kind: OpKind) -> Command
+    ensures { result ≡ command.Feed (record { id = id; kind = kind }) }
 {
-    if member_count(fields) != 1 {
-        return Ok(None);
-    }
-    match text_at("title", fields) {
-        Some(text) => Ok(Some(TextValue::of(String::from_str(alloc, text)?))),
-        None => Ok(None),
+    Command::Feed {
+        operation: Operation { id, kind },
     }
 }
 
-#[tactic(auto, unfolding(crate::specs::Lines::title_of))]
-fn title_of(alloc: Global, fields: Option<&Value>) -> Result<Option<TextValue>, NoMemory>
-    ensures { IfOk result (λ title. title ≡ title_of (option_map (λ v. view v.now) fields.entry)) }
+/// The put of a document with the fields that an object says.
+fn put_object(
+    alloc: Global,
+    id: DocId,
+    fields: &Value,
+    schema: &Schema,
+) -> Result<Command, LineFault>
+    requires { is_object (view fields.now) ≡ true }
+    ensures { Gives result (id_said schema.now verb.Put id (Some (view fields.now))) }
+{
+    match Document::from_json(alloc, id.copy(alloc)?, fields, schema) {
+        Ok(document) => Ok(feed(id, OpKind::Put(document))),
+        Err(fault) => Err(cause_of(fault)),
+    }
+}
+
+/// The update of a document by what an object says.
+fn update_object(
+    alloc: Global,
+    id: DocId,
+    fields: &Value,
+    schema: &Schema,
+) -> Result<Command, LineFault>
+    requires { is_object (view fields.now) ≡ true }
+    ensures { Gives result (id_said schema.now verb.Update id (Some (view fields.now))) }
+{
+    match Update::from_json(alloc, &id, fields, schema) {
+        Ok(update) => Ok(feed(id, OpKind::Update(update))),
+        Err(fault) => Err(cause_of(fault)),
+    }
+}
+
+/// The put of a document with these fields.
+fn put_value(
+    alloc: Global,
+    id: DocId,
+    fields: &Value,
+    schema: &Schema,
+) -> Result<Command, LineFault>
+    ensures { Gives result (id_said schema.now verb.Put id (Some (view fields.now))) }
+{
+    if !fields.is_object() {
+        return Err(bad(no_object(&id, schema)));
+    }
+    put_object(alloc, id, fields, schema)
+}
+
+/// The update of a document by these fields.
+fn update_value(
+    alloc: Global,
+    id: DocId,
+    fields: &Value,
+    schema: &Schema,
+) -> Result<Command, LineFault>
+    ensures { Gives result (id_said schema.now verb.Update id (Some (view fields.now))) }
+{
+    if !fields.is_object() {
+        return Err(bad(no_object(&id, schema)));
+    }
+    update_object(alloc, id, fields, schema)
+}
+
+/// The put of a document, where there are fields.
+fn put_command(
+    alloc: Global,
+    id: DocId,
+    fields: Option<&Value>,
+    schema: &Schema,
+) -> Result<Command, LineFault>
+    ensures { Gives result (id_said schema.now verb.Put id (option_map (λ v. view v.now) fields.entry)) }
 {
     match fields {
-        Some(fields) => title_in(alloc, fields),
-        None => Ok(None),
+        Some(fields) => put_value(alloc, id, fields, schema),
+        None => Err(bad(no_object(&id, schema))),
     }
 }
 
-fn put_with(id: Option<DocId>, title: Option<TextValue>) -> Command
-    ensures { result ≡ put_with id title }
+/// The update of a document, where there are fields.
+fn update_command(
+    alloc: Global,
+    id: DocId,
+    fields: Option<&Value>,
+    schema: &Schema,
+) -> Result<Command, LineFault>
+    ensures { Gives result (id_said schema.now verb.Update id (option_map (λ v. view v.now) fields.entry)) }
 {
-    match (id, title) {
-        (Some(id), Some(title)) => Command::Put {
-            id,
-            document: Document { title },
-        },
-        _ => Command::Unbuilt,
+    match fields {
+        Some(fields) => update_value(alloc, id, fields, schema),
+        None => Err(bad(no_object(&id, schema))),
     }
 }
 
-#[tactic(auto, unfolding(crate::specs::Lines::put_of))]
-fn put_of(alloc: Global, line: &Value) -> Result<Command, NoMemory>
-    ensures { IfOk result (λ command. command ≡ put_of (view line.now)) }
+/// What is asked of a document of this id.
+fn id_command(
+    alloc: Global,
+    verb: Verb,
+    id: DocId,
+    fields: Option<&Value>,
+    schema: &Schema,
+) -> Result<Command, LineFault>
+    ensures { Gives result (id_said schema.now verb id (option_map (λ v. view v.now) fields.entry)) }
 {
-    let id = music_id(alloc, text_at("put", line))?;
-    let title = title_of(alloc, line.get("fields"))?;
-    Ok(put_with(id, title))
-}
-
-fn get_with(shown: Option<DocId>, removed: Option<DocId>) -> Command
-    ensures { result ≡ get_with shown removed }
-{
-    match shown {
-        Some(id) => Command::Get { id },
-        None => match removed {
-            Some(id) => Command::Remove { id },
-            None => Command::Unbuilt,
-        },
+    match verb {
+        Verb::Put => put_command(alloc, id, fields, schema),
+        Verb::Update => update_command(alloc, id, fields, schema),
+        Verb::Remove => typed(id, OpKind::Remove, schema),
+        Verb::Get | Verb::Later => typed(id, OpKind::Get, schema),
     }
 }
 
-#[tactic(auto, unfolding(crate::specs::Lines::key_of))]
-fn key_of(alloc: Global, line: &Value) -> Result<Command, NoMemory>
-    ensures { IfOk result (λ command. command ≡ key_of (view line.now)) }
+/// An operation without fields on a document of a type of the schema.
+fn typed(id: DocId, kind: OpKind, schema: &Schema) -> Result<Command, LineFault>
+    ensures { Gives result (if has_type schema.now id then Ok (command.Feed (record { id = id; kind = kind })) else Err cause.Type) }
 {
-    let shown = music_id(alloc, text_at("get", line))?;
-    let removed = music_id(alloc, text_at("remove", line))?;
-    Ok(get_with(shown, removed))
+    if !schema.has_type(id.type_name()) {
+        return Err(bad(Cause::Type));
+    }
+    Ok(feed(id, kind))
 }
 
-#[tactic(auto, unfolding(crate::specs::Lines::data_command))]
-fn data_command(alloc: Global, line: &Value) -> Result<Command, NoMemory>
-    ensures { IfOk result (λ command. command ≡ data_command (view line.now)) }
+/// What a line of a verb asks for.
+fn verb_command(
+    alloc: Global,
+    verb: Verb,
+    line: &Value,
+    schema: &Schema,
+) -> Result<Command, LineFault>
+    ensures { Gives result (verb_said schema.now (view line.now) (Some verb)) }
 {
-    let count = member_count(line);
-    if count == 2 {
-        return put_of(alloc, line);
+    if !is_built(verb, line) {
+        return Err(bad(Cause::Unbuilt));
     }
-    if count == 1 {
-        return key_of(alloc, line);
+    if !has_right_keys(verb, line) {
+        return Err(bad(Cause::Key));
     }
-    Ok(Command::Unbuilt)
+    match id_in(alloc, verb, line)? {
+        Some(id) => id_command(alloc, verb, id, line.get("fields"), schema),
+        None => Err(bad(Cause::Id)),
+    }
 }
 
-fn json_command(alloc: Global, text: &str) -> Result<Command, NoMemory>
-    ensures { IfOk result (λ command. command ≡ json_command (read text.now)) }
+/// What a JSON value asks for.
+fn data_command(alloc: Global, line: &Value, schema: &Schema) -> Result<Command, LineFault>
+    ensures { Gives result (data_said schema.now (view line.now)) }
+{
+    match verb_of(line) {
+        Some(verb) => verb_command(alloc, verb, line, schema),
+        None => Err(bad(Cause::Object)),
+    }
+}
+
+/// What a text asks for.
+fn json_command(alloc: Global, text: &str, schema: &Schema) -> Result<Command, LineFault>
+    ensures { Gives result (json_said schema.now (read text.now)) }
 {
     match Value::from_str(alloc, text) {
-        Ok(line) => data_command(alloc, &line),
+        Ok(line) => data_command(alloc, &line, schema),
         Err(error) => {
             if error.is_memory() {
-                Err(NoMemory)
+                Err(LineFault::NoMemory)
             } else {
-                Ok(Command::Unbuilt)
+                Err(bad(Cause::Json))
             }
         }
     }
 }
 
-#[tactic(auto, unfolding(crate::specs::Lines::text_command))]
-fn text_command(alloc: Global, bytes: &[u8]) -> Result<Command, NoMemory>
-    ensures { IfOk result (λ command. command ≡ text_command bytes.now) }
+/// What bytes ask for.
+fn text_command(alloc: Global, bytes: &[u8], schema: &Schema) -> Result<Command, LineFault>
+    ensures { Gives result (text_said schema.now bytes.now) }
 {
     match std::str::from_utf8(bytes) {
-        Ok(text) => json_command(alloc, text),
-        Err(_) => Ok(Command::Unbuilt),
+        Ok(text) => json_command(alloc, text, schema),
+        Err(_) => Err(bad(Cause::Json)),
     }
 }
 
-/// What a line asks for, from its bytes without the line feed. The only error is want of memory.
-#[tactic(auto, unfolding(crate::specs::Lines::command_of))]
-pub fn read_line(alloc: Global, bytes: &[u8]) -> Result<Command, NoMemory>
-    ensures { IfOk result (λ command. command ≡ command_of bytes.now) }
+/// What a line asks for, from its bytes without the line feed; a bad line has the first cause that
+/// holds of it.
+#[tactic(auto, unfolding(crate::specs::Meaning::line_said))]
+pub fn read_line(alloc: Global, bytes: &[u8], schema: &Schema) -> Result<Command, LineFault>
+    ensures { Gives result (line_said schema.now bytes.now) }
 {
-    if bytes.len() > LONGEST {
-        return Ok(Command::TooLong);
-    }
-    if all_blank(bytes) {
+    if is_blank_line(bytes) {
         return Ok(Command::Blank);
     }
-    text_command(alloc, bytes)
+    text_command(alloc, bytes, schema)
 }

@@ -2,8 +2,8 @@
 use Rattle.std.proofs.Common.{◌≡◌, ◌==◌, ℕ, ◌+◌, ◌≤◌, Bool, true, false, cond, List, [], ◌∷◌, Option, None, Some, inl, inr, sym, ap, ◌∙◌, subst, arith}
 use Rattle.stamps.specs.declared.stamp.Stamp.{Stamp}
 use Rattle.entry_maps.specs.declared.entry.Entry.{Entry}
-use Rattle.lane_laws.specs.declared.outcome.Outcome.{Outcome}
-use Rattle.lane_laws.specs.declared.outcome.Outcome.TheVariants as outcome
+use Rattle.messages.specs.declared.outcome.Outcome.{Outcome}
+use Rattle.messages.specs.declared.outcome.Outcome.TheVariants as outcome
 use Rattle.lane_laws.specs.declared.event.LaneEvent.{LaneEvent}
 use Rattle.lane_laws.specs.declared.event.LaneEvent.TheVariants as event
 use Rattle.lane_laws.specs.Journals.{Journal}

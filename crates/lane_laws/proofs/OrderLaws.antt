@@ -1,7 +1,7 @@
 -- The events of a line come in order.
 use Rattle.std.proofs.Common.{◌≡◌, ◌==◌, ℕ, true, false, cond, [], ◌∷◌, None, Some, inl, inr, refl, sym, ap, ◌∙◌, subst}
 use Rattle.entry_maps.specs.declared.entry.Entry.{Entry}
-use Rattle.lane_laws.specs.declared.outcome.Outcome.{Outcome}
+use Rattle.messages.specs.declared.outcome.Outcome.{Outcome}
 use Rattle.lane_laws.specs.declared.event.LaneEvent.{LaneEvent}
 use Rattle.lane_laws.specs.declared.event.LaneEvent.TheVariants as event
 use Rattle.lane_laws.specs.Journals.{Journal, is_of, events_of}

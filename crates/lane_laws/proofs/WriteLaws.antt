@@ -7,8 +7,8 @@ use Rattle.stamps.specs.declared.stamp.Stamp.{Stamp}
 use Rattle.stamps.specs.Order.{IsBefore}
 use Rattle.stamps.proofs.StampOrder.{IsBefore-total}
 use Rattle.entry_maps.specs.declared.entry.Entry.{Entry}
-use Rattle.lane_laws.specs.declared.outcome.Outcome.{Outcome}
-use Rattle.lane_laws.specs.declared.outcome.Outcome.TheVariants as outcome
+use Rattle.messages.specs.declared.outcome.Outcome.{Outcome}
+use Rattle.messages.specs.declared.outcome.Outcome.TheVariants as outcome
 use Rattle.lane_laws.specs.declared.event.LaneEvent.TheVariants as event
 use Rattle.lane_laws.specs.Journals.{Journal}
 use Rattle.lane_laws.specs.Legal.{IsLegal, MayEnd}

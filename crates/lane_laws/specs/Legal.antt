@@ -2,8 +2,8 @@
 use Rattle.std.specs.Prelude.{◌≡◌, ℕ, ◌+◌, List, [], ◌∷◌, Option, None, Some, IsSome}
 use Rattle.stamps.specs.declared.stamp.Stamp.{Stamp}
 use Rattle.entry_maps.specs.declared.entry.Entry.{Entry}
-use Rattle.lane_laws.specs.declared.outcome.Outcome.{Outcome}
-use Rattle.lane_laws.specs.declared.outcome.Outcome.TheVariants as outcome
+use Rattle.messages.specs.declared.outcome.Outcome.{Outcome}
+use Rattle.messages.specs.declared.outcome.Outcome.TheVariants as outcome
 use Rattle.lane_laws.specs.declared.event.LaneEvent.{LaneEvent}
 use Rattle.lane_laws.specs.declared.event.LaneEvent.TheVariants as event
 use Rattle.lane_laws.specs.Journals.{Journal}
@@ -40,6 +40,8 @@ abbrev pub MayEnd : Journal → ℕ → Outcome → Type 0
 MayEnd J line (outcome.Acked stamp) = (entry : Entry) × ((wrote_in line J ≡ Some entry) × (entry.stamp ≡ stamp))
 MayEnd J line (outcome.Found stamp) = (wrote_in line J ≡ None) × ((entry : Entry) × (entry_at stamp J ≡ Some entry))
 MayEnd J line (outcome.Missing seen) = wrote_in line J ≡ None
+MayEnd J line (outcome.Nothing seen) = wrote_in line J ≡ None
+MayEnd J line (outcome.BadUpdate fault) = wrote_in line J ≡ None
 
 -- a line that is begun closes once
 pub record MayClose (J : Journal) (line : ℕ) (ending : Outcome) : Type 0 where

@@ -6,7 +6,7 @@ use Rattle.stamps.specs.declared.stamp.Stamp.{Stamp}
 use Rattle.entry_maps.specs.declared.entry.Entry.{Entry}
 use Rattle.entry_maps.specs.EntryCodes.{Entries}
 use Rattle.entry_maps.specs.Entries.{with_entry}
-use Rattle.lane_laws.specs.declared.outcome.Outcome.{Outcome}
+use Rattle.messages.specs.declared.outcome.Outcome.{Outcome}
 use Rattle.lane_laws.specs.declared.event.LaneEvent.TheVariants as event
 use Rattle.lane_laws.specs.Journals.{Journal}
 

@@ -1,9 +1,9 @@
 ghost use Rattle.std.specs.Prelude.{◌≡◌};
 ghost use Rattle.lane_laws.specs.Journals.{line_of};
 
-use crate::outcome::Outcome;
 use document_ids::DocId;
 use entry_maps::Entry;
+use messages::Outcome;
 use stamps::Stamp;
 
 /// One atomic step of a lane.

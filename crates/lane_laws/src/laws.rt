@@ -8,7 +8,7 @@ ghost use Rattle.lane_laws.specs.Journals.{Journal, events_of};
 ghost use Rattle.lane_laws.specs.Legal.{IsLegal};
 ghost use Rattle.lane_laws.specs.LineOrder.{IsInOrder, HoldsNewest, IsWritten};
 ghost use Rattle.lane_laws.specs.Readers.{wrote_in, closed_in, written_of, store_of};
-ghost use Rattle.lane_laws.specs.declared.outcome.Outcome.TheVariants as outcome;
+ghost use Rattle.messages.specs.declared.outcome.Outcome.TheVariants as outcome;
 
 /// A line's events come in the order Begun, Wrote, Closed, each at most once. The store holds of each
 /// document the newest entry that was written. What a line acknowledged it wrote, and the store holds

@@ -12,7 +12,5 @@
 
 pub mod event;
 pub mod laws;
-pub mod outcome;
 
 pub use event::LaneEvent;
-pub use outcome::Outcome;

@@ -1,5 +1,7 @@
+use doc_updates::UpdateFault;
 use document_ids::DocId;
-use entry_maps::Document;
+use documents::Document;
+use feed_lines::Cause;
 use stamps::Stamp;
 
 /// What a line is answered.
@@ -19,17 +21,16 @@ pub enum Answer {
     Missing {
         seen: Option<Stamp>,
     },
+    /// An update without a document to change; nothing is stored.
+    Nothing,
+    /// The document can't have the update, for this fault.
+    BadUpdate {
+        fault: UpdateFault,
+    },
     /// The line can't be dealt with.
     BadLine {
         cause: Cause,
     },
     /// The line has more bytes than a line may have.
     TooLong,
-}
-
-/// Why a line is bad.
-#[derive(Clone, Copy, Debug, PartialEq, Eq)]
-pub enum Cause {
-    /// It isn't of a form that is built.
-    Unbuilt,
 }

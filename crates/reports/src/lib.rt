@@ -11,5 +11,5 @@
 pub mod answer;
 pub mod reports;
 
-pub use answer::{Answer, Cause};
+pub use answer::Answer;
 pub use reports::{report, usage_report};

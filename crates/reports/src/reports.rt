@@ -1,13 +1,15 @@
 ghost use Rattle.std.specs.Prelude.{◌≡◌, ◌∷◌, ◌++◌, [], false, IfOk, codes};
-ghost use Rattle.serde_json.specs.Data.{string, number, unsigned, object, member, no_members};
+ghost use Rattle.serde_json.specs.Data.{string, number, boolean, unsigned, object, member, no_members};
 ghost use Rattle.serde_json.specs.View.{view};
 ghost use Rattle.serde_json.specs.Written.{has_float, compact_text};
 ghost use Rattle.stamps.specs.Printed.{printed};
-ghost use Rattle.reports.specs.ReportText.{line_text, with_result, fields_of, seen_of, acked_text, found_text, missing_text, too_long_text, cause_text, bad_line_text, report_text, usage_text};
+ghost use Rattle.reports.specs.ReportText.{line_text, with_result, fields_of, seen_of, acked_text, found_text, missing_text, nothing_text, field_fault_text, size_fault_text, no_memory_text, bad_update_text, too_long_text, cause_text, bad_line_text, report_text, usage_text};
 
-use crate::answer::{Answer, Cause};
+use crate::answer::Answer;
+use doc_updates::UpdateFault;
 use document_ids::DocId;
-use entry_maps::Document;
+use documents::Document;
+use feed_lines::Cause;
 use serde_json::{Value, json};
 use stamps::Stamp;
 use std::alloc::{AllocError, Global};
@@ -38,10 +40,12 @@ fn acked_report(alloc: Global, line: u32, stamp: Stamp) -> Result<Vec<u8>, NoMem
     line_of(alloc, &value)
 }
 
-fn fields_value(alloc: Global, title: &str) -> Result<Value, AllocError>
-    ensures { IfOk result (λ v. view v ≡ object (member (codes "title") (string title.now) no_members)) }
+/// The fields of a document, which have no float.
+fn fields_value(alloc: Global, document: &Document) -> Result<Value, NoMemory>
+    ensures value { IfOk result (λ v. view v ≡ fields_of document.now) }
+    ensures no_float { IfOk result (λ v. has_float (view v) ≡ false) }
 {
-    json!(in alloc; {"title": title})
+    Ok(document.fields_json(alloc)?)
 }
 
 fn found_value(
@@ -51,7 +55,9 @@ fn found_value(
     fields: &Value,
     stamp: &str,
 ) -> Result<Value, AllocError>
-    ensures { IfOk result (λ v. view v ≡ object (member (codes "fields") (view fields.now) (member (codes "id") (string id.now) (with_result line (codes "found") (member (codes "stamp") (string stamp.now) no_members))))) }
+    requires { has_float (view fields.now) ≡ false }
+    ensures value { IfOk result (λ v. view v ≡ object (member (codes "fields") (view fields.now) (member (codes "id") (string id.now) (with_result line (codes "found") (member (codes "stamp") (string stamp.now) no_members))))) }
+    ensures no_float { IfOk result (λ v. has_float (view v) ≡ false) }
 {
     json!(in alloc; {"fields": fields, "id": id, "line": line, "result": "found", "stamp": stamp})
 }
@@ -68,7 +74,7 @@ fn found_report(
     ensures { IfOk result (λ bytes. bytes.items ≡ found_text line id.now document.now stamp) }
 {
     let stamp = stamp.print(alloc)?;
-    let fields = fields_value(alloc, document.title.text())?;
+    let fields = fields_value(alloc, document)?;
     let value = found_value(alloc, line, id.text(), &fields, stamp.as_str())?;
     line_of(alloc, &value)
 }
@@ -98,6 +104,86 @@ fn missing_report(alloc: Global, line: u32, seen: Option<Stamp>) -> Result<Vec<u
     line_of(alloc, &value)
 }
 
+fn nothing_value(alloc: Global, line: u32) -> Result<Value, AllocError>
+    ensures { IfOk result (λ v. view v ≡ object (member (codes "found") (boolean false) (with_result line (codes "acked") no_members))) }
+{
+    json!(in alloc; {"found": false, "line": line, "result": "acked"})
+}
+
+/// `{"found":false,"line":4,"result":"acked"}`.
+#[tactic(auto, unfolding(crate::specs::ReportText::nothing_text, crate::specs::ReportText::line_text))]
+fn nothing_report(alloc: Global, line: u32) -> Result<Vec<u8>, NoMemory>
+    ensures { IfOk result (λ bytes. bytes.items ≡ nothing_text line) }
+{
+    let value = nothing_value(alloc, line)?;
+    line_of(alloc, &value)
+}
+
+fn field_fault_value(alloc: Global, line: u32, word: &str, field: &str) -> Result<Value, AllocError>
+    ensures { IfOk result (λ v. view v ≡ object (member (codes "fault") (string word.now) (member (codes "field") (string field.now) (with_result line (codes "badupdate") no_members)))) }
+{
+    json!(in alloc; {"fault": word, "field": field, "line": line, "result": "badupdate"})
+}
+
+/// `{"fault":"overflow","field":"year","line":2,"result":"badupdate"}`.
+#[tactic(auto, unfolding(crate::specs::ReportText::field_fault_text, crate::specs::ReportText::line_text))]
+fn field_fault_report(
+    alloc: Global,
+    line: u32,
+    word: &str,
+    field: &str,
+) -> Result<Vec<u8>, NoMemory>
+    ensures { IfOk result (λ bytes. bytes.items ≡ field_fault_text line word.now field.now) }
+{
+    let value = field_fault_value(alloc, line, word, field)?;
+    line_of(alloc, &value)
+}
+
+fn size_fault_value(alloc: Global, line: u32, size: u64) -> Result<Value, AllocError>
+    ensures { IfOk result (λ v. view v ≡ object (member (codes "fault") (string (codes "toolarge")) (with_result line (codes "badupdate") (member (codes "size") (number (unsigned size)) no_members)))) }
+{
+    json!(in alloc; {"fault": "toolarge", "line": line, "result": "badupdate", "size": size})
+}
+
+/// `{"fault":"toolarge","line":2,"result":"badupdate","size":65537}`.
+#[tactic(auto, unfolding(crate::specs::ReportText::size_fault_text, crate::specs::ReportText::line_text))]
+fn size_fault_report(alloc: Global, line: u32, size: u64) -> Result<Vec<u8>, NoMemory>
+    ensures { IfOk result (λ bytes. bytes.items ≡ size_fault_text line size) }
+{
+    let value = size_fault_value(alloc, line, size)?;
+    line_of(alloc, &value)
+}
+
+fn no_memory_value(alloc: Global, line: u32) -> Result<Value, AllocError>
+    ensures { IfOk result (λ v. view v ≡ object (with_result line (codes "nomemory") no_members)) }
+{
+    json!(in alloc; {"line": line, "result": "nomemory"})
+}
+
+#[tactic(auto, unfolding(crate::specs::ReportText::no_memory_text, crate::specs::ReportText::line_text))]
+fn no_memory_report(alloc: Global, line: u32) -> Result<Vec<u8>, NoMemory>
+    ensures { IfOk result (λ bytes. bytes.items ≡ no_memory_text line) }
+{
+    let value = no_memory_value(alloc, line)?;
+    line_of(alloc, &value)
+}
+
+fn bad_update_report(alloc: Global, line: u32, fault: &UpdateFault) -> Result<Vec<u8>, NoMemory>
+    ensures { IfOk result (λ bytes. bytes.items ≡ bad_update_text line fault.now) }
+{
+    match fault {
+        UpdateFault::ZeroDivisor { field } => {
+            field_fault_report(alloc, line, "zerodivisor", field.text())
+        }
+        UpdateFault::Overflow { field } => {
+            field_fault_report(alloc, line, "overflow", field.text())
+        }
+        UpdateFault::TooMany { field } => field_fault_report(alloc, line, "toomany", field.text()),
+        UpdateFault::TooLarge { size } => size_fault_report(alloc, line, *size),
+        UpdateFault::NoMemory => no_memory_report(alloc, line),
+    }
+}
+
 fn too_long_value(alloc: Global, line: u32) -> Result<Value, AllocError>
     ensures { IfOk result (λ v. view v ≡ object (with_result line (codes "toolong") no_members)) }
 {
@@ -117,7 +203,15 @@ fn cause_text(cause: Cause) -> &'static str
     ensures { result.now ≡ cause_text cause }
 {
     match cause {
+        Cause::Json => "json",
+        Cause::Object => "object",
         Cause::Unbuilt => "unbuilt",
+        Cause::Key => "key",
+        Cause::Id => "id",
+        Cause::Type => "type",
+        Cause::Field => "field",
+        Cause::Value => "value",
+        Cause::Size => "size",
     }
 }
 
@@ -148,6 +242,8 @@ pub fn report(alloc: Global, line: u32, answer: &Answer) -> Result<Vec<u8>, NoMe
             stamp,
         } => found_report(alloc, line, id, document, *stamp),
         Answer::Missing { seen } => missing_report(alloc, line, *seen),
+        Answer::Nothing => nothing_report(alloc, line),
+        Answer::BadUpdate { fault } => bad_update_report(alloc, line, fault),
         Answer::BadLine { cause } => bad_line_report(alloc, line, *cause),
         Answer::TooLong => too_long_report(alloc, line),
     }

@@ -1,14 +1,15 @@
 //! Sessions whose ends fail, and what a session leaves.
 
+use crate::maps::titled;
 use bucket_ids::Bucket;
 use cell_session::{Cluster, Status, run_one};
 use document_ids::DocId;
-use entry_maps::{Document, Entry, EntryMap};
+use entry_maps::{Entry, EntryMap};
 use io_ends::{LineReader, MemorySink, MemorySource, Next};
 use lane_laws::LaneEvent;
 use stamps::Stamp;
 use std::alloc::Global;
-use value_lists::{Listed, TextValue, TryCopy};
+use value_lists::{Listed, TryCopy};
 
 const LINES: &str =
     "{\"put\":\"id:ns:music:n=0:a\",\"fields\":{\"title\":\"One\"}}\n{\"get\":\"id:ns:music:n=0:a\"}\n";
@@ -128,9 +129,7 @@ fn calls_succeed_where_there_is_memory(rt: HostRuntime) -> anyhow::Result<()> {
         let entry = Entry {
             stamp: Stamp { version: 1, count },
             id: id.copy(rt.alloc())?,
-            body: Some(Document {
-                title: TextValue::of(String::from_str(rt.alloc(), title)?),
-            }),
+            body: Some(titled(rt.alloc(), &id, title)?),
         };
         assert_eq!(rt; map.put(entry.copy(rt.alloc())?)?, taken, "at {title}");
     }

@@ -1,23 +1,32 @@
 //! Tables of calls of entry maps: counts, the newer of two maps, and the entries of a bucket.
 
 use bucket_ids::Bucket;
+use doc_types::FieldValue;
 use document_ids::DocId;
-use entry_maps::{Document, Entry, EntryMap};
+use documents::Document;
+use entry_maps::{Entry, EntryMap};
 use stamps::Stamp;
 use std::alloc::Global;
-use value_lists::TextValue;
+use value_lists::{TextValue, TryCopy};
+
+/// A document with a title.
+pub fn titled(alloc: Global, id: &DocId, title: &str) -> anyhow::Result<Document> {
+    let mut document = Document::empty(alloc, id.copy(alloc)?);
+    let title = TextValue::of(String::from_str(alloc, title)?);
+    document.set(alloc, "title", FieldValue::Text(title))?;
+    Ok(document)
+}
 
 /// An entry of a stamp of version 1; without a title it is a remove.
 fn entry(alloc: Global, id: &str, count: u64, title: Option<&str>) -> anyhow::Result<Entry> {
+    let id = DocId::parse(alloc, id)?;
     let body = match title {
-        Some(title) => Some(Document {
-            title: TextValue::of(String::from_str(alloc, title)?),
-        }),
+        Some(title) => Some(titled(alloc, &id, title)?),
         None => None,
     };
     Ok(Entry {
         stamp: Stamp { version: 1, count },
-        id: DocId::parse(alloc, id)?,
+        id,
         body,
     })
 }

@@ -5,6 +5,9 @@ use Rattle.cell_session.proofs.running.run_lines.Goals as goal
 pub returns-in_default-new-clause-ended : goal.returns-in_default-new-clause-ended
 returns-in_default-new-clause-ended g c = opened_ends _ _ _ _ _ c.in-Ok.ensures.ok
 
+pub returns-in_default-session_schema-clause-ended : goal.returns-in_default-session_schema-clause-ended
+returns-in_default-session_schema-clause-ended g c = opened_ends _ _ _ _ _ c.in-Ok.ensures.ok
+
 pub loop-number-init : goal.loop-number-init
 loop-number-init g c =
     let is = c.in-Ok-new.ensures in

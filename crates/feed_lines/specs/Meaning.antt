@@ -1,0 +1,83 @@
+-- What a line asks for, or its cause.
+use Rattle.std.specs.Prelude.{◌==◌, ◌&&◌, ◌||◌, ◌≡◌, ℕ, Bool, List, length, Option, Some, None, Result, Ok, Err, nat_le, if◌then◌else◌}
+use Rattle.std.specs.List.{list_all}
+use Rattle.std.specs.Str.{is_utf8}
+use Rattle.serde_json.specs.Data.{Data}
+use Rattle.serde_json.specs.Read.{read}
+use Rattle.doc_types.specs.SchemaCodes.{Types}
+use Rattle.documents.specs.Json.{fields_in}
+use Rattle.documents.specs.declared.fault.DocumentFault.{DocumentFault}
+use Rattle.documents.specs.declared.fault.DocumentFault.TheVariants as reason
+use Rattle.doc_updates.specs.Updates.{changes_in}
+use Rattle.messages.specs.declared.operation.OpKind.{OpKind}
+use Rattle.messages.specs.declared.operation.OpKind.TheVariants as kind
+use Rattle.feed_lines.specs.Tests.{first_cause, verb_of, id_in, fields_of, said_in, kinds_for, id_tests, text_of, tests}
+use Rattle.feed_lines.specs.declared.command.Cause.{Cause}
+use Rattle.feed_lines.specs.declared.command.Cause.TheVariants as cause
+use Rattle.feed_lines.specs.declared.command.Command.{Command}
+use Rattle.feed_lines.specs.declared.command.Command.TheVariants as command
+use Rattle.feed_lines.specs.declared.command.LineFault.{LineFault}
+use Rattle.feed_lines.specs.declared.command.LineFault.TheVariants as fault
+use Rattle.feed_lines.specs.declared.keys.Verb.{Verb}
+use Rattle.feed_lines.specs.declared.keys.Verb.TheVariants as verb
+
+-- the longest line
+abbrev pub longest : ℕ
+longest = 65536
+
+-- a space, a tab or CR
+abbrev pub is_blank : ℕ → Bool
+is_blank b = b == 32 || b == 9 || b == 13
+
+unfoldable pub is_blank_line : List ℕ → Bool
+is_blank_line bytes = nat_le (length bytes) longest && list_all is_blank bytes
+
+-- what a verb asks of a document
+abbrev pub kind_in : Types → Verb → List ℕ → Option Data → OpKind
+kind_in types verb.Put id fields = kind.Put (record { id = id; fields = fields_in (kinds_for types id) (said_in fields) })
+kind_in types verb.Update id fields = kind.Update (changes_in (kinds_for types id) (said_in fields))
+kind_in types verb.Remove id fields = kind.Remove
+kind_in types verb.Get id fields = kind.Get
+kind_in types verb.Later id fields = kind.Get
+
+abbrev pub command_in : Types → Verb → List ℕ → Option Data → Command
+command_in types v id fields = command.Feed (record { id = id; kind = kind_in types v id fields })
+
+abbrev pub answer_by : Option Cause → Command → Result Command Cause
+answer_by None c = Ok c
+answer_by (Some why) c = Err why
+
+abbrev pub id_said : Types → Verb → List ℕ → Option Data → Result Command Cause
+id_said types v id fields = answer_by (first_cause (id_tests types v id fields)) (command_in types v id fields)
+
+abbrev pub verb_said : Types → Data → Option Verb → Result Command Cause
+verb_said types d None = Err cause.Object
+verb_said types d (Some v) = answer_by (first_cause (tests types v d)) (command_in types v (text_of (id_in v d)) (fields_of d))
+
+abbrev pub data_said : Types → Data → Result Command Cause
+data_said types d = verb_said types d (verb_of d)
+
+abbrev pub json_said : Types → Option Data → Result Command Cause
+json_said types None = Err cause.Json
+json_said types (Some d) = data_said types d
+
+unfoldable pub text_said : Types → List ℕ → Result Command Cause
+text_said types bytes = if is_utf8 bytes then json_said types (read bytes) else Err cause.Json
+
+-- what a line says under a schema
+unfoldable pub line_said : Types → List ℕ → Result Command Cause
+line_said types bytes = if is_blank_line bytes then Ok command.Blank else text_said types bytes
+
+-- an answer of a call is what is said; want of memory alone is free
+abbrev pub Gives : Result Command LineFault → Result Command Cause → Type 0
+Gives (Ok c) said = said ≡ Ok c
+Gives (Err (fault.BadLine why)) said = said ≡ Err why
+Gives (Err fault.NoMemory) said = Unit {0}
+
+-- the cause that a fault of the fields is
+abbrev pub cause_of : DocumentFault → LineFault
+cause_of reason.UnknownType = fault.BadLine cause.Type
+cause_of (reason.UnknownField name) = fault.BadLine cause.Field
+cause_of (reason.WrongValue name) = fault.BadLine cause.Value
+cause_of (reason.TooLarge size) = fault.BadLine cause.Size
+cause_of reason.NoMemory = fault.NoMemory

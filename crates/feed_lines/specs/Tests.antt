@@ -1,0 +1,121 @@
+-- What a line has to meet, in the order of the causes of a bad line.
+use Rattle.std.specs.Prelude.{◌&&◌, ℕ, Bool, true, false, not, List, [], ◌∷◌, codes, Option, Some, None, is_some, is_ok, option_and_then, nat_lt, if◌then◌else◌}
+use Rattle.std.specs.FinMap as fin
+use Rattle.serde_json.specs.Data.{Data, Members, no_members}
+use Rattle.serde_json.specs.Find.{get, as_object, as_str}
+use Rattle.doc_types.specs.SchemaCodes.{Types}
+use Rattle.doc_types.specs.Schemas.{members_in}
+use Rattle.document_ids.specs.Parts.{parts_of, type_of}
+use Rattle.documents.specs.Faults.{first_name, is_unknown, is_wrong}
+use Rattle.documents.specs.Json.{Kinds, kinds_of, fields_in}
+use Rattle.documents.specs.Sizes.{largest, size_of}
+use Rattle.doc_updates.specs.Updates as update
+use Rattle.feed_lines.specs.Keys.{only_verb, has_later_key, name_of, all_stand}
+use Rattle.feed_lines.specs.declared.command.Cause.{Cause}
+use Rattle.feed_lines.specs.declared.command.Cause.TheVariants as cause
+use Rattle.feed_lines.specs.declared.keys.Verb.{Verb}
+use Rattle.feed_lines.specs.declared.keys.Verb.TheVariants as verb
+
+-- the first test that fails gives its cause
+abbrev pub first_cause : List (Bool × Cause) → Option Cause
+first_cause [] = None
+first_cause (t ∷ ts) = if t.0 then first_cause ts else Some t.1
+
+-- the members of an object; of another value none
+abbrev pub members_of : Data → Members
+members_of d = members_in (as_object d)
+
+-- the line's verb, where it is an object with exactly one
+abbrev pub verb_of : Data → Option Verb
+verb_of d = only_verb (members_of d)
+
+abbrev pub is_built_verb : Verb → Bool
+is_built_verb verb.Put = true
+is_built_verb verb.Update = true
+is_built_verb verb.Remove = true
+is_built_verb verb.Get = true
+is_built_verb verb.Later = false
+
+-- neither the verb nor a key is of lines that aren't built yet
+abbrev pub is_built : Verb → Data → Bool
+is_built v d = is_built_verb v && not (has_later_key (members_of d))
+
+-- the value of `fields`
+abbrev pub fields_of : Data → Option Data
+fields_of d = get (codes "fields") d
+
+abbrev pub has_wanted : Verb → Option Data → Bool
+has_wanted verb.Put fields = is_some fields
+has_wanted verb.Update fields = is_some fields
+has_wanted verb.Remove fields = true
+has_wanted verb.Get fields = true
+has_wanted verb.Later fields = true
+
+-- no key but the verb's own, and `fields` where it is wanted
+abbrev pub has_right_keys : Verb → Data → Bool
+has_right_keys v d = all_stand v (members_of d) && has_wanted v (fields_of d)
+
+-- the verb's value, where it is the text of a document id
+abbrev pub as_id : Option (List ℕ) → Option (List ℕ)
+as_id None = None
+as_id (Some text) = if is_ok (parts_of text) then Some text else None
+
+unfoldable pub id_in : Verb → Data → Option (List ℕ)
+id_in v d = as_id (option_and_then as_str (get (name_of v) d))
+
+-- the schema has the id's type
+abbrev pub has_type : Types → List ℕ → Bool
+has_type types id = is_some (fin.get types (type_of id))
+
+-- the members that `fields` has; of another value none
+abbrev pub said_in : Option Data → Members
+said_in None = no_members
+said_in (Some fields) = members_of fields
+
+abbrev pub kinds_for : Types → List ℕ → Kinds
+kinds_for types id = kinds_of types (type_of id)
+
+-- each name in `fields` is a field of the type
+abbrev pub are_known : Types → List ℕ → Option Data → Bool
+are_known types id fields = not (is_some (first_name (is_unknown (kinds_for types id)) (said_in fields)))
+
+abbrev pub has_fields : Types → Verb → List ℕ → Option Data → Bool
+has_fields types verb.Put id fields = are_known types id fields
+has_fields types verb.Update id fields = are_known types id fields
+has_fields types verb.Remove id fields = true
+has_fields types verb.Get id fields = true
+has_fields types verb.Later id fields = true
+
+abbrev pub is_object_in : Option Data → Bool
+is_object_in None = false
+is_object_in (Some fields) = is_some (as_object fields)
+
+-- `fields` is an object, and each value in it is right for the verb
+abbrev pub has_values : Types → Verb → List ℕ → Option Data → Bool
+has_values types verb.Put id fields = is_object_in fields && not (is_some (first_name (is_wrong (kinds_for types id)) (said_in fields)))
+has_values types verb.Update id fields = is_object_in fields && not (is_some (first_name (update.is_wrong (kinds_for types id)) (said_in fields)))
+has_values types verb.Remove id fields = true
+has_values types verb.Get id fields = true
+has_values types verb.Later id fields = true
+
+-- the document of a put isn't too large
+abbrev pub has_size : Types → Verb → List ℕ → Option Data → Bool
+has_size types verb.Put id fields = not (nat_lt largest (size_of (fields_in (kinds_for types id) (said_in fields))))
+has_size types verb.Update id fields = true
+has_size types verb.Remove id fields = true
+has_size types verb.Get id fields = true
+has_size types verb.Later id fields = true
+
+-- what the id and the fields have to meet
+abbrev pub id_tests : Types → Verb → List ℕ → Option Data → List (Bool × Cause)
+id_tests types v id fields = (has_type types id, cause.Type) ∷ (has_fields types v id fields, cause.Field) ∷ (has_values types v id fields, cause.Value)
+    ∷ (has_size types v id fields, cause.Size) ∷ []
+
+abbrev pub text_of : Option (List ℕ) → List ℕ
+text_of None = []
+text_of (Some text) = text
+
+-- what a line of a verb has to meet
+abbrev pub tests : Types → Verb → Data → List (Bool × Cause)
+tests types v d = (is_built v d, cause.Unbuilt) ∷ (has_right_keys v d, cause.Key) ∷ (is_some (id_in v d), cause.Id)
+    ∷ id_tests types v (text_of (id_in v d)) (fields_of d)

@@ -1,3 +1,0 @@
-pub mod TextLaws
-pub mod LineTests
-pub mod LineLaws

@@ -1,8 +1,0 @@
-use Rattle.input_lines.proofs.TextLaws.{of_text, of_no_text}
-use Rattle.input_lines.proofs.reading.text_command.Goals as goal
-
-pub returns-in-Ok : goal.returns-in-Ok
-returns-in-Ok c = rw (of_text c.args.schema.now c.args.bytes.now c.in-Ok.ensures.cases.1, ← c.in-Ok.ensures.cases.0) c.json_command.ensures
-
-pub returns-in-Err : goal.returns-in-Err
-returns-in-Err c = rw c.bad.ensures (of_no_text c.args.schema.now c.args.bytes.now c.in-Err.ensures.cases.0)
