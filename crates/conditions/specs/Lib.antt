@@ -9,3 +9,4 @@ pub mod Machine
 pub mod Views
 pub mod AtomLaws
 pub mod Meaning
+pub mod Codes
