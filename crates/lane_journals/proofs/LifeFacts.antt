@@ -1,7 +1,6 @@
 -- Small facts of the life of a lane.
-use Rattle.std.proofs.Common.{◌≡◌, ◌↔◌, ℕ, ◌^◌, ◌<◌, ◌≤◌, Bool, true, false, cond, List, [], ◌∷◌, Option, Some, None, refl, sym, ap, ◌∙◌, subst, arith, inl, inr, ◌⊎◌, eqb, eq-eqb, zero, suc, slice_index_or, ltb, ◌&&◌}
+use Rattle.std.proofs.Common.{◌≡◌, ◌↔◌, ℕ, ◌^◌, ◌<◌, ◌≤◌, Bool, true, false, cond, List, [], ◌∷◌, Option, Some, None, refl, sym, ap, ◌∙◌, subst, arith, inl, inr, ◌⊎◌, eqb, zero, suc, slice_index_or, ltb, ◌&&◌}
 use Rattle.std.proofs.lemmas.Bool.{eqb-true, cases_lt}
-use Rattle.std.proofs.lemmas.Bool.Decides.{nat_tests}
 use Rattle.std.proofs.lemmas.Nat.Bits.{bit_at_ones_above}
 use Rattle.std.specs.Prelude.{take, codes, Contains, is_some}
 use Rattle.std.specs.Int.{bit_at}
@@ -9,19 +8,19 @@ use Rattle.bucket_ids.specs.Buckets.{IsBucket}
 use Rattle.node_sets.specs.Members.{has_node}
 use Rattle.cluster_states.specs.declared.cluster_state.ClusterState.{ClusterState}
 use Rattle.cluster_states.specs.declared.marks.Mark.TheVariants.{Up, Down, Retired}
-use Rattle.cluster_states.specs.MarkTests.{is_up, counts}
+use Rattle.cluster_states.specs.MarkTests.{is_up}
 use Rattle.cluster_states.specs.Publishing.{serves}
-use Rattle.ideal_nodes.specs.Scores.{score_of, Ranks, Has, IsRanked}
-use Rattle.ideal_nodes.specs.Placement.{IsIdeal, IsOwner}
+use Rattle.ideal_nodes.specs.Scores.{score_of, Ranks, Has}
+use Rattle.ideal_nodes.specs.Placement.{IsIdeal}
 use Rattle.lane_journals.specs.Sets.{count_below, count}
-use Rattle.lane_journals.specs.Stamps.{Stamp, newer}
-use Rattle.lane_journals.specs.Buckets.{Id, same_id, key_of, Bucket, contains, same_bucket, meets, first_child, second_child}
-use Rattle.lane_journals.specs.Events.{Body, Read, Delete}
-use Rattle.lane_journals.specs.Readers.{Journal, row_in, active}
-use Rattle.lane_journals.specs.Pieces.{NodePiece, IsPieceIn, pieces}
+use Rattle.lane_journals.specs.Stamps.{newer}
+use Rattle.lane_journals.specs.Buckets.{Id, same_id, key_of, Bucket, contains, same_bucket, first_child, second_child}
+use Rattle.lane_journals.specs.Events.{Read, Delete}
+use Rattle.lane_journals.specs.Readers.{row_in, active}
+use Rattle.lane_journals.specs.Pieces.{NodePiece, IsPieceIn}
 use Rattle.lane_journals.specs.Meanings.{nodes, names, history}
 use Rattle.lane_journals.specs.Naming.{ShowsPieces}
-use Rattle.lane_journals.specs.Places.{state_in, Owns, IsAmongFirst, IsActive, IsTarget, IsFirstMember, WasNamed, IsPartition}
+use Rattle.lane_journals.specs.Places.{state_in, Owns, IsAmongFirst, IsTarget, IsFirstMember, IsPartition}
 use Rattle.lane_journals.specs.Lives.{lane, setting, state_one, state_two, stamp_two}
 use Rattle.lane_journals.specs.declared.piece.Piece.{Piece}
 use Rattle.lane_journals.specs.declared.event.LaneEvent.{LaneEvent}
@@ -133,17 +132,17 @@ up_one (suc (suc n)) h = cc
 both_ideal : (b : Bucket) → BothIdeal b
 both_ideal b = elim (cases_lt (score 0) (score 1)) [
   | inl less ↦ record {
-      ideal = 1 ∷ 0 ∷ [];
-      is_ideal = record { ranked = ((λ m h. only m h (λ n. Ranks score 1 n) (inl less)), ((λ m h. absurd h), tt)); members = λ n. ((λ h. turned n (up_one n h)), (λ h. listed n (turn n h))) };
-      first = inr (inl refl);
-      second = inl refl;
-    }
+    ideal = 1 ∷ 0 ∷ [];
+    is_ideal = record { ranked = ((λ m h. only m h (λ n. Ranks score 1 n) (inl less)), ((λ m h. absurd h), tt)); members = λ n. ((λ h. turned n (up_one n h)), (λ h. listed n (turn n h))) };
+    first = inr (inl refl);
+    second = inl refl;
+  }
   | inr more ↦ record {
-      ideal = 0 ∷ 1 ∷ [];
-      is_ideal = record { ranked = ((λ m h. only' m h (ranks (cases_lt (score 1) (score 0)) more)), ((λ m h. absurd h), tt)); members = λ n. ((λ h. straight n (up_one n h)), (λ h. listed n (turn' n h))) };
-      first = inl refl;
-      second = inr (inl refl);
-    }
+    ideal = 0 ∷ 1 ∷ [];
+    is_ideal = record { ranked = ((λ m h. only' m h (ranks (cases_lt (score 1) (score 0)) more)), ((λ m h. absurd h), tt)); members = λ n. ((λ h. straight n (up_one n h)), (λ h. listed n (turn' n h))) };
+    first = inl refl;
+    second = inr (inl refl);
+  }
 ]
   where
     score : ℕ → ℕ

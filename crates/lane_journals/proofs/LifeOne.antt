@@ -1,33 +1,32 @@
 -- The life of a lane under its first state.
-use Rattle.std.proofs.Common.{◌≡◌, ◌≢◌, ◌↔◌, ℕ, ◌^◌, ◌<◌, ◌≤◌, Bool, true, false, cond, List, [], ◌∷◌, Option, Some, None, refl, sym, ap, ◌∙◌, subst, subst₂, arith, inl, inr, ◌⊎◌, eqb, ltb, eq-eqb, zero, suc}
-use Rattle.std.proofs.lemmas.Bool.{eqb-true, cases_lt}
+use Rattle.std.proofs.Common.{◌≡◌, ℕ, Bool, true, false, cond, List, [], ◌∷◌, Some, None, refl, sym, subst, arith, inl, inr, eqb}
 use Rattle.std.proofs.lemmas.Bool.Decides.{nat_tests}
 use Rattle.lane_journals.specs.Sets.{count_below, count, AtLeast}
-use Rattle.lane_journals.specs.Stamps.{Stamp, Le, newer, is_older, same_stamp}
-use Rattle.lane_journals.specs.Buckets.{Bucket, contains, same_bucket, covers, meets, first_child, second_child, across, Id, same_id, key_of}
+use Rattle.lane_journals.specs.Stamps.{Le, same_stamp}
+use Rattle.lane_journals.specs.Buckets.{Bucket, contains, same_bucket, covers, meets, first_child, second_child, Id, key_of}
 use Rattle.lane_journals.specs.Events as plain
-use Rattle.lane_journals.specs.Readers.{Journal, Beginning, began, Preparing, prepared, closed, round_of, running, Message, sent, first_reply, store, acceptable, holds, Given, answer, answered_store, complete, active, deleting}
-use Rattle.lane_journals.specs.Facts.{Shown, AnsweredApply, AnsweredAsk, AnsweredReady, IsRow, IsMember, Idle}
+use Rattle.lane_journals.specs.Readers.{round_of, running, Message, Given, answer, answered_store}
+use Rattle.lane_journals.specs.Facts.{AnsweredApply, AnsweredAsk, IsRow}
 use Rattle.lane_journals.specs.Legal.{MayShow, MayUnite, IsQuiet, Permits}
-use Rattle.lane_journals.specs.Pieces.{NodePiece, pieces, Takes}
+use Rattle.lane_journals.specs.Pieces.{pieces, Takes}
 use Rattle.lane_journals.specs.States.{state_of}
 use Rattle.lane_journals.specs.Meanings.{nodes, content, names, meaning, history}
-use Rattle.lane_journals.specs.Naming.{NamesShown, PiecesShown, WellNoted}
+use Rattle.lane_journals.specs.Naming.{NamesShown, WellNoted}
 use Rattle.lane_journals.specs.Places.{Placed}
 use Rattle.lane_journals.specs.Endings.{Ended}
 use Rattle.lane_journals.specs.KeptJournals.{IsLegal}
-use Rattle.lane_journals.specs.Lives.{lane, setting, state_one, state_two, stamp_one, stamp_two, stamp_three}
+use Rattle.lane_journals.specs.Lives.{lane, setting, state_one, stamp_one, stamp_two}
 use Rattle.lane_journals.specs.declared.noted.NotedBody.TheVariants as body
 use Rattle.lane_journals.specs.declared.noted.NotedReply.TheVariants as reply
 use Rattle.lane_journals.specs.declared.decision.Decision.TheVariants as choice
 use Rattle.lane_journals.specs.declared.outcome.Outcome.TheVariants as outcome
 use Rattle.lane_journals.specs.declared.event.LaneEvent.{LaneEvent}
 use Rattle.lane_journals.specs.declared.event.LaneEvent.TheVariants as event
-use Rattle.lane_journals.proofs.Order.{Le_refl, Le_none}
-use Rattle.lane_journals.proofs.Ids.{same_id-refl, same_id-true}
+use Rattle.lane_journals.proofs.Order.{Le_none}
+use Rattle.lane_journals.proofs.Ids.{same_id-refl}
 use Rattle.lane_journals.proofs.BucketLaws.{children_apart, first_in, second_in}
-use Rattle.lane_journals.proofs.Walking.{EachSent, NumbersBelow, numbers, NotOf, unapplied, GoesTo, applied-to, NotLook, unasked, NotStore, unstored, LinesDone, line-done, idle-done, EachReply, NotNamed, unnamed-yet, NamesOnly}
-use Rattle.lane_journals.proofs.LifeFacts.{some_same, same_read, same_test, two_1, two_2, both_two, one_first, has_both_0, has_both_1, has_one_0, enough_3, enough_1, only_0, only_1, is_0, is_1, owns1, owns2, one_row, one_name, shows_nothing, nothing_joined, small_1, small_2, receive_both, receive_one, shows_one, firstC, secondC}
+use Rattle.lane_journals.proofs.Walking.{EachSent, NumbersBelow, numbers, NotOf, unapplied, GoesTo, applied-to, NotLook, unasked, LinesDone, line-done, idle-done, EachReply, NamesOnly}
+use Rattle.lane_journals.proofs.LifeFacts.{some_same, same_read, same_test, two_1, both_two, has_both_0, has_both_1, enough_3, only_0, is_0, owns1, one_row, shows_nothing, small_1, receive_both, firstC, secondC}
 
 module _ (id : Id) (inside : contains lane (key_of id) ≡ true) where
   abbrev a1 : List LaneEvent
@@ -161,7 +160,7 @@ module _ (id : Id) (inside : contains lane (key_of id) ≡ true) where
   done_r1 = tt
 
   quiet_r1 : IsQuiet 1 lane (history a9)
-  unfolding same_stamp same_bucket 
+  unfolding same_stamp same_bucket
   quiet_r1 = record { row = row_r1; no_round = refl; idle = idle-done (history a9) done_r1 1 lane }
 
   abbrev a10 : List LaneEvent
@@ -676,7 +675,7 @@ module _ (id : Id) (inside : contains lane (key_of id) ≡ true) where
   done_s1 = (refl, (refl, tt))
 
   quiet_s1 : IsQuiet 1 lane (history a39)
-  unfolding same_stamp same_bucket 
+  unfolding same_stamp same_bucket
   quiet_s1 = record { row = row_s1; no_round = refl; idle = idle-done (history a39) done_s1 1 lane }
 
   abbrev a40 : List LaneEvent
@@ -704,7 +703,6 @@ module _ (id : Id) (inside : contains lane (key_of id) ≡ true) where
           flip : (t : Bool) → contains (first_child lane) key ≡ t → t ≡ false
           flip true e = absurd (children_apart lane key e h)
           flip false e = refl
-
 
   below_a11 : NumbersBelow 11 (history a40)
   below_a11 = (omega arith, (omega arith, (omega arith, (omega arith, (omega arith, (omega arith, (omega arith, (omega arith, (omega arith, (omega arith, tt))))))))))

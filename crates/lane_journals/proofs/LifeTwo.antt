@@ -1,33 +1,31 @@
 -- The life of a lane under its second state.
-use Rattle.std.proofs.Common.{◌≡◌, ◌≢◌, ◌↔◌, ℕ, ◌^◌, ◌<◌, ◌≤◌, Bool, true, false, cond, List, [], ◌∷◌, Option, Some, None, refl, sym, ap, ◌∙◌, subst, subst₂, arith, inl, inr, ◌⊎◌, eqb, ltb, eq-eqb, zero, suc}
-use Rattle.std.proofs.lemmas.Bool.{eqb-true, cases_lt}
+use Rattle.std.proofs.Common.{◌≡◌, ℕ, Bool, true, false, cond, List, [], ◌∷◌, Option, Some, None, refl, sym, ◌∙◌, subst, subst₂, arith, inl, inr, eqb}
 use Rattle.std.proofs.lemmas.Bool.Decides.{nat_tests}
 use Rattle.lane_journals.specs.Sets.{count_below, count, AtLeast}
-use Rattle.lane_journals.specs.Stamps.{Stamp, Le, newer, is_older, same_stamp}
-use Rattle.lane_journals.specs.Buckets.{Bucket, contains, same_bucket, covers, meets, first_child, second_child, across, Id, same_id, key_of}
+use Rattle.lane_journals.specs.Stamps.{Le, newer, is_older, same_stamp}
+use Rattle.lane_journals.specs.Buckets.{Bucket, contains, same_bucket, covers, meets, first_child, second_child, Id, same_id, key_of}
 use Rattle.lane_journals.specs.Events as plain
-use Rattle.lane_journals.specs.Readers.{Journal, Beginning, began, Preparing, prepared, closed, round_of, running, Message, sent, first_reply, store, acceptable, holds, Given, answer, answered_store, complete, active, deleting}
-use Rattle.lane_journals.specs.Facts.{Shown, AnsweredApply, AnsweredAsk, AnsweredReady, IsRow, IsMember, Idle}
+use Rattle.lane_journals.specs.Readers.{round_of, running, Message, store, acceptable, Given, answer, answered_store, active}
+use Rattle.lane_journals.specs.Facts.{AnsweredApply, AnsweredAsk, IsRow}
 use Rattle.lane_journals.specs.Legal.{Keeper, MayShow, MayUnite, IsQuiet, Permits}
-use Rattle.lane_journals.specs.Pieces.{NodePiece, pieces, Takes}
+use Rattle.lane_journals.specs.Pieces.{pieces, Takes}
 use Rattle.lane_journals.specs.States.{state_of}
 use Rattle.lane_journals.specs.Meanings.{pick, nodes, content, names, meaning, history}
-use Rattle.lane_journals.specs.Naming.{NamesShown, PiecesShown, WellNoted}
+use Rattle.lane_journals.specs.Naming.{NamesShown, WellNoted}
 use Rattle.lane_journals.specs.Places.{IsTarget, Placed}
 use Rattle.lane_journals.specs.Endings.{Ended}
 use Rattle.lane_journals.specs.KeptJournals.{IsLegal}
-use Rattle.lane_journals.specs.Lives.{lane, setting, state_one, state_two, stamp_one, stamp_two, stamp_three}
+use Rattle.lane_journals.specs.Lives.{lane, setting, state_two, stamp_one, stamp_two, stamp_three}
 use Rattle.lane_journals.specs.declared.noted.NotedBody.TheVariants as body
 use Rattle.lane_journals.specs.declared.noted.NotedReply.TheVariants as reply
 use Rattle.lane_journals.specs.declared.decision.Decision.TheVariants as choice
 use Rattle.lane_journals.specs.declared.outcome.Outcome.TheVariants as outcome
 use Rattle.lane_journals.specs.declared.event.LaneEvent.{LaneEvent}
 use Rattle.lane_journals.specs.declared.event.LaneEvent.TheVariants as event
-use Rattle.lane_journals.proofs.Order.{Le_refl, Le_none}
-use Rattle.lane_journals.proofs.Ids.{same_id-refl, same_id-true}
-use Rattle.lane_journals.proofs.BucketLaws.{children_apart, first_in, second_in}
-use Rattle.lane_journals.proofs.Walking.{EachSent, NumbersBelow, numbers, NotOf, unapplied, GoesTo, applied-to, NotLook, unasked, NotStore, unstored, LinesDone, line-done, idle-done, EachReply, NotNamed, unnamed-yet, NamesOnly}
-use Rattle.lane_journals.proofs.LifeFacts.{some_same, same_read, same_test, two_1, two_2, both_two, one_first, has_both_0, has_both_1, has_one_0, enough_3, enough_1, only_0, only_1, is_0, is_1, owns1, owns2, one_row, one_name, held_one, only_one, first_member, same_deleted, one_left, target-two, nothing_joined, small_1, small_2, receive_both, receive_one, shows_one, firstC, secondC}
+use Rattle.lane_journals.proofs.Order.{Le_refl}
+use Rattle.lane_journals.proofs.Ids.{same_id-refl}
+use Rattle.lane_journals.proofs.Walking.{EachSent, NumbersBelow, numbers, NotOf, unapplied, GoesTo, applied-to, NotLook, unasked, LinesDone, line-done, idle-done, EachReply, NotNamed, unnamed-yet, NamesOnly}
+use Rattle.lane_journals.proofs.LifeFacts.{some_same, same_read, two_2, one_first, has_one_0, enough_1, only_0, is_0, owns2, one_row, one_name, held_one, only_one, first_member, same_deleted, one_left, target-two, small_2, receive_one, shows_one}
 use Rattle.lane_journals.proofs.LifeOne.{a45, live_a45}
 
 module _ (id : Id) (inside : contains lane (key_of id) ≡ true) where
@@ -183,7 +181,7 @@ module _ (id : Id) (inside : contains lane (key_of id) ≡ true) where
   done_r2 = (refl, (refl, tt))
 
   quiet_r2 : IsQuiet 2 lane (history b10)
-  unfolding same_stamp same_bucket 
+  unfolding same_stamp same_bucket
   quiet_r2 = record { row = row_r2; no_round = refl; idle = idle-done (history b10) done_r2 2 lane }
 
   abbrev b11 : List LaneEvent
@@ -449,7 +447,7 @@ module _ (id : Id) (inside : contains lane (key_of id) ≡ true) where
   done_a2 = (refl, (refl, tt))
 
   quiet_a2 : IsQuiet 2 lane (history b24)
-  unfolding same_stamp same_bucket 
+  unfolding same_stamp same_bucket
   quiet_a2 = record { row = row_a2; no_round = refl; idle = idle-done (history b24) done_a2 2 lane }
 
   abbrev b25 : List LaneEvent
@@ -510,7 +508,7 @@ module _ (id : Id) (inside : contains lane (key_of id) ≡ true) where
   done_d2 = (refl, (refl, tt))
 
   quiet_d2 : IsQuiet 2 lane (history b27)
-  unfolding same_stamp same_bucket 
+  unfolding same_stamp same_bucket
   quiet_d2 = record { row = row_d2; no_round = refl; idle = idle-done (history b27) done_d2 2 lane }
 
   took_17 : AnsweredApply 2 (round_of 2 lane (history b27)) 0 lane (history b27)
@@ -615,25 +613,28 @@ module _ (id : Id) (inside : contains lane (key_of id) ≡ true) where
 
   may_b32 : Permits 1 (state_of (history b32)) (history b31) (meaning b31 (event.Decided 0 2 (choice.DeleteOver lane 1)))
   unfolding same_stamp
-  may_b32 = (refl, record {
-    key = key_of id;
-    delete = record { bucket = lane; node = 1; serial = 4 };
-    pending = rw inside refl;
-    bucket = refl;
-    node = refl;
-    no_round = λ other row h i. subst (λ (x : Bucket). running 2 x (history b31) ≡ false) (the_row other row i) still_2;
-    idle = λ other line begin p h o i. (let z = line-done (history b31) (history b31) done_o2 line begin o.began in let y = o.unclosed in absurd (let q : true ≡ false = sym z ∙ y in cc));
-    number = 20;
-    message = (record { version = 2; receiver = 1; body = (plain.Delete lane 4); round = 0 });
-    was_sent = refl;
-    receiver = refl;
-    version = refl;
-    body = refl;
-    reply = plain.Answer (content b29 ([])) (names ([]));
-    replied = refl;
-    ending = refl;
-    back = refl;
-  })
+  may_b32 = (
+    refl,
+    record {
+      key = key_of id;
+      delete = record { bucket = lane; node = 1; serial = 4 };
+      pending = rw inside refl;
+      bucket = refl;
+      node = refl;
+      no_round = λ other row h i. subst (λ (x : Bucket). running 2 x (history b31) ≡ false) (the_row other row i) still_2;
+      idle = λ other line begin p h o i. (let z = line-done (history b31) (history b31) done_o2 line begin o.began in let y = o.unclosed in absurd (let q : true ≡ false = sym z ∙ y in cc));
+      number = 20;
+      message = (record { version = 2; receiver = 1; body = (plain.Delete lane 4); round = 0 });
+      was_sent = refl;
+      receiver = refl;
+      version = refl;
+      body = refl;
+      reply = plain.Answer (content b29 ([])) (names ([]));
+      replied = refl;
+      ending = refl;
+      back = refl;
+    },
+  )
 
   placed_b32 : Placed setting b31 (event.Decided 0 2 (choice.DeleteOver lane 1))
   placed_b32 = (owns2 b31 refl, tt)

@@ -1,33 +1,24 @@
 -- Wrong steps are refused.
-use Rattle.std.proofs.Common.{◌≡◌, ◌≢◌, ◌↔◌, ℕ, ◌^◌, ◌<◌, ◌≤◌, Bool, true, false, cond, List, [], ◌∷◌, Option, Some, None, refl, sym, ap, ◌∙◌, subst, subst₂, arith, inl, inr, ◌⊎◌, eqb, ltb, eq-eqb, zero, suc}
-use Rattle.std.proofs.lemmas.Bool.{eqb-true, cases_lt}
-use Rattle.std.proofs.lemmas.Bool.Decides.{nat_tests}
+use Rattle.std.proofs.Common.{◌≡◌, ◌≢◌, ℕ, Bool, true, false, cond, List, [], ◌∷◌, Option, Some, None, refl, sym, ◌∙◌, subst, arith, inl, inr, eqb, eq-eqb}
 use Rattle.lane_journals.specs.Sets.{count_below, count, AtLeast}
-use Rattle.lane_journals.specs.Stamps.{Stamp, Le, newer, is_older, same_stamp}
-use Rattle.lane_journals.specs.Buckets.{Bucket, contains, same_bucket, covers, meets, first_child, second_child, across, Id, same_id, key_of}
+use Rattle.lane_journals.specs.Stamps.{Stamp, Le, same_stamp}
+use Rattle.lane_journals.specs.Buckets.{Bucket, contains, same_bucket, Id, key_of}
 use Rattle.lane_journals.specs.Events as plain
-use Rattle.lane_journals.specs.Readers.{Journal, Beginning, began, Preparing, prepared, closed, round_of, running, Message, sent, first_reply, store, acceptable, holds, Given, answer, answered_store, complete, active, deleting}
-use Rattle.lane_journals.specs.Facts.{Shown, AnsweredApply, AnsweredAsk, AnsweredReady, IsRow, IsMember, Idle}
+use Rattle.lane_journals.specs.Readers.{Beginning, began, Preparing, round_of, Given, answer, answered_store, complete}
+use Rattle.lane_journals.specs.Facts.{AnsweredApply, IsRow}
 use Rattle.lane_journals.specs.Legal.{MayAck, Keeper, MayShow, MayUnite, IsQuiet, Permits}
-use Rattle.lane_journals.specs.Pieces.{NodePiece, pieces, Takes}
 use Rattle.lane_journals.specs.States.{state_of, LegalByStates}
 use Rattle.lane_journals.specs.Meanings.{nodes, content, names, meaning, history}
-use Rattle.lane_journals.specs.Naming.{NamesShown, PiecesShown, WellNoted}
-use Rattle.lane_journals.specs.Places.{Placed}
-use Rattle.lane_journals.specs.Endings.{Ended}
-use Rattle.lane_journals.specs.KeptJournals.{IsLegal}
-use Rattle.lane_journals.specs.Lives.{asked_one, opened_one, united_one, life_one, lane, setting, state_one, state_two, stamp_one, stamp_two, stamp_three}
+use Rattle.lane_journals.specs.Lives.{asked_one, opened_one, united_one, life_one, lane, setting, stamp_one}
 use Rattle.lane_journals.specs.declared.noted.NotedBody.TheVariants as body
 use Rattle.lane_journals.specs.declared.noted.NotedReply.TheVariants as reply
 use Rattle.lane_journals.specs.declared.decision.Decision.TheVariants as choice
 use Rattle.lane_journals.specs.declared.outcome.Outcome.TheVariants as outcome
 use Rattle.lane_journals.specs.declared.event.LaneEvent.{LaneEvent}
 use Rattle.lane_journals.specs.declared.event.LaneEvent.TheVariants as event
-use Rattle.lane_journals.proofs.Order.{Le_refl, Le_none}
-use Rattle.lane_journals.proofs.Ids.{same_id-refl, same_id-true}
-use Rattle.lane_journals.proofs.BucketLaws.{children_apart, first_in, second_in}
-use Rattle.lane_journals.proofs.Walking.{each-sent, EachSent, NumbersBelow, numbers, NotOf, unapplied, GoesTo, applied-to, NotLook, unasked, NotStore, unstored, LinesDone, line-done, idle-done, EachReply, NotNamed, unnamed-yet, NamesOnly}
-use Rattle.lane_journals.proofs.LifeFacts.{some_same, same_read, same_test, two_1, two_2, both_two, one_first, has_both_0, has_both_1, has_one_0, enough_3, enough_1, only_0, only_1, is_0, is_1, owns1, owns2, one_row, one_name, nothing_joined, small_1, small_2, receive_both, receive_one, shows_one, firstC, secondC}
+use Rattle.lane_journals.proofs.Order.{Le_none}
+use Rattle.lane_journals.proofs.Walking.{each-sent, EachSent, NumbersBelow, numbers, NotOf, unapplied, GoesTo, applied-to, NotLook, unasked, NotStore, unstored, LinesDone, line-done, idle-done, EachReply, NotNamed, unnamed-yet}
+use Rattle.lane_journals.proofs.LifeFacts.{some_same, same_read, same_test, two_1, both_two, has_both_0, has_both_1, enough_3, only_0, is_0, nothing_joined}
 use Rattle.lane_journals.specs.WrongSteps.{IsRefused, opened_early, state_small, incomplete_read, activated_twice, acked_without_active, deleting_keeper}
 use Rattle.lane_journals.proofs.Counts.{AtLeast-some}
 use Rattle.lane_journals.proofs.LifeOne.{live_a5, live_a9, live_a23, live_a45}
@@ -40,9 +31,12 @@ module _ (id : Id) (inside : contains lane (key_of id) ≡ true) where
   early_sends = (refl, tt)
 
   pub early : IsRefused 1 asked_one opened_early
-  early = (by-states setting asked_one (live_a5 id inside), λ l. (let a = (l.1).all 1 refl in
-      let x = each-sent (λ m. eqb m.receiver 1 ≡ false) (history asked_one) early_sends a.number a.message a.was_sent in
-      let y = eq-eqb (a.message).receiver 1 a.receiver in absurd (let z : true ≡ false = sym y ∙ x in cc)))
+  early = (
+    by-states setting asked_one (live_a5 id inside),
+    λ l. (let a = (l.1).all 1 refl in
+        let x = each-sent (λ m. eqb m.receiver 1 ≡ false) (history asked_one) early_sends a.number a.message a.was_sent in
+        let y = eq-eqb (a.message).receiver 1 a.receiver in absurd (let z : true ≡ false = sym y ∙ x in cc)),
+  )
 
   -- ---- a state that leaves out too many
 
@@ -83,7 +77,7 @@ module _ (id : Id) (inside : contains lane (key_of id) ≡ true) where
   done_x1 = tt
 
   quiet_x1 : IsQuiet 1 lane (history united_one)
-  unfolding same_stamp same_bucket 
+  unfolding same_stamp same_bucket
   quiet_x1 = record { row = row_x1; no_round = refl; idle = idle-done (history united_one) done_x1 1 lane }
 
   abbrev d1 : List LaneEvent
@@ -198,7 +192,7 @@ module _ (id : Id) (inside : contains lane (key_of id) ≡ true) where
   done_z1 = tt
 
   quiet_z1 : IsQuiet 1 lane (history united_one)
-  unfolding same_stamp same_bucket 
+  unfolding same_stamp same_bucket
   quiet_z1 = record { row = row_z1; no_round = refl; idle = idle-done (history united_one) done_z1 1 lane }
 
   abbrev f1 : List LaneEvent
@@ -417,7 +411,7 @@ module _ (id : Id) (inside : contains lane (key_of id) ≡ true) where
   done_z3 = tt
 
   quiet_z3 : IsQuiet 1 lane (history f14)
-  unfolding same_stamp same_bucket 
+  unfolding same_stamp same_bucket
   quiet_z3 = record { row = row_z3; no_round = refl; idle = idle-done (history f14) done_z3 1 lane }
 
   took_9 : AnsweredApply 1 (round_of 1 lane (history f14)) 0 lane (history f14)
@@ -439,8 +433,11 @@ module _ (id : Id) (inside : contains lane (key_of id) ≡ true) where
   legal_f15 = (legal_f14, may_f15)
 
   pub unmarked : IsRefused 1 deleting_keeper (event.Decided 0 1 (choice.DeleteFrom lane 0 1))
-  unmarked = (legal_f15, λ l. (let k = AtLeast-some 1 _ (omega arith) (l.1.1).keepers in
-      let m : complete 1 k.0 (key_of id) (history f15) ≡ true = (k.1).member (key_of id) inside in no_keeper k.0 (k.1).other (rw inside at m)))
+  unmarked = (
+    legal_f15,
+    λ l. (let k = AtLeast-some 1 _ (omega arith) (l.1.1).keepers in
+        let m : complete 1 k.0 (key_of id) (history f15) ≡ true = (k.1).member (key_of id) inside in no_keeper k.0 (k.1).other (rw inside at m)),
+  )
     where
       no_keeper : (m : ℕ) → m ≢ 0 → cond (eqb 1 m) false (cond (nodes 3 m) true (cond (nodes 3 m) true false)) ≡ true → ⊥
       no_keeper m other h = by_tests (eqb 1 m) (nodes 3 m) refl refl h
