@@ -18,7 +18,8 @@ pub fn versions_below()
     ensures law { InAll VersionsStandAlone }
     ensures found { InAll (λ acks P J. IsFound P J) }
     ensures kept { (S : Setting) (J : List LaneEvent) → IsLegal S J → (v : ℕ) → IsLegal S (kept_below v J) }
-    ensures means { (S : Setting) (J : List LaneEvent) → IsLegal S J → (v : ℕ) → history (kept_below v J) ≡ below v (history J) }
+    ensures means { (S : Setting) (J : List LaneEvent) → IsLegal S J → (v : ℕ)
+        → history (kept_below v J) ≡ below v (history J) }
 {}
 
 /// The durability theorem: what was acknowledged, or something newer, is in enough node stores; an

@@ -29,10 +29,14 @@ pub fn rows_say_what_is_read()
     ensures members { OfLegal (λ acks P J. (v n key : ℕ) → complete v n key J ≡ member_of n (row_with key (rows v J))) }
     ensures actives { OfLegal (λ acks P J. (v key : ℕ) → active v key J ≡ active_of (row_with key (rows v J))) }
     ensures deletes { OfLegal (λ acks P J. (v key : ℕ) → deleting v key J ≡ delete_of (row_with key (rows v J))) }
-    ensures is_row { OfLegal (λ acks P J. (v : ℕ) (r : Row) → IsIn r (rows v J) → (key : ℕ) → contains r.bucket key ≡ true → row_with key (rows v J) ≡ Some r) }
-    ensures listed { OfLegal (λ acks P J. (v : ℕ) (r : Row) → opened v J ≡ true → (r.bucket).low < 2 ^ (r.bucket).bits → IsIn r (rows v J) → IsRow v r.bucket J) }
-    ensures marks { OfLegal (λ acks P J. (v n : ℕ) (r : Row) → IsIn r (rows v J) → (key : ℕ) → contains r.bucket key ≡ true → complete v n key J ≡ r.members n) }
-    ensures found { OfLegal (λ acks P J. (v : ℕ) (b : Bucket) (key : ℕ) → IsRow v b J → contains b key ≡ true → (r : Row) × (row_with key (rows v J) ≡ Some r) × (r.bucket ≡ b)) }
+    ensures is_row { OfLegal (λ acks P J. (v : ℕ) (r : Row) → IsIn r (rows v J)
+        → (key : ℕ) → contains r.bucket key ≡ true → row_with key (rows v J) ≡ Some r) }
+    ensures listed { OfLegal (λ acks P J. (v : ℕ) (r : Row) → opened v J ≡ true → (r.bucket).low < 2 ^ (r.bucket).bits
+        → IsIn r (rows v J) → IsRow v r.bucket J) }
+    ensures marks { OfLegal (λ acks P J. (v n : ℕ) (r : Row) → IsIn r (rows v J)
+        → (key : ℕ) → contains r.bucket key ≡ true → complete v n key J ≡ r.members n) }
+    ensures found { OfLegal (λ acks P J. (v : ℕ) (b : Bucket) (key : ℕ) → IsRow v b J → contains b key ≡ true
+        → (r : Row) × (row_with key (rows v J) ≡ Some r) × (r.bucket ≡ b)) }
     ensures over { OfLegal (λ acks P J. (n key : ℕ) → holds n key J ≡ any_contains key (pieces n J)) }
 {}
 
@@ -42,9 +46,12 @@ pub fn rows_say_what_is_read()
 pub fn states_are_published()
     ensures states { (acks : ℕ) (J : Journal) → LegalByStates acks J → Legal acks (state_of J) J }
     ensures given { OfLegal (λ acks P J. (v n : ℕ) → published v J ≡ true → state_of J v n ≡ P v n) }
-    ensures accepted { (S : Setting) (J : List LaneEvent) → IsLegal S J → 1 ≤ S.acks → (s : ClusterState) → length s.nodes ≤ 32 → publish_fault (told S J) s ≡ None → IsLegalStep S J (Published s) }
-    ensures refused { (S : Setting) (J : List LaneEvent) → IsLegal S J → (s : ClusterState) → IsLegalStep S J (Published s) → publish_fault (told S J) s ≡ room_fault (published_states J) }
-    ensures serve { (S : Setting) (J : List LaneEvent) → IsLegal S J → (v n : ℕ) (s : ClusterState) → state_in v J ≡ Some s → state_of (history J) v n ≡ serves s n }
+    ensures accepted { (S : Setting) (J : List LaneEvent) → IsLegal S J → 1 ≤ S.acks
+        → (s : ClusterState) → length s.nodes ≤ 32 → publish_fault (told S J) s ≡ None → IsLegalStep S J (Published s) }
+    ensures refused { (S : Setting) (J : List LaneEvent) → IsLegal S J → (s : ClusterState) → IsLegalStep S J (Published s)
+        → publish_fault (told S J) s ≡ room_fault (published_states J) }
+    ensures serve { (S : Setting) (J : List LaneEvent) → IsLegal S J → (v n : ℕ) (s : ClusterState) → state_in v J ≡ Some s
+        → state_of (history J) v n ≡ serves s n }
 {}
 
 /// A legal journal as it is kept, with entries named by their stamps, means a legal journal: so all laws of
@@ -60,7 +67,8 @@ pub fn a_lane_may_live()
     ensures legal { OfDocuments (λ id. IsLegal setting (life id)) }
     ensures kept { OfDocuments (λ id. store 0 id (history (life id)) ≡ Some stamp_three) }
     ensures emptied { OfDocuments (λ id. store 1 id (history (life id)) ≡ None) }
-    ensures documents { (id : Id) (number : ℕ) → number_of id ≡ Some number → number % 2 ≡ 0 → contains lane (key_of id) ≡ true }
+    ensures documents { (id : Id) (number : ℕ) → number_of id ≡ Some number → number % 2 ≡ 0
+        → contains lane (key_of id) ≡ true }
 {}
 
 /// Six wrong steps, each after a legal journal, make it one that isn't legal: an opening before all nodes
