@@ -5,7 +5,7 @@ use Rattle.lane_journals.specs.Sets.{count_below, count, AtLeast}
 use Rattle.lane_journals.specs.Stamps.{Le, newer, is_older, same_stamp}
 use Rattle.lane_journals.specs.Buckets.{Bucket, contains, same_bucket, covers, meets, first_child, second_child, Id, same_id, key_of}
 use Rattle.lane_journals.specs.Events as plain
-use Rattle.lane_journals.specs.Readers.{round_of, running, Message, store, acceptable, Given, answer, answered_store, active}
+use Rattle.lane_journals.specs.Readers.{Acked, round_of, running, Message, store, acceptable, Given, answer, answered_store, active}
 use Rattle.lane_journals.specs.Facts.{AnsweredApply, AnsweredAsk, IsRow}
 use Rattle.lane_journals.specs.Legal.{Keeper, MayShow, MayUnite, IsQuiet, Permits}
 use Rattle.lane_journals.specs.Pieces.{pieces, Takes}
@@ -760,3 +760,9 @@ module _ (id : Id) (inside : contains lane (key_of id) ≡ true) where
   pub emptied : store 1 id (history b39) ≡ None
   unfolding same_stamp newer is_older
   emptied = rw (same_id-refl id, inside) refl
+
+  pub acked_one : Acked 1 id stamp_two (history b39)
+  acked_one = inr (inl (refl, refl, refl))
+
+  pub acked_two : Acked 2 id stamp_three (history b39)
+  acked_two = inl (refl, refl, refl)

@@ -10,14 +10,14 @@ ghost use Rattle.lane_journals.specs.States.{state_of, LegalByStates};
 ghost use Rattle.lane_journals.specs.Meanings.{history};
 ghost use Rattle.lane_journals.specs.Places.{Setting, state_in, published_states, told};
 ghost use Rattle.lane_journals.specs.KeptJournals.{IsLegalStep, IsLegal};
-ghost use Rattle.lane_journals.specs.Lives.{OfDocuments, lane, setting, stamp_three, asked_one, life_one, life};
+ghost use Rattle.lane_journals.specs.Lives.{OfDocuments, lane, setting, stamp_two, stamp_three, asked_one, life_one, life};
 ghost use Rattle.lane_journals.specs.WrongSteps.{IsRefused, opened_early, state_small, incomplete_read, activated_twice, acked_without_active, deleting_keeper};
 ghost use Rattle.lane_journals.specs.declared.outcome.Outcome.TheVariants.{Acked};
 ghost use Rattle.lane_journals.specs.declared.decision.Decision.TheVariants.{ActiveOn, DeleteFrom};
 ghost use Rattle.lane_journals.specs.declared.event.LaneEvent.TheVariants.{Published, Prepared, Closed, Decided};
 ghost use Rattle.lane_journals.specs.Lives.{stamp_one};
 ghost use Rattle.lane_journals.specs.declared.event.LaneEvent.{LaneEvent};
-ghost use Rattle.lane_journals.specs.Readers.{Journal, published, opened, row_at, store, complete, active, deleting, holds};
+ghost use Rattle.lane_journals.specs.Readers.{Journal, published, opened, row_at, store, complete, active, deleting, holds, Acked as IsAcked};
 ghost use Rattle.lane_journals.specs.Pieces.{any_contains, pieces};
 ghost use Rattle.lane_journals.specs.RowLists.{Row, rows, row_with, bucket_of, member_of, active_of, delete_of, IsIn};
 ghost use Rattle.lane_journals.specs.Legal.{Legal, OfLegal};
@@ -65,6 +65,8 @@ pub fn kept_journals_mean_legal_ones()
 /// node, and an acknowledged write under each state; the last is kept where the first was found.
 pub fn a_lane_may_live()
     ensures legal { OfDocuments (λ id. IsLegal setting (life id)) }
+    ensures acked_one { OfDocuments (λ id. IsAcked 1 id stamp_two (history (life id))) }
+    ensures acked_two { OfDocuments (λ id. IsAcked 2 id stamp_three (history (life id))) }
     ensures kept { OfDocuments (λ id. store 0 id (history (life id)) ≡ Some stamp_three) }
     ensures emptied { OfDocuments (λ id. store 1 id (history (life id)) ≡ None) }
     ensures documents { (id : Id) (number : ℕ) → number_of id ≡ Some number → number % 2 ≡ 0
