@@ -51,6 +51,7 @@ fn each_call_of_an_end_may_fail(rt: HostRuntime) -> anyhow::Result<()> {
         let words = vec![in rt.alloc(); String::from_str(rt.alloc(), "vespa_cell")?]?;
         let status = run_one(rt.alloc(), &words, &mut source, &mut sink, &mut cluster);
         assert_eq!(rt; status, wanted, "at {read:?} and {write:?}");
+        assert!(rt; !sink.wants());
         let mut output = String::new(rt.alloc());
         if reports > 0 {
             output.push_str(FIRST)?;

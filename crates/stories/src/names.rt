@@ -164,6 +164,7 @@ fn buckets_have_their_kin(rt: HostRuntime) {
     assert_eq!(rt; second.parent(), lane);
     assert_eq!(rt; second.sibling(), first);
     assert_eq!(rt; lane.measure(), 1 << 54);
+    assert!(rt; lane.contains(21) && !lane.contains(22) && !lane.contains((1 << 58) + 5));
     assert!(rt; lane.covers(second) && !second.covers(lane) && lane.covers(lane));
     assert_eq!(rt; lane.run(), (0xa000_0000_0000_0000, 0xafff_ffff_ffff_ffff));
     assert_eq!(rt; bucket_ids::path_of(5), 0xa000_0000_0000_0000);
@@ -178,6 +179,11 @@ fn stamps_are_printed(rt: HostRuntime) -> anyhow::Result<()> {
     let text = stamp.next().print(rt.alloc())?;
     assert_eq!(rt; text.as_str(), "4294967295:18446744073709551615");
     assert!(rt; stamp.is_before(stamp.next()) && !stamp.is_before(stamp));
+    let of_an_earlier_version = Stamp {
+        version: 1,
+        count: 18446744073709551615,
+    };
+    assert!(rt; of_an_earlier_version < stamp && stamp < stamp.next() && stamp <= stamp);
     Ok(())
 }
 
