@@ -1,16 +1,16 @@
 -- What the journal below a version says of states, answers to Asks, and what a line read.
-use Rattle.std.proofs.Common.{◌≡◌, ℕ, ◌<◌, ◌≤◌, Bool, true, false, cond, [], ◌∷◌, Option, Some, None, refl, sym, ap, ◌∙◌, subst, arith, inl, inr, eqb}
-use Rattle.std.proofs.lemmas.Bool.{eqb-true}
+use Rattle.std.proofs.Common.{◌≡◌, ℕ, ◌<◌, ◌≤◌, Bool, true, false, cond, [], ◌∷◌, Option, Some, None, refl, sym, ap, ◌∙◌, subst, arith, inl, inr}
 use Rattle.std.proofs.lemmas.Bool.Decides.{nat_tests}
 use Rattle.lane_journals.specs.Stamps.{Stamp}
 use Rattle.lane_journals.specs.Buckets.{Bucket, Id}
-use Rattle.lane_journals.specs.Events.{Content, ReadDoc, Reply, Answer, Newer, NoBucket, Differs, NoMemory, Event, Returned}
-use Rattle.lane_journals.specs.Readers.{Journal, or_else, Beginning, began, Message, sent, first_reply, is_ask, given_by, Given, asked_of, asked}
+use Rattle.lane_journals.specs.Events.{Content, ReadDoc, Reply, Answer, Event, Returned}
+use Rattle.lane_journals.specs.Readers.{Journal, or_else, Beginning, began, Message, sent, first_reply, Given, asked_of, asked}
 use Rattle.lane_journals.specs.Facts.{AnsweredAsk, AnsweredReady, ReadAt, ReadBack}
 use Rattle.lane_journals.specs.Legal.{MayDeliver, MayAnswer, Legal}
 use Rattle.lane_journals.specs.States.{state_of}
 use Rattle.lane_journals.specs.Below.{keeps_return, kept, below}
 use Rattle.lane_journals.proofs.Basics.{first_reply-cases, sent_before, replied-sent}
+use Rattle.lane_journals.proofs.Serials.{asked-parts}
 use Rattle.lane_durability.proofs.Below.{lt-true, same_below}
 use Rattle.lane_durability.proofs.BelowLines.{some-none, sent-back, sent-below}
 use Rattle.lane_durability.proofs.BelowReaders.{returned-back, returned-below}
@@ -27,24 +27,6 @@ module _ (v w : ℕ) (lt : w < v) where
   -- the nodes of a version
   pub state-below : (J : Journal) (n : ℕ) → state_of (below v J) w n ≡ state_of J w n
   state-below = same_below v (λ J n. state_of J w n) state-congr state-skip
-
-asked-parts : (w n : ℕ) (m : Option Message) (y : Option Reply) (g : Given) → asked_of w n m y ≡ Some g → (x : Message) × (m ≡ Some x) × (x.version ≡ w) × (y ≡ Some (Answer g.content g.names))
-asked-parts w n None y g h = cc
-asked-parts w n (Some m) None g h = cc
-asked-parts w n (Some m) (Some y) g h = by_tests (is_ask m.body) (eqb m.version w) (eqb m.receiver n) refl h
-  where
-    giving : (y : Reply) → given_by y ≡ Some g → ◌≡◌ {A = Option Reply} (Some y) (Some (Answer g.content g.names))
-    giving (Answer x names) f = let same : record { content = x; names = names } ≡ g = cc in ap (λ (z : Given). Some (Answer z.content z.names)) same
-    giving (Newer k) f = cc
-    giving NoBucket f = cc
-    giving Differs f = cc
-    giving NoMemory f = cc
-
-    by_tests : (a b c : Bool) → eqb m.version w ≡ b → cond a (cond b (cond c (given_by y) None) None) None ≡ Some g → (x : Message) × (◌≡◌ {A = Option Message} (Some m) (Some x)) × (x.version ≡ w) × (◌≡◌ {A = Option Reply} (Some y) (Some (Answer g.content g.names)))
-    by_tests true true true e h = (m, refl, eqb-true m.version w e, giving y h)
-    by_tests true true false e h = cc
-    by_tests true false c e h = cc
-    by_tests false b c e h = cc
 
 module _ (acks : ℕ) (P : ℕ → ℕ → Bool) (v : ℕ) where
   -- ---- answers to Asks

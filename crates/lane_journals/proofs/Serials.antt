@@ -5,7 +5,7 @@ use Rattle.std.proofs.lemmas.Bool.Decides.{nat_tests}
 use Rattle.lane_journals.specs.Stamps.{Stamp, newer}
 use Rattle.lane_journals.specs.Buckets.{Bucket, contains, Id, same_id, key_of}
 use Rattle.lane_journals.specs.Events.{Body, Ask, Read, ReadDoc, Store, Apply, Delete, Reply, Answer, Newer, NoBucket, Differs, NoMemory, Event, Delivered, Returned}
-use Rattle.lane_journals.specs.Readers.{Journal, Message, sent, first_reply, version, after_body, store, still, acceptable, has_piece, holds, Given, is_read, given_by, answer_of, answer}
+use Rattle.lane_journals.specs.Readers.{Journal, Message, sent, first_reply, version, after_body, store, still, acceptable, has_piece, holds, Given, is_read, is_ask, given_by, asked_of, answer_of, answer}
 use Rattle.lane_journals.specs.Facts.{Shown}
 use Rattle.lane_journals.specs.Legal.{MayShow, MayAnswer, MayDeliver, Permits, Legal}
 use Rattle.lane_journals.specs.Pieces.{pieces_after, Takes}
@@ -191,6 +191,22 @@ pub record Parts (v r n : ℕ) (m : Option Message) (y : Option Reply) (g : Give
   pub body : message.body ≡ Read bucket
   pub reply : y ≡ Some (Answer g.content g.names)
 
+giving : (g : Given) (y : Reply) → given_by y ≡ Some g → y ≡ Answer g.content g.names
+giving g (Answer x names) f = let same : record { content = x; names = names } ≡ g = cc in ap (λ (z : Given). Answer z.content z.names) same
+giving g _ f = cc
+
+-- an answer to an Ask of the version
+pub asked-parts : (v n : ℕ) (m : Option Message) (y : Option Reply) (g : Given) → asked_of v n m y ≡ Some g → (x : Message) × (m ≡ Some x) × (x.version ≡ v) × (y ≡ Some (Answer g.content g.names))
+asked-parts v n None y g h = cc
+asked-parts v n (Some m) None g h = cc
+asked-parts v n (Some m) (Some y) g h = by_tests (is_ask m.body) (eqb m.version v) (eqb m.receiver n) refl h
+  where
+    by_tests : (a b c : Bool) → eqb m.version v ≡ b → cond a (cond b (cond c (given_by y) None) None) None ≡ Some g → (x : Message) × (◌≡◌ {A = Option Message} (Some m) (Some x)) × (x.version ≡ v) × (◌≡◌ {A = Option Reply} (Some y) (Some (Answer g.content g.names)))
+    by_tests true true true e h = (m, refl, eqb-true m.version v e, ap (λ (z : Reply). Some z) (giving g y h))
+    by_tests true true false e h = cc
+    by_tests true false c e h = cc
+    by_tests false b c e h = cc
+
 pub answer_of-parts : (v r n : ℕ) (m : Option Message) (y : Option Reply) (g : Given) → answer_of v r n m y ≡ Some g → Parts v r n m y g
 answer_of-parts v r n None y g h = cc
 answer_of-parts v r n (Some m) None g h = cc
@@ -200,12 +216,8 @@ answer_of-parts v r n (Some m) (Some y) g h = by_case (is_read m.body) (eqb m.ve
     reading (Read c) e = (c, refl)
     reading _ e = cc
 
-    giving : (y : Reply) → given_by y ≡ Some g → y ≡ Answer g.content g.names
-    giving (Answer x names) f = let same : record { content = x; names = names } ≡ g = cc in ap (λ (z : Given). Answer z.content z.names) same
-    giving _ f = cc
-
     by_case : (t a b c : Bool) → is_read m.body ≡ t → eqb m.version v ≡ a → eqb m.round r ≡ b → eqb m.receiver n ≡ c → cond t (cond a (cond b (cond c (given_by y) None) None) None) None ≡ Some g → Parts v r n (Some m) (Some y) g
-    by_case true true true true e f i j h = record { message = m; is_message = refl; version = eqb-true _ _ f; round = eqb-true _ _ i; receiver = eqb-true _ _ j; bucket = (reading m.body e).0; body = (reading m.body e).1; reply = ap (λ (z : Reply). Some z) (giving y h) }
+    by_case true true true true e f i j h = record { message = m; is_message = refl; version = eqb-true _ _ f; round = eqb-true _ _ i; receiver = eqb-true _ _ j; bucket = (reading m.body e).0; body = (reading m.body e).1; reply = ap (λ (z : Reply). Some z) (giving g y h) }
     by_case true true true false e f i j h = cc
     by_case true true false c e f i j h = cc
     by_case true false b c e f i j h = cc

@@ -4,9 +4,10 @@ use Rattle.std.proofs.lemmas.Bool.{eqb-true}
 use Rattle.std.specs.Prelude.{Contains}
 use Rattle.lane_journals.specs.Stamps.{Stamp}
 use Rattle.lane_journals.specs.Buckets.{Id, Bucket}
-use Rattle.lane_journals.specs.Events.{Content, Body, Read, ReadDoc, Apply, Reply, Answer, Newer, NoBucket, Differs, NoMemory, Begun, Sent, Delivered, Returned}
-use Rattle.lane_journals.specs.Readers.{Journal, Beginning, began, closed, Message, round_in, sent, first_reply, is_read, is_ask, given_by, Given, asked_of, asked, is_store, answers, stored_by, answered_store}
+use Rattle.lane_journals.specs.Events.{Content, Body, Read, ReadDoc, Apply, Reply, Answer, Begun, Sent, Delivered, Returned}
+use Rattle.lane_journals.specs.Readers.{Journal, Beginning, began, closed, Message, round_in, sent, first_reply, is_read, Given, asked, is_store, answers, stored_by, answered_store}
 use Rattle.lane_journals.specs.Facts.{Shown, Applied, AnsweredApply, Idle, WasAsked}
+use Rattle.lane_journals.proofs.Serials.{asked-parts}
 use Rattle.lane_journals.proofs.Basics.{or_else-cases, only_if-some}
 
 -- ---- each message
@@ -136,30 +137,12 @@ abbrev pub NamesOnly : Bucket → ℕ → Reply → Type 0
 NamesOnly b k (Answer x names) = (c : Bucket) (s : ℕ) → names c s ≡ true → c ≡ b
 NamesOnly b k _ = Unit {0}
 
-asked-reply : (v n : ℕ) (m : Option Message) (y : Option Reply) (g : Given) → asked_of v n m y ≡ Some g → y ≡ Some (Answer g.content g.names)
-asked-reply v n None y g h = cc
-asked-reply v n (Some m) None g h = cc
-asked-reply v n (Some m) (Some y) g h = by_tests (is_ask m.body) (eqb m.version v) (eqb m.receiver n) h
-  where
-    giving : (y : Reply) → given_by y ≡ Some g → ◌≡◌ {A = Option Reply} (Some y) (Some (Answer g.content g.names))
-    giving (Answer x names) f = let same : record { content = x; names = names } ≡ g = cc in ap (λ (z : Given). Some (Answer z.content z.names)) same
-    giving (Newer w) f = cc
-    giving NoBucket f = cc
-    giving Differs f = cc
-    giving NoMemory f = cc
-
-    by_tests : (a b c : Bool) → cond a (cond b (cond c (given_by y) None) None) None ≡ Some g → ◌≡◌ {A = Option Reply} (Some y) (Some (Answer g.content g.names))
-    by_tests true true true h = giving y h
-    by_tests true true false h = cc
-    by_tests true false c h = cc
-    by_tests false b c h = cc
-
 -- so does what a node answered to an Ask
 pub asked-only : (b : Bucket) (v n : ℕ) (J : Journal) → EachReply (NamesOnly b) J → (g : Given) → asked v n J ≡ Some g → (c : Bucket) (s : ℕ) → g.names c s ≡ true → c ≡ b
 asked-only b v n [] q g h c s named = cc
 asked-only b v n (Returned k ∷ J) q g h c s named = elim (or_else-cases (asked v n J) _ g h) [
   | inl old ↦ asked-only b v n J q g old c s named
-  | inr new ↦ each-reply (NamesOnly b) J q k (Answer g.content g.names) (asked-reply v n (sent k J) (first_reply k J) g new.1) c s named
+  | inr new ↦ each-reply (NamesOnly b) J q k (Answer g.content g.names) (asked-parts v n (sent k J) (first_reply k J) g new.1).3 c s named
 ]
 asked-only b v n (Delivered k r ∷ J) q g h c s named = asked-only b v n J q.1 g h c s named
 asked-only b v n (_ ∷ J) q g h c s named = asked-only b v n J q g h c s named
