@@ -284,7 +284,7 @@ module _ (acks : ℕ) (P : ℕ → ℕ → Bool) (some : 1 ≤ acks) where
       let is_v : (a.message).version ≡ v = let p = a.raises in let q = a.low in omega arith in
       record { round = d.round; from = subst (λ (i : ℕ). DeletedFrom i x.bucket x.node x.serial d.round J) is_v d.from; ok = d.ok }
 
-  -- ---- somewhere in P(v)
+  -- ---- somewhere among the nodes of v
 
   covers-close : (J : Journal) (v : ℕ) (id : Id) (line : ℕ) (x : Option Stamp) → Legal acks P J → opened v J ≡ true → Covers v id J x → (b : Beginning) (s : Stamp) → began line J ≡ Some b → b.stamp ≡ Some s → Within id J (Some s) x → Covers v id (Closed line true ∷ J) x
   covers-close J v id line x l o c b s f st le = record {

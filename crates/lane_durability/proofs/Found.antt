@@ -44,7 +44,7 @@ module _ (acks : ℕ) (P : ℕ → ℕ → Bool) where
         subst (λ (y : Event). known v n (y ∷ J) ≡ true) (sym new.1) (known-now v w n new.0 J le (q.nodes n ∙ p)))
   ]
 
-  -- fewer than acks known nodes are outside P(v)
+  -- fewer than acks known nodes are outside the nodes of v
   pub state-few : (J : Journal) → Legal acks P J → (v : ℕ) → published v J ≡ true → count (both (λ n. known v n J) (outside (P v))) < acks
   state-few [] l v h = cc
   state-few (e ∷ J) l v h = elim (published-cases v J e h) [

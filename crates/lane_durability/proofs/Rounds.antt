@@ -38,7 +38,7 @@ pub unite-gives : (P : ℕ → ℕ → Bool) (J : Journal) (v n : ℕ) (b : Buck
 unite-gives P J v n b u c id x le = le
 
 module _ (acks : ℕ) (P : ℕ → ℕ → Bool) where
-  -- before a union was sent all of P(v) answered, and it covers their answers
+  -- before a union was sent all nodes of v answered, and it covers their answers
   pub applied-answers : (J : Journal) → Legal acks P J → (v r n : ℕ) (b : Bucket) (u : Content) → Applied v r n b u J → (m : ℕ) → P v m ≡ true → (g : Given) × (answer v r m J ≡ Some g) × ((id : Id) → Gives v r n b u id (g.content id) J)
   applied-answers [] l v r n b u a m h = let z = a.was_sent in cc
   applied-answers (e ∷ J) l v r n b u a m h = elim (applied-cases v r n b u J e a) [
