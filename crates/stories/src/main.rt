@@ -7,6 +7,8 @@ mod documents;
 #[cfg(test)]
 mod faults;
 #[cfg(test)]
+mod large_maps;
+#[cfg(test)]
 mod lines;
 #[cfg(test)]
 mod maps;

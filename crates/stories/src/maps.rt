@@ -18,7 +18,7 @@ pub fn titled(alloc: Global, id: &DocId, title: &str) -> anyhow::Result<Document
 }
 
 /// An entry of a stamp of version 1; without a title it is a remove.
-fn entry(alloc: Global, id: &str, count: u64, title: Option<&str>) -> anyhow::Result<Entry> {
+pub fn entry(alloc: Global, id: &str, count: u64, title: Option<&str>) -> anyhow::Result<Entry> {
     let id = DocId::parse(alloc, id)?;
     let body = match title {
         Some(title) => Some(titled(alloc, &id, title)?),
@@ -31,7 +31,7 @@ fn entry(alloc: Global, id: &str, count: u64, title: Option<&str>) -> anyhow::Re
     })
 }
 
-fn map_of(alloc: Global, entries: &[(&str, u64, Option<&str>)]) -> anyhow::Result<EntryMap> {
+pub fn map_of(alloc: Global, entries: &[(&str, u64, Option<&str>)]) -> anyhow::Result<EntryMap> {
     let mut map = EntryMap::new(alloc);
     for (id, count, title) in entries {
         map.put(entry(alloc, id, *count, *title)?)?;
@@ -40,7 +40,7 @@ fn map_of(alloc: Global, entries: &[(&str, u64, Option<&str>)]) -> anyhow::Resul
 }
 
 /// The count of the stamp of a document's entry; 0 where it has none.
-fn count_of(alloc: Global, map: &EntryMap, id: &str) -> anyhow::Result<u64> {
+pub fn count_of(alloc: Global, map: &EntryMap, id: &str) -> anyhow::Result<u64> {
     match map.get(&DocId::parse(alloc, id)?) {
         Some(entry) => Ok(entry.stamp.count),
         None => Ok(0),
