@@ -21,8 +21,6 @@ mod parts;
 mod reader;
 pub mod selection;
 pub mod terms;
-#[cfg(test)]
-mod texts;
 mod truth;
 
 pub use selection::{Selection, SelectionFault};

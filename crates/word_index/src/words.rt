@@ -66,23 +66,3 @@ pub fn tokens_of_bytes(alloc: Global, bytes: &[u8]) -> Result<TextList, NoMemory
     }
     Ok(TextList::of(words.close()?))
 }
-
-#[test]
-fn tokens_are_runs_of_letters_and_digits(rt: HostRuntime) {
-    let cases = [
-        ("A-b 1", "a,b,1,"),
-        ("", ""),
-        ("--", ""),
-        ("Ab9_c", "ab9,c,"),
-        ("\u{e9}t\u{e9} 7", "t,7,"),
-    ];
-    for (text, wanted) in cases {
-        let found = tokens(rt.alloc(), text).unwrap();
-        let mut printed = String::new(rt.alloc());
-        for token in found.items() {
-            printed.push_str(token.text()).unwrap();
-            printed.push(',').unwrap();
-        }
-        assert_eq!(rt; printed.as_str(), wanted);
-    }
-}
