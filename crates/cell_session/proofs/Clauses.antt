@@ -1,8 +1,10 @@
 -- What the ends of a session say, clause by clause.
-use Rattle.std.proofs.Common.{◌≡◌, ◌==◌, ◌⊎◌, ℕ, zero, suc, ◌+◌, ◌<◌, ◌≤◌, Bool, true, false, List, [], ◌∷◌, Option, None, Some, inl, inr, refl, sym, ap, ◌∙◌, subst, arith, length, map, take, slice_get, IsSome, MatchBool}
+use Rattle.std.proofs.Common.{◌≡◌, ◌==◌, ◌&&◌, ◌⊎◌, IsTrue, ℕ, zero, suc, ◌+◌, ◌<◌, ◌≤◌, Bool, true, false, List, [], ◌∷◌, Option, None, Some, inl, inr, refl, sym, ap, ◌∙◌, subst, arith, length, map, take, slice_get, IsSome, MatchBool}
 use Rattle.std.proofs.lemmas.Bool.{cases_lt, false≢true}
 use Rattle.std.proofs.lemmas.List.{get_or_past}
+use Rattle.std.proofs.lemmas.Bool.Decides.{nat_tests}
 use Rattle.std.specs.Io.KnownBytes.{Appends}
+use Rattle.clap.specs.Walk.{Text}
 use Rattle.io_ends.specs.Lines.{lines_of, end_of}
 use Rattle.io_ends.specs.declared.next.LimitKind.{LimitKind}
 use Rattle.cell_session.specs.Asking.{command_of}
@@ -12,9 +14,11 @@ use Rattle.lane_laws.specs.Journals.{Journal, events_of}
 use Rattle.lane_laws.specs.Legal.{IsLegal}
 use Rattle.lane_laws.specs.Readers.{begun_in}
 use Rattle.lane_laws.proofs.Lookups.{line_other, some_is}
-use Rattle.cell_session.specs.Cells.{Cell}
+use Rattle.reports.specs.ReportText.{usage_text}
+use Rattle.cell_session.specs.Cells.{Cell, is_empty}
+use Rattle.cell_session.specs.Choices.{Chooses}
 use Rattle.cell_session.specs.Dealing.{AreFirst, EndsAs}
-use Rattle.cell_session.specs.Ends.{IfTold, commands_of, HasLanes, PassesLimit, StopsAt, DealsWith, Writes}
+use Rattle.cell_session.specs.Ends.{IfTold, commands_of, HasLanes, PassesLimit, StopsAt, DealsWith, UsageEnd, Writes}
 use Rattle.cell_session.specs.Lanes.{lane_of_id, journal_in, AreLegal, AreInOrder}
 use Rattle.cell_session.specs.Operations.{HasEvents, IsCommandAt, HaveOutcomes}
 use Rattle.cell_session.specs.Output.{output_of}
@@ -22,7 +26,8 @@ use Rattle.cell_session.specs.Settings.{lane_count}
 use Rattle.cell_session.specs.declared.setting.Setting.{Setting}
 use Rattle.cell_session.specs.declared.status.Status.{Status}
 use Rattle.cell_session.specs.declared.status.Status.TheVariants as status
-use Rattle.cell_session.proofs.Loops.{appends_nothing}
+use Rattle.cell_session.proofs.Choosing.{one_choice}
+use Rattle.cell_session.proofs.Loops.{appends_nothing, unopened_ends}
 use Rattle.cell_session.proofs.SessionSteps.{lane_small}
 
 -- ---- lanes that aren't there
@@ -154,10 +159,6 @@ ends_outcomes end s text left c before now (inr some) = record {
     nearer line (inl first) = inl first
     nearer line (inr far) = inr (omega (arith, far, some.count))
 
--- the same of a setting that is known
-pub known_outcomes : (end : Status) (s known : Setting) (text left : Option (List ℕ)) (c : Cell) (before now : Option (List ℕ)) → s ≡ known → EndsAs end s text left c before now → HaveOutcomes known text c.dealt c.journals
-known_outcomes end s known text left c before now is ends = subst (λ (x : Setting). HaveOutcomes x text c.dealt c.journals) is (ends_outcomes end s text left c before now ends)
-
 -- ---- the bytes written
 
 some_written : (end : Status) (s : Setting) (text : Option (List ℕ)) (cs : List Asked) (c : Cell) (before now : Option (List ℕ)) → IfTold text (λ t. AreFirst t cs) → length cs ≡ c.dealt → Writes end s cs c.journals before now
@@ -183,3 +184,35 @@ not_usage end s cs c before now wrote is = subst (λ e. Writes e s cs c.journals
 pub ends_usage : (end : Status) (s : Setting) (text left : Option (List ℕ)) (c : Cell) (before now : Option (List ℕ)) → EndsAs end s text left c before now → end ≡ status.Usage → ⊥
 ends_usage end s text left c before now (inl none) is = cc (none.memory, is)
 ends_usage end s text left c before now (inr some) is = not_usage end s some.commands c before now some.output is
+
+-- ---- of the setting that the words choose
+
+pub chosen_lanes : (words : List Text) (a s : Setting) (end : Status) (text left : Option (List ℕ)) (c : Cell) (before now : Option (List ℕ)) → Chooses words a → Chooses words s → EndsAs end a text left c before now
+    → HasLanes end s c.journals
+chosen_lanes words a s end text left c before now p q ends = subst (λ (x : Setting). HasLanes end x c.journals) (one_choice words a s p q) (ends_lanes end a text left c before now ends)
+
+pub chosen_outcomes : (words : List Text) (a s : Setting) (end : Status) (text left : Option (List ℕ)) (c : Cell) (before now : Option (List ℕ)) → Chooses words a → Chooses words s → EndsAs end a text left c before now
+    → HaveOutcomes s text c.dealt c.journals
+chosen_outcomes words a s end text left c before now p q ends = subst (λ (x : Setting). HaveOutcomes x text c.dealt c.journals) (one_choice words a s p q) (ends_outcomes end a text left c before now ends)
+
+pub chosen_written : (words : List Text) (a s : Setting) (end : Status) (text left : Option (List ℕ)) (c : Cell) (before now : Option (List ℕ)) → Chooses words a → Chooses words s → EndsAs end a text left c before now
+    → IfTold text (λ t. Writes end s (commands_of t c.dealt) c.journals before now)
+chosen_written words a s end text left c before now p q ends =
+    subst (λ (x : Setting). IfTold text (λ t. Writes end x (commands_of t c.dealt) c.journals before now)) (one_choice words a s p q) (ends_written end a text left c before now ends)
+
+-- a cluster that is empty, as memory wanted before the words were read
+both_zero : (n m : ℕ) → IsTrue (n == 0 && m == 0) → (n ≡ 0) × (m ≡ 0)
+both_zero n m h = grind (arith, nat_tests)
+
+no_items : (Js : List Journal) → length Js ≡ 0 → Js ≡ []
+no_items [] none = refl
+no_items (J ∷ Js) none = absurd (omega (arith, none))
+
+pub empty_cell : (c : Cell) → IsTrue (is_empty c) → (c.journals ≡ []) × (c.dealt ≡ 0)
+empty_cell c h = let both = both_zero (length c.journals) c.dealt h in (no_items c.journals both.0, both.1)
+
+pub empty_ends : (s : Setting) (text left : Option (List ℕ)) (c : Cell) (before : Option (List ℕ)) → IsTrue (is_empty c) → EndsAs status.NoMemory s text left c before before
+empty_ends s text left c before h = unopened_ends s text left c before (empty_cell c h)
+
+pub usage_written : (end : Status) (before now : Option (List ℕ)) → UsageEnd end before now → end ≡ status.Usage → Appends before now usage_text
+usage_written end before now ends is = subst (λ e. UsageEnd e before now) is ends

@@ -5,4 +5,5 @@ pub mod SessionSteps
 pub mod OutputLaws
 pub mod LongLines
 pub mod Loops
+pub mod Choosing
 pub mod Clauses

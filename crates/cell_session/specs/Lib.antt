@@ -1,6 +1,7 @@
--- For a reader: Settings, Cells, Lanes, Operations, Output and Ends. The others serve the calls below the top one.
+-- For a reader: Settings, Choices, Cells, Lanes, Operations, Output and Ends. The others serve the calls below the top one.
 pub mod StatusNumbers
 pub mod Settings
+pub mod Choices
 pub mod Cells
 pub mod Lanes
 pub mod LineEvents

@@ -1,8 +1,9 @@
-ghost use Rattle.std.specs.Prelude.{◌≡◌, ◌==◌, ◌<◌, ◌≤◌, ◌^◌, ◌⊎◌, [], length, IfOk, OnOk, OnErr};
+ghost use Rattle.std.specs.Prelude.{◌≡◌, ◌==◌, ◌<◌, ◌≤◌, ◌^◌, ◌⊎◌, [], length, IfOk, OnOk, OnErr, IsTrue};
 ghost use Rattle.std.specs.Option.{option_copied};
 ghost use Rattle.global_ids.specs.Keys.{key_of, lane_of};
 ghost use Rattle.lane_laws.specs.Journals.{past};
 ghost use Rattle.cell_session.specs.Answering.{IsAllOrNothing};
+ghost use Rattle.cell_session.specs.Cells.{is_empty};
 ghost use Rattle.cell_session.specs.Lanes.{lane_of_id, journal_in};
 ghost use Rattle.cell_session.specs.Output.{body_answer, found_answer, outcome_answer, operation_answer, answer_in};
 ghost use Rattle.cell_session.specs.Settings.{IsSetting};
@@ -14,7 +15,7 @@ use crate::lane::Lane;
 use crate::setting::Setting;
 use document_ids::DocId;
 use entry_maps::Entry;
-use global_ids::{Gid, lane_of};
+use global_ids::{key_of, lane_of};
 use lane_laws::LaneEvent;
 use messages::{Operation, Outcome};
 use reports::Answer;
@@ -45,14 +46,6 @@ impl Model for Cluster {
     ghost invariant = { λ c. IsCluster c.bits (length c.lanes.items) };
 }
 
-/// The key of a document; takes no memory.
-#[tactic(auto, unfolding(global_ids::specs::Keys::key_of))]
-fn key_of(id: &DocId) -> u64
-    ensures { result ≡ key_of id.now }
-{
-    Gid::of(id).key()
-}
-
 /// The lane of a key; takes no memory.
 fn lane_at(key: u64, bits: u8) -> usize
     requires some { 1 ≤ bits }
@@ -66,8 +59,7 @@ fn lane_at(key: u64, bits: u8) -> usize
 impl Cluster {
     /// A cluster without lanes; takes no memory.
     pub fn empty(alloc: Global) -> Cluster
-        ensures journals { result.journals ≡ [] }
-        ensures dealt { result.dealt ≡ 0 }
+        ensures { IsTrue (is_empty result) }
     {
         Cluster {
             bits: 1,
@@ -77,11 +69,11 @@ impl Cluster {
         }
     }
 
-    /// Whether there is no lane.
+    /// Whether there is no lane, and no line was dealt with.
     pub fn is_empty(&self) -> bool
-        ensures { result ≡ (length self.now.journals == 0) }
+        ensures { result ≡ is_empty self.now }
     {
-        self.lanes.is_empty()
+        self.lanes.is_empty() && self.dealt == 0
     }
 
     /// How many lanes there are.
@@ -140,7 +132,7 @@ impl Cluster {
 
     /// Makes the lanes. The only error is want of memory, which leaves none.
     pub fn open(&mut self, alloc: Global, setting: Setting) -> Result<(), NoMemory>
-        requires empty { self.old.journals ≡ [] }
+        requires empty { IsTrue (is_empty self.old) }
         requires setting { IsSetting setting }
         ensures ok { OnOk result (self.new ≡ opened setting) }
         ensures err { OnErr result ((self.new.journals ≡ []) × (self.new.dealt ≡ 0)) }

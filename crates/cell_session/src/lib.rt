@@ -14,6 +14,7 @@
 
 mod answering;
 pub mod asked;
+pub mod choice;
 pub mod cluster;
 pub mod deed;
 mod events;

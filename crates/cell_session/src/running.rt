@@ -1,15 +1,20 @@
-ghost use Rattle.std.specs.Prelude.{◌≡◌, ◌<◌, ◌≤◌, [], length};
+ghost use Rattle.std.specs.Prelude.{◌≡◌, ◌≤◌, IsTrue, map};
+ghost use Rattle.std.specs.String.{string_bytes};
 ghost use Rattle.std.specs.Io.KnownBytes.{Appends};
 ghost use Rattle.io_ends.specs.Causes.{HasRisen};
 ghost use Rattle.reports.specs.ReportText.{usage_text};
+ghost use Rattle.cell_session.specs.Cells.{is_empty};
+ghost use Rattle.cell_session.specs.Choices.{Chooses, AreWrong};
 ghost use Rattle.cell_session.specs.Dealing.{EndsAs};
 ghost use Rattle.cell_session.specs.Ends.{IfTold, commands_of, HasLanes, DealsWith, PassesLimit, Writes, UsageEnd};
 ghost use Rattle.cell_session.specs.Lanes.{AreLegal, AreInOrder};
 ghost use Rattle.cell_session.specs.Operations.{HaveOutcomes};
-ghost use Rattle.cell_session.specs.Settings.{default_setting, IsSetting};
+ghost use Rattle.cell_session.specs.Settings.{IsSetting};
+ghost use Rattle.cell_session.specs.declared.setting.Setting.{Setting};
 
 use crate::answering::{Stop, answer_line};
 use crate::asked::session_schema;
+use crate::choice::read_choice;
 use crate::cluster::Cluster;
 use crate::limits::{MOST_BYTES, MOST_LINES};
 use crate::next_command::{Step, next_command};
@@ -18,10 +23,11 @@ use crate::status::Status;
 use io_ends::{LimitKind, LineReader, Sink, Source, write_all};
 use reports::usage_report;
 use std::alloc::Global;
+use words_line::WordsFault;
 
 /// Runs a session: reads the lines of the source, deals with each in order, and writes its report
-/// before the next line is read. The first word is the program's name, and no other is taken. It
-/// waits for nobody and always returns.
+/// before the next line is read. The first word is the program's name. It waits for nobody and always
+/// returns.
 pub fn run_one<S: Source, K: Sink>(
     alloc: Global,
     words: &[String],
@@ -29,35 +35,38 @@ pub fn run_one<S: Source, K: Sink>(
     sink: &mut K,
     cluster: &mut Cluster,
 ) -> Status
-    requires { cluster.old.journals ≡ [] }
+    requires { IsTrue (is_empty cluster.old) }
 
     // the journals: which are legal, whether lines overlap, how many there are
     ensures legal_lanes { AreLegal cluster.new.journals }
     ensures lines_in_order { AreInOrder cluster.new.journals }
-    ensures lanes { length words.now ≤ 1 → HasLanes result default_setting cluster.new.journals }
+    ensures lanes { (s : Setting) → Chooses (map string_bytes words.now) s → HasLanes result s cluster.new.journals }
 
     // the lines: which were dealt with, what each of them began, wrote and closed, and the bytes that answer them
-    ensures dealt_with { length words.now ≤ 1 → IfTold (S.left source.old) (λ text. DealsWith result text cluster.new.dealt (S.left source.new)) }
-    ensures one_outcome { length words.now ≤ 1 → HaveOutcomes default_setting (S.left source.old) cluster.new.dealt cluster.new.journals }
-    ensures bytes_written { length words.now ≤ 1 → IfTold (S.left source.old)
-        (λ text. Writes result default_setting (commands_of text cluster.new.dealt) cluster.new.journals (K.written sink.old) (K.written sink.new)) }
+    ensures dealt_with { (s : Setting) → Chooses (map string_bytes words.now) s
+        → IfTold (S.left source.old) (λ text. DealsWith result text cluster.new.dealt (S.left source.new)) }
+    ensures one_outcome { (s : Setting) → Chooses (map string_bytes words.now) s
+        → HaveOutcomes s (S.left source.old) cluster.new.dealt cluster.new.journals }
+    ensures bytes_written { (s : Setting) → Chooses (map string_bytes words.now) s → IfTold (S.left source.old)
+        (λ text. Writes result s (commands_of text cluster.new.dealt) cluster.new.journals (K.written sink.old) (K.written sink.new)) }
 
     // wrong words: the one usage line is written, nothing is read, and the cluster is as it was
-    ensures wrong_words { 1 < length words.now → UsageEnd result (K.written sink.old) (K.written sink.new) }
-    ensures nothing_read { 1 < length words.now → (source.new ≡ source.old) × (cluster.new ≡ cluster.old) }
+    ensures wrong_words { AreWrong (map string_bytes words.now) → UsageEnd result (K.written sink.old) (K.written sink.new) }
+    ensures nothing_read { AreWrong (map string_bytes words.now) → (source.new ≡ source.old) × (cluster.new ≡ cluster.old) }
 
     // each answer has its cause
-    ensures usage { result ≡ Status.Usage → (1 < length words.now) × Appends (K.written sink.old) (K.written sink.new) usage_text }
+    ensures usage { result ≡ Status.Usage → AreWrong (map string_bytes words.now) × Appends (K.written sink.old) (K.written sink.new) usage_text }
     ensures limit { (which : LimitKind) → result ≡ Status.Limit which → IfTold (S.left source.old) (λ text. PassesLimit which text cluster.new.dealt) }
     ensures read_fault { result ≡ Status.ReadFault → HasRisen S.last (S.faults source.old) (S.faults source.new) }
     ensures write_fault { result ≡ Status.WriteFault → HasRisen K.last (K.faults sink.old) (K.faults sink.new) }
     ensures source_calm { S.faults source.old ≤ S.faults source.new }
     ensures sink_calm { K.faults sink.old ≤ K.faults sink.new }
 {
-    if words.len() > 1 {
-        return refuse_words(alloc, sink);
+    match read_choice(alloc, words) {
+        Ok(setting) => run_lines(alloc, setting, source, sink, cluster),
+        Err(WordsFault::Usage) => refuse_words(alloc, sink),
+        Err(WordsFault::NoMemory) => Status::NoMemory,
     }
-    run_lines(alloc, Setting::usual(), source, sink, cluster)
 }
 
 /// Writes the usage line.
@@ -83,7 +92,7 @@ fn run_lines<S: Source, K: Sink>(
     sink: &mut K,
     cluster: &mut Cluster,
 ) -> Status
-    requires empty { cluster.old.journals ≡ [] }
+    requires empty { IsTrue (is_empty cluster.old) }
     requires setting { IsSetting setting }
     ensures ended { EndsAs result setting (S.left source.old) (S.left source.new) cluster.new (K.written sink.old) (K.written sink.new) }
     ensures read_fault { result ≡ Status.ReadFault → HasRisen S.last (S.faults source.old) (S.faults source.new) }

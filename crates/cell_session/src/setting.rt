@@ -1,6 +1,3 @@
-ghost use Rattle.std.specs.Prelude.{◌≡◌};
-ghost use Rattle.cell_session.specs.Settings.{default_setting};
-
 /// What a session is set to.
 #[derive(Clone, Copy, Debug, PartialEq, Eq)]
 pub struct Setting {
@@ -12,18 +9,4 @@ pub struct Setting {
     pub distributor: u8,
     /// The version of the cluster state, under which stamps are drawn.
     pub version: u32,
-}
-
-impl Setting {
-    /// Sixteen lanes, one node, one distributor and version 1.
-    pub fn usual() -> Setting
-        ensures { result ≡ default_setting }
-    {
-        Setting {
-            bits: 4,
-            node: 0,
-            distributor: 0,
-            version: 1,
-        }
-    }
 }
