@@ -1,5 +1,5 @@
 -- One line more keeps what a session keeps.
-use Rattle.std.proofs.Common.{◌≡◌, ◌≢◌, ◌==◌, ◌⊎◌, ℕ, zero, suc, ◌+◌, ◌^◌, ◌<◌, ◌≤◌, Bool, true, false, List, [], ◌∷◌, ◌++◌, Option, None, Some, inl, inr, refl, sym, ap, ◌∙◌, subst, arith, IsSome, MatchBool, length, set, get_or-set_same, get_or-set_other, length-append, length-set, slice_get, eq-eqb, replicate}
+use Rattle.std.proofs.Common.{◌≡◌, ◌≢◌, ◌==◌, ◌⊎◌, ℕ, zero, suc, ◌+◌, ◌^◌, ◌<◌, ◌≤◌, Bool, true, false, List, [], ◌∷◌, ◌++◌, Some, inl, inr, refl, sym, ap, ◌∙◌, subst, arith, IsSome, MatchBool, length, set, get_or-set_same, get_or-set_other, length-append, length-set, slice_get, eq-eqb, replicate}
 use Rattle.std.proofs.lemmas.Bool.{cases_eq, false≢true}
 use Rattle.std.proofs.lemmas.List.{length-replicate}
 use Rattle.std.proofs.lemmas.Nat.{mod_below, pow_pos}
@@ -14,7 +14,6 @@ use Rattle.cell_session.specs.declared.asked.Asked.TheVariants as command
 use Rattle.cell_session.specs.Cells.{Cell}
 use Rattle.cell_session.specs.Lanes.{lane_of_id, journal_in}
 use Rattle.cell_session.specs.LaneState.{IsClosed, drawn, IsUnder}
-use Rattle.cell_session.specs.LineEvents.{next_stamp}
 use Rattle.messages.specs.declared.operation.Operation.{Operation}
 use Rattle.cell_session.specs.Operations.{HasOperation, HasEvents}
 use Rattle.cell_session.specs.Settings.{lane_count, IsSetting}

@@ -1,5 +1,5 @@
 -- What an operation does in its lane, by the newest entry of its document.
-use Rattle.std.specs.Prelude.{◌≡◌, ℕ, Bool, List, Option, None, Some, Result, Ok, Err, if◌then◌else◌}
+use Rattle.std.specs.Prelude.{◌≡◌, ℕ, List, Option, None, Some, Result, Ok, Err, if◌then◌else◌}
 use Rattle.stamps.specs.declared.stamp.Stamp.{Stamp}
 use Rattle.documents.specs.Fields.{Contents}
 use Rattle.doc_updates.specs.declared.fault.UpdateFault.{UpdateFault}

@@ -1,5 +1,5 @@
 -- The events of one line.
-use Rattle.std.specs.Prelude.{ℕ, ◌+◌, List, [], ◌∷◌, Option, None, Some}
+use Rattle.std.specs.Prelude.{ℕ, ◌+◌, List, [], ◌∷◌, None, Some}
 use Rattle.stamps.specs.declared.stamp.Stamp.{Stamp}
 use Rattle.entry_maps.specs.declared.entry.Entry.{Entry}
 use Rattle.lane_laws.specs.declared.event.LaneEvent.TheVariants as event
