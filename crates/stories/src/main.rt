@@ -3,7 +3,9 @@
 #![tactic(auto)]
 
 #[cfg(test)]
-mod documents;
+mod choices;
+#[cfg(test)]
+mod document_tables;
 #[cfg(test)]
 mod faults;
 #[cfg(test)]
