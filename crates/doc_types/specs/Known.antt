@@ -3,6 +3,10 @@ use Rattle.std.specs.Prelude.{ℕ, Bool, false, List, Option, Some, None, nat_lt
 use Rattle.std.specs.FinMap as fin
 use Rattle.doc_types.specs.SchemaCodes.{Fields, Types}
 
+-- there is a type
+abbrev pub has_types : Types → Bool
+has_types types = nat_lt 0 (fin.len types)
+
 abbrev pub some_fields : Option Fields → Bool
 some_fields None = false
 some_fields (Some fields) = nat_lt 0 (fin.len fields)

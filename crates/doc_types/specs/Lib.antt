@@ -1,6 +1,6 @@
 -- What a caller needs: `Tokens`, `Symbols`, `Spelling` and `Fronts` (tokens), `Reading` (the token of a lexeme),
 -- `Values` (the order of values), `SchemaCodes` (what a schema is), `SchemaTexts` (which JSON values are schemas),
--- `Schemas` (their faults, and what they say) and `Known` (which types have fields). `Bodies` and `SchemaMaps` serve the
+-- `Schemas` (their faults, and what they say) and `Known` (whether there are types, and which have fields). `Bodies` and `SchemaMaps` serve the
 -- code alone.
 pub mod Symbols
 pub mod Tokens

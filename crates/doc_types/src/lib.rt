@@ -16,12 +16,14 @@ mod cuts;
 mod integers;
 pub mod laws;
 mod literals;
+pub mod outputs;
 pub mod schema;
 pub mod schema_faults;
 pub mod symbols;
 pub mod tokens;
 pub mod values;
 
+pub use outputs::{OutputKind, OutputKinds};
 pub use schema::{DEFAULT_SCHEMA, Schema};
 pub use schema_faults::SchemaFault;
 pub use symbols::{Language, Symbol};

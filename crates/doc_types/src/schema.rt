@@ -5,7 +5,7 @@ ghost use Rattle.serde_json.specs.Read.{read};
 ghost use Rattle.serde_json.specs.View.{view, members_view};
 ghost use Rattle.doc_types.specs.Schemas.{schema_fault, members_in, fields_of, types_of, schema_in, schema_of};
 ghost use Rattle.doc_types.specs.SchemaCodes.{name_cmp};
-ghost use Rattle.doc_types.specs.Known.{has_fields, some_fields};
+ghost use Rattle.doc_types.specs.Known.{has_types, has_fields, some_fields};
 ghost use Rattle.doc_types.specs.declared.schema_faults.SchemaFault.TheVariants as reason;
 ghost use Rattle.doc_types.specs.SchemaMaps.{field_pair, type_pair};
 
@@ -134,6 +134,20 @@ impl Schema {
         schema_from(alloc, &value)
     }
 
+    /// Whether there is a type; takes no memory.
+    pub fn has_types(&self) -> bool
+        ensures { result ≡ has_types self.now }
+    {
+        some_type(&self.types)
+    }
+
+    /// The type of this name; takes no memory.
+    pub fn type_named(&self, name: &str) -> Option<&TypeOf>
+        ensures { option_map (λ t. (type_pair t.now).1) result ≡ fin.get self.now name.now }
+    {
+        type_named(&self.types, name)
+    }
+
     /// Whether there is a type of this name; takes no memory.
     pub fn has_type(&self, name: &str) -> bool
         ensures { result ≡ is_some (fin.get self.now name.now) }
@@ -160,6 +174,13 @@ impl Schema {
             None => None,
         }
     }
+}
+
+/// Whether there is a type.
+fn some_type(types: &[TypeOf]) -> bool
+    ensures { result ≡ has_types (fin.from_entries (map type_pair types.now)) }
+{
+    !types.is_empty()
 }
 
 /// Whether there is a field.
