@@ -6,12 +6,11 @@ use Rattle.std.proofs.lemmas.List.Folds.{list_any-append}
 use Rattle.std.proofs.lemmas.List.Sorted.{sum_by-IsPermutation, list_any-IsPermutation, All-permutation}
 use Rattle.std.proofs.lemmas.List.Elements.{All-from_recursion, recursion_from_All}
 use Rattle.bucket_ids.specs.Buckets.{Low, IsBucket, has_key, covers, first_child, second_child}
-use Rattle.bucket_ids.proofs.KeySets.{includes_covers}
 use Rattle.bucket_db.specs.Answers.{is_inside, divides, NoneDivided, IsFiner, IsCoarsest}
 use Rattle.bucket_db.specs.Dividing.{IsDivided}
 use Rattle.bucket_db.specs.Rows.{AreBuckets}
 use Rattle.bucket_db.proofs.Counts.{count_cons, count_append, count_one, or_left, or_right, or_none, none_left, none_right, all_append, all_map, any_filter}
-use Rattle.bucket_db.proofs.Inside.{key_in, key_has, covers_self, covers_trans, covers_first, covers_second, inside_under, halves, child_covers, same_or_inside}
+use Rattle.bucket_db.proofs.Inside.{covers_keys, covers_self, covers_trans, covers_first, covers_second, inside_under, halves, child_covers, same_or_inside}
 
 pub divided_leaf : (b : Low) (ans : List Low) → IsBucket b → divides ans b ≡ false → IsDivided b ans (b ∷ [])
 divided_leaf b ans ok none = record {
@@ -43,8 +42,8 @@ divided_node b ans xs ys ok lt divided x y = record {
   valid = all_append IsBucket xs ys x.valid y.valid;
   covered = all_append (λ p. covers b p ≡ true) xs ys
       (all_map (λ p. covers (first_child b) p ≡ true) (λ p. covers b p ≡ true) xs (λ p h. covers_trans b (first_child b) p (covers_first b ok) h) x.covered)
-      (all_map (λ p. covers (second_child b) p ≡ true) (λ p. covers b p ≡ true) ys (λ p h. covers_trans b (second_child b) p (covers_second b ok lt) h) y.covered);
-  partition = λ key small. count_append (λ r. has_key r key) xs ys ∙ ap₂ (λ m n. m + n) (x.partition key small) (y.partition key small) ∙ halves b ok key small;
+      (all_map (λ p. covers (second_child b) p ≡ true) (λ p. covers b p ≡ true) ys (λ p h. covers_trans b (second_child b) p (covers_second b ok) h) y.covered);
+  partition = λ key small. count_append (λ r. has_key r key) xs ys ∙ ap₂ (λ m n. m + n) (x.partition key small) (y.partition key small) ∙ halves b ok key;
   undivided = list_any-append (divides ans) xs ys ∙ or_none (list_any (divides ans) xs) (list_any (divides ans) ys)
       (undivided_more (first_child b) ans xs x.covered x.undivided)
       (undivided_more (second_child b) ans ys y.covered y.undivided);
@@ -77,7 +76,7 @@ at_least_one false q h e = let f : false ≡ true = e in cc
 
 inside_lane : (lane o : Low) → IsBucket lane → IsBucket o → ((key : ℕ) → key < 2 ^ 58 → cond (has_key o key) 1 0 ≤ cond (has_key lane key) 1 0) → covers lane o ≡ true
 inside_lane lane o ok oko within =
-    includes_covers lane o ok oko (λ key k. (k.0, key_in lane key (at_least_one (has_key o key) (has_key lane key) (within key k.0) (key_has o key k.1))))
+    covers_keys lane o ok oko (λ key small h. at_least_one (has_key o key) (has_key lane key) (within key small) h)
 
 finer : (lane : Low) (ans rows : List Low) → IsBucket lane
     → ((o : Low) → IsBucket o → covers lane o ≡ true → divides ans o ≡ false → list_any (λ p. covers p o) rows ≡ true)

@@ -1,5 +1,6 @@
 pub mod Coarsest
 pub mod Counts
 pub mod Inside
+pub mod Moves
 pub mod RowLaws
 pub mod RowLists

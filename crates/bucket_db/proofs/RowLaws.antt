@@ -1,18 +1,19 @@
 -- Splits and joins keep the rows a partition in rising number.
-use Rattle.std.proofs.Common.{◌≡◌, ℕ, zero, suc, ◌+◌, ◌-◌, ◌%◌, ◌^◌, ◌<◌, ◌≤◌, ◌⊎◌, Bool, true, false, not, ◌&&◌, nat_lt, List, [], ◌∷◌, length, get_or, cond, Option, Some, None, inl, inr, refl, sym, ap, ◌∙◌, subst, arith, mod-eq_of_lt, pow_pos}
+use Rattle.std.proofs.Common.{◌≡◌, ℕ, zero, suc, ◌+◌, ◌-◌, ◌%◌, ◌^◌, ◌<◌, ◌≤◌, ◌⊎◌, Bool, true, false, not, ◌&&◌, nat_lt, List, [], ◌∷◌, length, get_or, cond, Option, Some, None, inl, inr, ◌↔◌, refl, sym, ap, ap₂, ◌∙◌, subst, arith}
 use Rattle.std.specs.List.{count_by, filter, remove}
 use Rattle.std.specs.Prelude.{slice_get, IfSome}
-use Rattle.std.proofs.lemmas.Nat.{mod_below}
+use Rattle.std.proofs.lemmas.Bool.{cases_lt}
 use Rattle.std.proofs.lemmas.Option.{slice_get-get_or, slice_get_read}
 use Rattle.bucket_ids.specs.Buckets.{Low, IsBucket, has_key, covers, first_child, second_child, parent_of, sibling_of}
 use Rattle.bucket_ids.specs.Printed.{number_of}
-use Rattle.bucket_ids.proofs.KeySets.{low_of_low, sibling_parts, sibling_fits}
 use Rattle.bucket_db.specs.Changes.{placed, with_row, with_halves, split_at, with_joined, first_half, second_half, CanJoin, IsJoinable, MayJoin}
 use Rattle.bucket_db.specs.Rows.{AreBuckets, AreRows, Rows, buckets_of}
 use Rattle.bucket_db.specs.declared.row.Row.{Row}
 use Rattle.bucket_db.proofs.Counts.{one_if, count_cons, count_at, count_none, count_parts}
-use Rattle.bucket_db.proofs.Inside.{low_below, key_in, key_has, covers_from, covers_key, first_valid, second_valid, halves}
-use Rattle.bucket_db.proofs.RowLists.{rises_placed, rises_removed, rises_filtered, buckets_placed, buckets_removed, buckets_filtered, bucket_at, valid_at, some_with, read_is}
+use Rattle.bucket_db.proofs.Inside.{low_of_low, low_below, key_in, key_has, has_low, covers_low, covers_key, covers_own, covers_sibling, first_valid, second_valid, halves, parent_valid, sibling_valid, sibling_differs, key_in_either}
+use Rattle.bucket_db.specs.Order.{AreHalves}
+use Rattle.bucket_db.proofs.Moves.{but_two}
+use Rattle.bucket_db.proofs.RowLists.{are_rows, rises_of_rising, rises_placed, rises_removed, rises_filtered, buckets_placed, buckets_removed, buckets_filtered, bucket_at, one_row, valid_at, some_with, read_is}
 
 count_placed : {X : Type 0} (p : X → Bool) (number : X → ℕ) (x : X) (xs : List X) → count_by p (placed number x xs) ≡ one_if (p x) + count_by p xs
 count_placed p number x [] = count_cons p x []
@@ -63,19 +64,17 @@ split_buckets lane bs at b h found lt =
     let ok = valid_at bs at b h.valid found in
     let rest = remove bs at in
     let first = placed number_of (first_child b) rest in
-    record {
-      bucket = h.bucket;
-      valid = valid_placed (second_child b) first (second_valid b ok lt) (valid_placed (first_child b) rest (first_valid b ok lt) (valid_removed bs at h.valid));
-      partition = λ key small.
-          let p : Low → Bool = λ x. has_key x key in
-          let one = count_placed p number_of (second_child b) first in
-          let two = count_placed p number_of (first_child b) rest in
-          let gone = count_removed p bs at b found in
-          let parts = halves b ok key small in
-          let whole = h.partition key small in
-          omega (arith, one, two, gone, parts, whole);
-      rising = rises_placed 0 (second_child b) first (omega arith) (rises_placed 0 (first_child b) rest (omega arith) (rises_removed 0 bs at h.rising));
-    }
+    are_rows lane (placed number_of (second_child b) first) h.bucket
+    (valid_placed (second_child b) first (second_valid b ok lt) (valid_placed (first_child b) rest (first_valid b ok lt) (valid_removed bs at h.valid)))
+    (λ key small.
+    let p : Low → Bool = λ x. has_key x key in
+    let one = count_placed p number_of (second_child b) first in
+    let two = count_placed p number_of (first_child b) rest in
+    let gone = count_removed p bs at b found in
+    let parts = halves b ok key in
+    let whole = h.partition key small in
+    omega (arith, one, two, gone, parts, whole))
+    (rises_placed 0 (second_child b) first (omega arith) (rises_placed 0 (first_child b) rest (omega arith) (rises_removed 0 bs at (rises_of_rising bs h.rising))))
 
 pub split_is : (rows : List Row) (at : ℕ) (row : Row) → slice_get rows at ≡ Some row → split_at at rows ≡ with_row (second_half row) (with_row (first_half row) (remove rows at))
 split_is rows at row found = ap (λ (o : Option Row). with_halves o (remove rows at)) found
@@ -92,17 +91,6 @@ split_keeps lane rows at h lt fewer =
     subst (AreRows lane) (sym are) (split_buckets lane (buckets_of rows) at row.bucket h (bucket_at rows at row found.1.0) found.1.1)
 
 -- ---- a join
-
-pub parent_valid : (b : Low) → IsBucket b → 1 < b.bits → IsBucket (parent_of b)
-parent_valid b ok more = record { some = omega arith; most = omega (arith, ok.most); fits = mod_below b.low (2 ^ (b.bits - 1)) (pow_pos (b.bits - 1)) }
-
-covers_own : (b : Low) → covers (parent_of b) b ≡ true
-covers_own b = covers_from (parent_of b) b (omega arith) refl
-
-covers_sibling : (b : Low) → IsBucket b → 1 < b.bits → covers (parent_of b) (sibling_of b) ≡ true
-covers_sibling b ok more =
-    let fits = sibling_fits b ok more in
-    covers_from (parent_of b) (sibling_of b) (omega arith) ((sibling_parts b ok more (sibling_of b).low).1 (inr (low_below (sibling_of b) fits, mod-eq_of_lt fits.fits))).1
 
 both : (a b : Bool) → a ≡ true → b ≡ true → (a && b) ≡ true
 both true true p q = refl
@@ -123,9 +111,9 @@ inside_parent bs i k b key ok more own other small most = go (has_key (parent_of
     test x = covers (parent_of b) x && has_key x key
 
     some : has_key (parent_of b) key ≡ true → 1 ≤ count_by test bs
-    some h = elim ((sibling_parts b ok more key).0 (small, key_in (parent_of b) key h)) [
-      | inl p ↦ count_at test bs i b own (both (covers (parent_of b) b) (has_key b key) (covers_own b) (key_has b key p.1))
-      | inr p ↦ count_at test bs k (sibling_of b) other (both (covers (parent_of b) (sibling_of b)) (has_key (sibling_of b) key) (covers_sibling b ok more) (key_has (sibling_of b) key p.1))
+    some h = elim (key_in_either b key ok more h) [
+      | inl p ↦ count_at test bs i b own (both (covers (parent_of b) b) (has_key b key) (covers_own b) p)
+      | inr p ↦ count_at test bs k (sibling_of b) other (both (covers (parent_of b) (sibling_of b)) (has_key (sibling_of b) key) (covers_sibling b ok more) p)
     ]
 
     go : (t : Bool) → t ≡ has_key (parent_of b) key → count_by test bs ≡ one_if t
@@ -143,18 +131,16 @@ join_buckets : (lane : Low) (bs : List Low) (i k : ℕ) (b : Low) → AreRows la
 join_buckets lane bs i k b h own other more =
     let ok = valid_at bs i b h.valid own in
     let rest = filter (λ x. not (covers (parent_of b) x)) bs in
-    record {
-      bucket = h.bucket;
-      valid = valid_placed (parent_of b) rest (parent_valid b ok more) (valid_filtered (λ x. not (covers (parent_of b) x)) bs h.valid);
-      partition = λ key small.
-          let p : Low → Bool = λ x. has_key x key in
-          let whole : count_by p bs ≡ one_if (has_key lane key) = h.partition key small in
-          let come = count_placed p number_of (parent_of b) rest in
-          let gone = inside_parent bs i k b key ok more own other small (omega (arith, whole, one_if-le (has_key lane key))) in
-          let parts = count_parts p (covers (parent_of b)) bs in
-          omega (arith, come, gone, parts, whole);
-      rising = rises_placed 0 (parent_of b) rest (omega arith) (rises_filtered (λ x. not (covers (parent_of b) x)) 0 bs h.rising);
-    }
+    are_rows lane (placed number_of (parent_of b) rest) h.bucket
+    (valid_placed (parent_of b) rest (parent_valid b ok more) (valid_filtered (λ x. not (covers (parent_of b) x)) bs h.valid))
+    (λ key small.
+    let p : Low → Bool = λ x. has_key x key in
+    let whole : count_by p bs ≡ one_if (has_key lane key) = h.partition key small in
+    let come = count_placed p number_of (parent_of b) rest in
+    let gone = inside_parent bs i k b key ok more own other small (omega (arith, whole, one_if-le (has_key lane key))) in
+    let parts = count_parts p (covers (parent_of b)) bs in
+    omega (arith, come, gone, parts, whole))
+    (rises_placed 0 (parent_of b) rest (omega arith) (rises_filtered (λ x. not (covers (parent_of b) x)) 0 bs (rises_of_rising bs h.rising)))
 
 pub join_keeps : (lane : Low) (rows : List Row) (i k : ℕ) (row other joined : Row) → AreRows lane (buckets_of rows) → slice_get rows i ≡ Some row → slice_get rows k ≡ Some other
     → other.bucket ≡ sibling_of row.bucket → 1 < row.bucket.bits → joined.bucket ≡ parent_of row.bucket → AreRows lane (buckets_of (with_joined joined rows))
@@ -166,6 +152,75 @@ join_keeps lane rows i k row other joined h own found sibling more parent =
     let there : slice_get (buckets_of rows) k ≡ Some (sibling_of row.bucket) = bucket_at rows k other found ∙ ap Some sibling in
     subst (AreRows lane) (sym are) (subst (λ (b : Low). AreRows lane (placed number_of b (filter (λ x. not (covers b x)) (buckets_of rows)))) (sym parent)
     (join_buckets lane (buckets_of rows) i k row.bucket h (bucket_at rows i row own) there more))
+
+-- two siblings are all that lies inside the parent
+pub are_halves : (lane : Low) (rows : List Row) (at place : ℕ) (row other : Row) → AreRows lane (buckets_of rows) → slice_get rows at ≡ Some row → slice_get rows place ≡ Some other
+    → other.bucket ≡ sibling_of row.bucket → 1 < row.bucket.bits → AreHalves rows at place
+are_halves lane rows at place row other h own found sibling more = record {
+  apart = λ same. sibling_differs row.bucket (ap (λ (r : Row). r.bucket) (one_read at row other own (subst (λ i. slice_get rows i ≡ Some other) (sym same) found)) ∙ sibling);
+  inside = λ r r_at k x x_at. subst (λ (y : Row). (covers (parent_of y.bucket) x.bucket ≡ true) ↔ ((k ≡ at) ⊎ (k ≡ place))) (one_read at row r own r_at) (
+    λ inside. held k x x_at inside,
+    λ e. elim e [
+      | inl first ↦ subst (λ (y : Row). covers (parent_of row.bucket) y.bucket ≡ true) (one_read at row x own (subst (λ i. slice_get rows i ≡ Some x) first x_at)) (covers_own row.bucket)
+      | inr second ↦ subst (λ (y : Row). covers (parent_of row.bucket) y.bucket ≡ true) (one_read place other x found (subst (λ i. slice_get rows i ≡ Some x) second x_at))
+          (subst (λ (y : Low). covers (parent_of row.bucket) y ≡ true) (sym sibling) (covers_sibling row.bucket ok more))
+    ],
+  );
+}
+  where
+    one_read : (i : ℕ) (x y : Row) → slice_get rows i ≡ Some x → slice_get rows i ≡ Some y → x ≡ y
+    one_read i x y e f = let g : Some x ≡ Some y = sym e ∙ f in cc
+
+    ok : IsBucket row.bucket
+    ok = valid_at (buckets_of rows) at row.bucket h.valid (bucket_at rows at row own)
+
+    held : (k : ℕ) (x : Row) → slice_get rows k ≡ Some x → covers (parent_of row.bucket) x.bucket ≡ true → (k ≡ at) ⊎ (k ≡ place)
+    held k x x_at inside =
+        let okx = valid_at (buckets_of rows) k x.bucket h.valid (bucket_at rows k x x_at) in
+        let key = x.bucket.low in
+        let has = has_low x.bucket okx in
+        let once = h.partition key (low_below x.bucket okx) in
+        let most = one_if-le (has_key lane key) in
+        elim (key_in_either row.bucket key ok more (covers_key (parent_of row.bucket) x.bucket key inside has)) [
+          | inl first ↦ inl (one_row rows key k at x row (omega (arith, once, most)) x_at own has first)
+          | inr second ↦ inr (one_row rows key k place x other (omega (arith, once, most)) x_at found has (subst (λ (y : Low). has_key y key ≡ true) (sym sibling) second))
+        ]
+
+-- so they are what goes
+pub halves_go : (rows : List Row) (at place : ℕ) (row : Row) (parent : Low) → AreHalves rows at place → slice_get rows at ≡ Some row → at < length rows → place < length rows
+    → parent ≡ parent_of row.bucket → (least most : ℕ) → ((at < place) → (least ≡ at) × (most ≡ place)) → ((place ≤ at) → (least ≡ place) × (most ≡ at))
+    → filter (λ (r : Row). not (covers parent r.bucket)) rows ≡ remove (remove rows most) least
+halves_go rows at place row parent h own lt within is least most up down = elim (cases_lt at place) [
+  | inl less ↦ go at place less within (λ k e. e) (λ k e. e) (up less).0 (up less).1
+  | inr more ↦ elim (cases_lt place at) [
+    | inl less ↦ go place at less lt (λ k e. swapped e) (λ k e. swapped e) (down more).0 (down more).1
+    | inr same ↦ absurd (h.apart (omega arith))
+  ]
+]
+  where
+    swapped : {A B : Type 0} → A ⊎ B → B ⊎ A
+    swapped (inl a) = inr a
+    swapped (inr b) = inl b
+
+    yes : (x : Row) (k : ℕ) → slice_get rows k ≡ Some x → (k ≡ at) ⊎ (k ≡ place) → not (covers parent x.bucket) ≡ false
+    yes x k x_at e = ap not (ap (λ p. covers p x.bucket) is ∙ (h.inside row own k x x_at).1 e)
+
+    tested : (b : Bool) → (b ≡ true → ⊥) → not b ≡ true
+    tested true f = absurd (f refl)
+    tested false f = refl
+
+    neither : {A B : Type 0} → (A → ⊥) → (B → ⊥) → A ⊎ B → ⊥
+    neither f g (inl a) = f a
+    neither f g (inr b) = g b
+
+    go : (i j : ℕ) → i < j → j < length rows → ((k : ℕ) → (k ≡ at) ⊎ (k ≡ place) → (k ≡ i) ⊎ (k ≡ j)) → ((k : ℕ) → (k ≡ i) ⊎ (k ≡ j) → (k ≡ at) ⊎ (k ≡ place))
+        → least ≡ i → most ≡ j → filter (λ (r : Row). not (covers parent r.bucket)) rows ≡ remove (remove rows most) least
+    go i j less top out back least_is most_is =
+        but_two (λ (r : Row). not (covers parent r.bucket)) rows i j less top
+        (λ k x x_at first second. tested (covers parent x.bucket) (λ e. neither first second (out k ((h.inside row own k x x_at).0 (ap (λ p. covers p x.bucket) (sym is) ∙ e)))))
+        (λ x x_at. yes x i x_at (back i (inl refl)))
+        (λ x x_at. yes x j x_at (back j (inr refl)))
+        ∙ ap₂ (λ m l. remove (remove rows m) l) (sym most_is) (sym least_is)
 
 -- a row that may be joined, and its sibling
 pub record Pair (lane : Low) (rows : List Row) (at : ℕ) : Type 0 where
@@ -201,9 +256,6 @@ pair_key lane rows at pair read sibling key is sibling_is key_is =
     let row_is : read ≡ pair.row = read_is rows rows at read pair.row refl is pair.own in
     key_is ∙ ap (λ (b : Low). b.low) (sibling_is ∙ ap (λ (r : Row). sibling_of r.bucket) row_is ∙ sym pair.joinable.sibling)
 
-has_low : (b : Low) → IsBucket b → has_key b b.low ≡ true
-has_low b ok = key_has b b.low (mod-eq_of_lt ok.fits)
-
 -- exactly one row has it
 pub pair_once : (lane : Low) (rows slice : List Row) (at : ℕ) (pair : Pair lane rows at) (key : ℕ) → AreRows lane (buckets_of rows) → slice ≡ rows → key ≡ pair.other.bucket.low
     → count_by (λ b. has_key b key) (buckets_of slice) ≡ 1
@@ -234,12 +286,9 @@ true_of false h = absurd (omega (arith, h))
 -- the sibling of a row of more bits lies in the lane
 sibling_inside : (lane b : Low) → IsBucket b → lane.bits < b.bits → 1 < b.bits → has_key lane b.low ≡ true → has_key lane (sibling_of b).low ≡ true
 sibling_inside lane b ok inside more has =
-    let fits = sibling_fits b ok more in
-    let parent : (sibling_of b).low % 2 ^ (b.bits - 1) ≡ b.low % 2 ^ (b.bits - 1) =
-    ((sibling_parts b ok more (sibling_of b).low).1 (inr (low_below (sibling_of b) fits, mod-eq_of_lt fits.fits))).1 in
     let le : lane.bits ≤ b.bits - 1 = omega arith in
     key_has lane (sibling_of b).low
-    (sym (low_of_low (sibling_of b).low lane.bits (b.bits - 1) le) ∙ ap (λ x. x % 2 ^ lane.bits) parent
+    (sym (low_of_low (sibling_of b).low lane.bits (b.bits - 1) le) ∙ ap (λ x. x % 2 ^ lane.bits) (covers_low (parent_of b) (sibling_of b) (covers_sibling b ok more))
     ∙ low_of_low b.low lane.bits (b.bits - 1) le ∙ key_in lane b.low has)
 
 pub read_more : (lane : Low) (read : Row) → IsBucket lane → lane.bits < read.bucket.bits → 1 < read.bucket.bits
@@ -259,7 +308,7 @@ sibling_once lane rows slice at read sibling key h same lt is inside sibling_is 
     let has = true_of (has_key lane b.low) (omega (arith, own, seen)) in
     let low = (sibling_of b).low in
     let one : count_by (λ x. has_key x low) (buckets_of rows) ≡ 1 =
-    h.partition low (low_below (sibling_of b) (sibling_fits b ok more)) ∙ ap one_if (sibling_inside lane b ok inside more has) in
+    h.partition low (low_below (sibling_of b) (sibling_valid b ok more)) ∙ ap one_if (sibling_inside lane b ok inside more has) in
     let key_low : key ≡ low = key_is ∙ ap (λ (x : Low). x.low) sibling_is in
     subst (λ (xs : List Row). count_by (λ x. has_key x key) (buckets_of xs) ≡ 1) (sym same) (subst (λ k. count_by (λ x. has_key x k) (buckets_of rows) ≡ 1) (sym key_low) one)
 

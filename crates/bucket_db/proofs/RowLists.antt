@@ -4,15 +4,20 @@ use Rattle.std.specs.List.{AllWithin, count_by, filter, insert, remove}
 use Rattle.std.specs.List.Sorted.{IsNonDecreasingBy}
 use Rattle.std.specs.Prelude.{slice_get, slice_set, IfSome}
 use Rattle.std.proofs.lemmas.Bool.{cases_lt, ltb-true, ltb-false}
+use Rattle.std.proofs.lemmas.List.{get_or-map, length-map}
+use Rattle.std.proofs.lemmas.List.Edits.{get_or-remove_below, get_or-remove_above, length-remove}
+use Rattle.std.proofs.lemmas.List.Kept.{AllPairs-from_increasing}
+use Rattle.std.proofs.lemmas.Grind.{get_or_default_zero}
 use Rattle.std.proofs.lemmas.Option.{slice_get_within, get_or_from_slice_get, slice_get-get_or}
 use Rattle.bucket_ids.specs.Buckets.{Low, IsBucket, has_key}
 use Rattle.bucket_ids.specs.Printed.{number_of}
 use Rattle.bucket_db.specs.Answers.{new_row}
 use Rattle.bucket_db.specs.Changes.{placed, with_row, at_row}
-use Rattle.bucket_db.specs.Rows.{AreBuckets, RisesFrom, buckets_of}
+use Rattle.bucket_db.specs.Order.{RisesFrom}
+use Rattle.bucket_db.specs.Rows.{AreBuckets, AreRising, AreRows, IsPartition, buckets_of}
 use Rattle.bucket_db.specs.declared.row.Row.{Row}
 use Rattle.bucket_db.proofs.Counts.{count_map, count_once, count_found}
-use Rattle.bucket_db.proofs.Inside.{key_in, number_bits, number_same}
+use Rattle.bucket_db.proofs.Inside.{key_in, has_low, low_below, number_bits, number_same}
 
 -- ---- rising numbers by place
 
@@ -50,6 +55,63 @@ rises_from least (b ∷ bs) from rise = (
   from 0 b (omega arith),
   rises_from (number_of b) bs (λ j d lt. rise 0 (suc j) d (omega arith) (omega arith)) (λ i j d le lt. rise (suc i) (suc j) d (omega arith) (omega arith)),
 )
+
+pub valid_at : (bs : List Low) (i : ℕ) (b : Low) → AreBuckets bs → slice_get bs i ≡ Some b → IsBucket b
+valid_at [] i b h e = let f : None ≡ Some b = e in cc
+valid_at (x ∷ xs) zero b h e = subst IsBucket (same e) h.0
+  where
+    same : Some x ≡ Some b → x ≡ b
+    same f = cc
+valid_at (x ∷ xs) (suc i) b h e = valid_at xs i b h.1 e
+
+number_at : (bs : List Low) (i e : ℕ) (d : Low) → i < length bs → get_or (map number_of bs) i e ≡ number_of (get_or bs i d)
+number_at bs i e d lt = get_or-map number_of bs i d e lt
+
+-- numbers that rise don't fall
+pub rises_of_rising : (bs : List Low) → AreRising bs → RisesFrom 0 bs
+rises_of_rising bs h = rises_from 0 bs (λ j d lt. omega arith) (λ i j d le lt. elim (cases_lt i j) [
+  | inl less ↦
+      let up : get_or (map number_of bs) i 0 < get_or (map number_of bs) j 0 =
+      AllPairs-from_increasing (map number_of bs) h i j 0 less (omega (arith, length-map bs number_of)) in
+      omega (arith, up, number_at bs i 0 d (omega arith), number_at bs j 0 d lt)
+  | inr more ↦
+      let same : i ≡ j = omega arith in
+      subst (λ k. number_of (get_or bs i d) ≤ number_of (get_or bs k d)) same (omega arith)
+])
+
+-- a bucket that stood at two places would have each of its keys twice
+pub rising_of_rises : (bs : List Low) → AreBuckets bs → ((key : ℕ) → key < 2 ^ 58 → count_by (λ b. has_key b key) bs ≤ 1) → RisesFrom 0 bs → AreRising bs
+rising_of_rises bs valid once rises k inside =
+    let none : Low = record { bits = 0; low = 0 } in
+    let within : k + 1 < length bs = omega (arith, inside, length-map bs number_of) in
+    let b = get_or bs k none in
+    let c = get_or bs (k + 1) none in
+    let b_at : slice_get bs k ≡ Some b = slice_get-get_or bs k none (omega arith) in
+    let c_at : slice_get bs (k + 1) ≡ Some c = slice_get-get_or bs (k + 1) none within in
+    let up : number_of b ≤ number_of c = rises_by_place 0 bs rises k (k + 1) none (omega arith) within in
+    let b_is : get_or (map number_of bs) k 0 ≡ number_of b = number_at bs k 0 none (omega arith) in
+    let c_is : get_or (map number_of bs) (k + 1) 0 ≡ number_of c = number_at bs (k + 1) 0 none within in
+    elim (cases_lt (number_of b) (number_of c)) [
+      | inl less ↦ omega (arith, less, b_is, c_is)
+      | inr more ↦
+          let okb = valid_at bs k b valid b_at in
+          let same = number_same b c okb (valid_at bs (k + 1) c valid c_at) (omega (arith, up, more)) in
+          let has = has_low b okb in
+          let again : has_key c b.low ≡ true = subst (λ (x : Low). has_key x b.low ≡ true) same has in
+          absurd (omega (arith, count_once (λ (x : Low). has_key x b.low) bs k (k + 1) b c (once b.low (low_below b okb)) b_at c_at has again))
+    ]
+
+one_or_none : (b : Bool) → cond b 1 0 ≤ 1
+one_or_none true = omega arith
+one_or_none false = omega arith
+
+pub are_rows : (lane : Low) (bs : List Low) → IsBucket lane → AreBuckets bs → IsPartition lane bs → RisesFrom 0 bs → AreRows lane bs
+are_rows lane bs ok valid partition rises = record {
+  bucket = ok;
+  valid = valid;
+  partition = partition;
+  rising = rising_of_rises bs valid (λ key small. omega (arith, partition key small, one_or_none (has_key lane key))) rises;
+}
 
 -- ---- a row that comes, and one that goes
 
@@ -121,14 +183,6 @@ bucket_at (x ∷ xs) zero r e = let f : Some x ≡ Some r = e in ap (λ (y : Row
     same : Some x ≡ Some r → x ≡ r
     same f = cc
 bucket_at (x ∷ xs) (suc i) r e = bucket_at xs i r e
-
-pub valid_at : (bs : List Low) (i : ℕ) (b : Low) → AreBuckets bs → slice_get bs i ≡ Some b → IsBucket b
-valid_at [] i b h e = let f : None ≡ Some b = e in cc
-valid_at (x ∷ xs) zero b h e = subst IsBucket (same e) h.0
-  where
-    same : Some x ≡ Some b → x ≡ b
-    same f = cc
-valid_at (x ∷ xs) (suc i) b h e = valid_at xs i b h.1 e
 
 -- at most one row has the key
 pub one_row : (rows : List Row) (key i j : ℕ) (r s : Row) → count_by (λ b. has_key b key) (buckets_of rows) ≤ 1
@@ -206,11 +260,52 @@ insert_found r rows slice number at e f le before from = insert_placed r rows at
     (subst (λ (xs : List Row). AllWithin (λ x. number_of r.bucket ≤ number_of x.bucket) xs at (length xs)) e
     (subst (λ n. AllWithin (λ (x : Row). n ≤ number_of x.bucket) slice at (length slice)) f from))
 
+-- the row of one place goes, and another comes where its number belongs
+pub exchange_found : (r : Row) (rows slice : List Row) (number gone place to : ℕ) → slice ≡ rows → number ≡ number_of r.bucket → gone < length rows → place ≤ length slice
+    → AllWithin (λ x. number_of x.bucket < number) slice 0 place → AllWithin (λ x. number ≤ number_of x.bucket) slice place (length slice)
+    → (gone < place → to + 1 ≡ place) → (place ≤ gone → to ≡ place) → insert (remove rows gone) to r ≡ with_row r (remove rows gone)
+exchange_found r rows slice number gone place to e f lt le before from behind ahead =
+    let rest = remove rows gone in
+    let fewer : length rest + 1 ≡ length rows = length-remove rows gone lt in
+    let most : place ≤ length rows = subst (λ (xs : List Row). place ≤ length xs) e le in
+    let below : (k : ℕ) (d : Row) → k < place → number_of (get_or rows k d).bucket < number_of r.bucket =
+    λ k d low. subst (λ n. number_of (get_or rows k d).bucket < n) f (subst (λ (xs : List Row). number_of (get_or xs k d).bucket < number) e (before k d (omega arith) low)) in
+    let above : (k : ℕ) (d : Row) → place ≤ k → k < length rows → number_of r.bucket ≤ number_of (get_or rows k d).bucket =
+    λ k d low high. subst (λ n. n ≤ number_of (get_or rows k d).bucket) f
+    (subst (λ (xs : List Row). number ≤ number_of (get_or xs k d).bucket) e (from k d low (subst (λ (xs : List Row). k < length xs) (sym e) high))) in
+    insert_placed r rest to (to_within fewer most)
+    (λ k d low high. elim (cases_lt k gone) [
+      | inl early ↦ subst (λ (x : Row). number_of x.bucket < number_of r.bucket) (sym (get_or-remove_below rows gone d k early lt)) (below k d (early_below k high))
+      | inr late ↦ subst (λ (x : Row). number_of x.bucket < number_of r.bucket) (sym (get_or-remove_above rows gone d k late lt)) (below (k + 1) d (late_below k high late))
+    ])
+    (λ k d low high. elim (cases_lt k gone) [
+      | inl early ↦ subst (λ (x : Row). number_of r.bucket ≤ number_of x.bucket) (sym (get_or-remove_below rows gone d k early lt)) (above k d (early_above k low early) (omega arith))
+      | inr late ↦ subst (λ (x : Row). number_of r.bucket ≤ number_of x.bucket) (sym (get_or-remove_above rows gone d k late lt)) (above (k + 1) d (late_above k low) (omega (arith, fewer, high)))
+    ])
+  where
+    to_within : length (remove rows gone) + 1 ≡ length rows → place ≤ length rows → to ≤ length (remove rows gone)
+    to_within fewer most = elim (cases_lt gone place) [ inl less ↦ omega (arith, behind less, fewer, most) | inr more ↦ omega (arith, ahead more, fewer, most, lt) ]
+
+    early_below : (k : ℕ) → k < to → k < place
+    early_below k high = elim (cases_lt gone place) [ inl less ↦ omega (arith, behind less) | inr more ↦ omega (arith, ahead more) ]
+
+    late_below : (k : ℕ) → k < to → gone ≤ k → k + 1 < place
+    late_below k high late = elim (cases_lt gone place) [ inl less ↦ omega (arith, behind less) | inr more ↦ absurd (omega (arith, ahead more)) ]
+
+    early_above : (k : ℕ) → to ≤ k → k < gone → place ≤ k
+    early_above k low early = elim (cases_lt gone place) [ inl less ↦ absurd (omega (arith, behind less)) | inr more ↦ omega (arith, ahead more) ]
+
+    late_above : (k : ℕ) → to ≤ k → place ≤ k + 1
+    late_above k low = elim (cases_lt gone place) [ inl less ↦ omega (arith, behind less) | inr more ↦ omega (arith, ahead more) ]
+
 pub row_rises : (r : Row) (rows : List Row) → RisesFrom 0 (buckets_of rows) → RisesFrom 0 (buckets_of (with_row r rows))
 row_rises r rows h = subst (λ bs. RisesFrom 0 bs) (sym (buckets_placed r rows)) (rises_placed 0 r.bucket (buckets_of rows) (omega arith) h)
 
 pub removed_rises : (rows : List Row) (at : ℕ) → RisesFrom 0 (buckets_of rows) → RisesFrom 0 (buckets_of (remove rows at))
 removed_rises rows at h = subst (λ bs. RisesFrom 0 bs) (sym (buckets_removed rows at)) (rises_removed 0 (buckets_of rows) at h)
+
+pub exchanged_rises : (r : Row) (rows : List Row) (at : ℕ) → RisesFrom 0 (buckets_of rows) → RisesFrom 0 (buckets_of (with_row r (remove rows at)))
+exchanged_rises r rows at h = row_rises r (remove rows at) (removed_rises rows at h)
 
 pub buckets_filtered : (p : Low → Bool) (rows : List Row) → buckets_of (filter (λ r. p r.bucket) rows) ≡ filter p (buckets_of rows)
 buckets_filtered p [] = refl
@@ -220,9 +315,6 @@ buckets_filtered p (r ∷ rows) = go (p r.bucket) (buckets_filtered p rows)
         → buckets_of (cond t (r ∷ filter (λ x. p x.bucket) rows) (filter (λ x. p x.bucket) rows)) ≡ cond t (r.bucket ∷ filter p (buckets_of rows)) (filter p (buckets_of rows))
     go true e = ap (λ bs. r.bucket ∷ bs) e
     go false e = e
-
-pub filtered_rises : (p : Low → Bool) (rows : List Row) → RisesFrom 0 (buckets_of rows) → RisesFrom 0 (buckets_of (filter (λ r. p r.bucket) rows))
-filtered_rises p rows h = subst (λ bs. RisesFrom 0 bs) (sym (buckets_filtered p rows)) (rises_filtered p 0 (buckets_of rows) h)
 
 -- a row written in its place
 pub set_at_row : (change : Row → Row) (rows : List Row) (at : ℕ) (x : Row) → at < length rows → x ≡ get_or rows at x → slice_set rows at (change x) ≡ at_row at change rows

@@ -25,7 +25,8 @@ IsFiner buckets others = AllByRecursion (λ b. list_any (λ r. covers r b) other
 pub record IsCoarsest (lane : Low) (answers rows : List Low) : Type 0 where
   pub partition : IsPartition lane rows
   pub undivided : NoneDivided answers rows
-  pub coarsest : (others : List Low) → AreBuckets others → IsPartition lane others → NoneDivided answers others → IsFiner others rows
+  pub coarsest : (others : List Low) → AreBuckets others → IsPartition lane others
+      → NoneDivided answers others → IsFiner others rows
 
 -- a row without marks, active node and Delete
 abbrev pub new_row : Low → Row

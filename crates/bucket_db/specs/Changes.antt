@@ -10,7 +10,8 @@ use Rattle.bucket_db.specs.declared.row.Row.{Row}
 -- x comes before the first of a greater or equal number
 abbrev pub placed : {X : Type 0} → (X → ℕ) → X → List X → List X
 placed number x [] = x ∷ []
-placed number x (y ∷ ys) = if nat_lt (number y) (number x) then y ∷ placed number x ys else x ∷ y ∷ ys
+placed number x (y ∷ ys) =
+    if nat_lt (number y) (number x) then y ∷ placed number x ys else x ∷ y ∷ ys
 
 -- the row comes where its number puts it
 abbrev pub with_row : Row → List Row → List Row
@@ -34,7 +35,8 @@ split_at at rows = with_halves (slice_get rows at) (remove rows at)
 -- the row that two siblings make: the common marks, the active node of both, and the Delete of either
 pub record IsJoined (row other joined : Row) : Type 0 where
   pub bucket : joined.bucket ≡ parent_of row.bucket
-  pub complete : (node : ℕ) → has_node joined.complete node ≡ (has_node row.complete node && has_node other.complete node)
+  pub complete : (node : ℕ)
+      → has_node joined.complete node ≡ (has_node row.complete node && has_node other.complete node)
   pub active : joined.active ≡ row.active
   pub own_delete : other.deleting ≡ None → joined.deleting ≡ row.deleting
   pub other_delete : row.deleting ≡ None → joined.deleting ≡ other.deleting
@@ -53,7 +55,8 @@ CanJoin d at = IfSome (slice_get d.rows at) (λ row. (other : Row) × IsJoinable
 
 -- the other row has the sibling's bucket, and neither marks nor Deletes stand against a join
 abbrev pub MayJoin : Row → Low → Row → Type 0
-MayJoin row sibling other = (other.bucket ≡ sibling) × ((row.active ≡ other.active) × ((row.deleting ≡ None) ⊎ (other.deleting ≡ None)))
+MayJoin row sibling other =
+    (other.bucket ≡ sibling) × ((row.active ≡ other.active) × ((row.deleting ≡ None) ⊎ (other.deleting ≡ None)))
 
 -- the rows inside the joined one go, and it comes
 abbrev pub with_joined : Row → List Row → List Row

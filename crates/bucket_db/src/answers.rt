@@ -3,7 +3,7 @@ ghost use Rattle.std.specs.List.{filter};
 ghost use Rattle.bucket_ids.specs.Buckets.{IsBucket};
 ghost use Rattle.bucket_ids.specs.Printed.{number_of};
 ghost use Rattle.bucket_db.specs.Answers.{is_inside, divides, IsCoarsest};
-ghost use Rattle.bucket_db.specs.Rows.{AreBuckets, RisesFrom};
+ghost use Rattle.bucket_db.specs.Rows.{AreBuckets, AreRising};
 ghost use Rattle.bucket_db.specs.Dividing.{IsDivided};
 
 use crate::row::number_of;
@@ -69,7 +69,7 @@ fn parts_of(alloc: Global, bucket: Bucket, answers: &[Bucket]) -> Result<Vec<Buc
 pub fn buckets_of(alloc: Global, lane: Bucket, answers: &[Bucket]) -> Result<Vec<Bucket>, NoMemory>
     ensures coarsest { IfOk result (λ buckets. IsCoarsest lane answers.now buckets.items) }
     ensures valid { IfOk result (λ buckets. AreBuckets buckets.items) }
-    ensures rising { IfOk result (λ buckets. RisesFrom 0 buckets.items) }
+    ensures rising { IfOk result (λ buckets. AreRising buckets.items) }
     ensures lane { OnOk result (IsBucket lane) }
 {
     let mut buckets = parts_of(alloc, lane, answers)?;

@@ -53,16 +53,19 @@ impl BucketDb {
     }
 
     /// The place of the row that a key of the lane lies in.
+    #[tactic(auto, using(crate::proofs::RowLists::rises_of_rising))]
     pub fn row_of(&self, key: u64) -> usize
         requires { IsIn self.now.lane key }
         ensures within { result < length self.now.rows }
         ensures found { IfSome (slice_get self.now.rows result) (λ row. has_key row.bucket key ≡ true) }
-        ensures only { (at : ℕ) (row : Row) → slice_get self.now.rows at ≡ Some row → has_key row.bucket key ≡ true → at ≡ result }
+        ensures only { (at : ℕ) (row : Row) → slice_get self.now.rows at ≡ Some row
+            → has_key row.bucket key ≡ true → at ≡ result }
     {
         search::place_of(&self.rows, key)
     }
 
     /// Splits a row: each half inherits the marks, the active node and the Delete.
+    #[tactic(auto, using(crate::proofs::RowLists::rises_of_rising))]
     pub fn split_row(&mut self, at: usize) -> Result<(), NoMemory>
         requires place { at < length self.old.rows }
         requires fewer { IfSome (slice_get self.old.rows at) (λ row. row.bucket.bits < 58) }
@@ -74,6 +77,7 @@ impl BucketDb {
 
     /// Whether a row may be joined: its sibling is a row, both have more bits than the lane's bucket
     /// and the same active node or none, and not both have a Delete.
+    #[tactic(auto, using(crate::proofs::RowLists::rises_of_rising))]
     pub fn can_join(&self, at: usize) -> bool
         requires { at < length self.now.rows }
         ensures { IsTrue result ↔ CanJoin self.now at }
@@ -89,22 +93,27 @@ impl BucketDb {
 
     /// Joins a row with its sibling, where that is a row too: common marks stay, and the Delete of
     /// either.
+    #[tactic(auto, using(crate::proofs::RowLists::rises_of_rising))]
     pub fn join_rows(&mut self, at: usize) -> Result<(), NoMemory>
         requires place { at < length self.old.rows }
         requires joinable { CanJoin self.old at }
-        ensures ok { (row other : Row) → slice_get self.old.rows at ≡ Some row → IsJoinable self.old.lane self.old.rows row other
-            → OnOk result ((joined : Row) × IsJoined row other joined × (self.new ≡ with_rows self.old (with_joined joined self.old.rows))) }
+        ensures ok { (row other : Row) → slice_get self.old.rows at ≡ Some row
+            → IsJoinable self.old.lane self.old.rows row other
+            → OnOk result ((joined : Row) × IsJoined row other joined
+            × (self.new ≡ with_rows self.old (with_joined joined self.old.rows))) }
         ensures err { OnErr result (self.new ≡ self.old) }
     {
         let sibling = self.rows[at].bucket.sibling();
         let other = search::place_of(&self.rows, sibling.low());
-        changes::join_at(&mut self.rows, at, other)
+        changes::join_at(&mut self.rows, at, other);
+        Ok(())
     }
 
     /// Says which nodes are complete members of a row.
     pub fn set_marks(&mut self, at: usize, complete: NodeSet)
         requires { at < length self.old.rows }
-        ensures { self.new ≡ with_rows self.old (at_row at (λ row. record row { complete = complete }) self.old.rows) }
+        ensures { self.new ≡ with_rows self.old
+            (at_row at (λ row. record row { complete = complete }) self.old.rows) }
     {
         self.rows[at].complete = complete;
     }
@@ -112,7 +121,8 @@ impl BucketDb {
     /// Says that a node is a row's active one.
     pub fn set_active(&mut self, at: usize, node: u8)
         requires { at < length self.old.rows }
-        ensures { self.new ≡ with_rows self.old (at_row at (λ row. record row { active = Some node }) self.old.rows) }
+        ensures { self.new ≡ with_rows self.old
+            (at_row at (λ row. record row { active = Some node }) self.old.rows) }
     {
         self.rows[at].active = Some(node);
     }
@@ -120,7 +130,8 @@ impl BucketDb {
     /// Says which Delete of a row has no answer.
     pub fn set_deleting(&mut self, at: usize, deleting: Option<Deleting>)
         requires { at < length self.old.rows }
-        ensures { self.new ≡ with_rows self.old (at_row at (λ row. record row { deleting = deleting }) self.old.rows) }
+        ensures { self.new ≡ with_rows self.old
+            (at_row at (λ row. record row { deleting = deleting }) self.old.rows) }
     {
         self.rows[at].deleting = deleting;
     }

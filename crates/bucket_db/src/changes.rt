@@ -1,7 +1,7 @@
-ghost use Rattle.std.specs.Prelude.{◌≡◌, ◌⊎◌, ◌+◌, ◌<◌, ◌≤◌, length, not, Some, None, IsTrue, ◌↔◌, OnOk, OnErr, IfSome, slice_get, vec_len, vec_capacity};
-ghost use Rattle.std.specs.List.{filter};
-ghost use Rattle.bucket_ids.specs.Buckets.{covers};
-ghost use Rattle.bucket_db.specs.Rows.{RisesFrom, buckets_of};
+ghost use Rattle.std.specs.Prelude.{◌≡◌, ◌⊎◌, ◌+◌, ◌<◌, ◌≤◌, length, Some, None, IsTrue, ◌↔◌, OnOk, OnErr, IfSome, slice_get, vec_len, vec_capacity};
+ghost use Rattle.std.specs.List.{insert, remove};
+ghost use Rattle.bucket_db.specs.Order.{AreHalves, RisesFrom};
+ghost use Rattle.bucket_db.specs.Rows.{buckets_of};
 ghost use Rattle.bucket_db.specs.Changes.{with_row, split_at, with_joined, IsJoined, MayJoin};
 ghost use Rattle.bucket_db.specs.declared.row.Row.{Row};
 
@@ -24,6 +24,65 @@ pub fn place(rows: &mut Vec<Row>, row: Row)
     };
 }
 
+/// The place that a row comes to where another goes first.
+fn place_without(gone: usize, place: usize) -> usize
+    ensures behind { gone < place → result + 1 ≡ place }
+    ensures before { place ≤ gone → result ≡ place }
+{
+    if gone < place { place - 1 } else { place }
+}
+
+/// Takes out the row of one place and puts another in at a later one; what lies between comes forward.
+fn move_forward(rows: &mut Vec<Row>, from: usize, to: usize, row: Row)
+    requires rising { from < to }
+    requires to { to < length rows.old.items }
+    ensures rows { rows.new.items ≡ insert (remove rows.old.items from) to row }
+    ensures len { vec_len rows.new ≡ vec_len rows.old }
+    ensures capacity { vec_capacity rows.new ≡ vec_capacity rows.old }
+{
+    rows.copy_within(from + 1..to + 1, from);
+    rows[to] = row;
+}
+
+/// Takes out the row of one place and puts another in at no later one; what lies between goes back.
+fn move_back(rows: &mut Vec<Row>, from: usize, to: usize, row: Row)
+    requires falling { to ≤ from }
+    requires from { from < length rows.old.items }
+    ensures rows { rows.new.items ≡ insert (remove rows.old.items from) to row }
+    ensures len { vec_len rows.new ≡ vec_len rows.old }
+    ensures capacity { vec_capacity rows.new ≡ vec_capacity rows.old }
+{
+    rows.copy_within(to..from, to + 1);
+    rows[to] = row;
+}
+
+/// Takes out the row of one place and puts another in at a place; only what lies between moves.
+fn replace(rows: &mut Vec<Row>, from: usize, to: usize, row: Row)
+    requires from { from < length rows.old.items }
+    requires to { to < length rows.old.items }
+    ensures rows { rows.new.items ≡ insert (remove rows.old.items from) to row }
+    ensures len { vec_len rows.new ≡ vec_len rows.old }
+    ensures capacity { vec_capacity rows.new ≡ vec_capacity rows.old }
+{
+    if from < to {
+        move_forward(rows, from, to, row);
+    } else {
+        move_back(rows, from, to, row);
+    }
+}
+
+/// Takes out the row of a place and puts another in where its number belongs.
+fn exchange(rows: &mut Vec<Row>, at: usize, row: Row)
+    requires place { at < length rows.old.items }
+    requires rising { RisesFrom 0 (buckets_of rows.old.items) }
+    ensures rows { rows.new.items ≡ with_row row (remove rows.old.items at) }
+    ensures len { vec_len rows.new ≡ vec_len rows.old }
+    ensures capacity { vec_capacity rows.new ≡ vec_capacity rows.old }
+{
+    let place = first_from(rows, number_of(row.bucket));
+    replace(rows, at, place_without(at, place), row);
+}
+
 /// Splits the row of a place in its halves.
 pub fn split_at(rows: &mut Vec<Row>, at: usize) -> Result<(), NoMemory>
     requires place { at < length rows.old.items }
@@ -33,10 +92,11 @@ pub fn split_at(rows: &mut Vec<Row>, at: usize) -> Result<(), NoMemory>
     ensures err { OnErr result (rows.new.items ≡ rows.old.items) }
 {
     rows.reserve(1)?;
-    let row = rows.remove(at);
+    let row = rows[at];
     let (first, second) = row.bucket.children();
-    place(
+    exchange(
         rows,
+        at,
         Row {
             bucket: first,
             ..row
@@ -110,32 +170,27 @@ pub fn may_join(row: &Row, sibling: Bucket, other: &Row) -> bool
     same_active(row.active, other.active)
 }
 
-/// Removes the rows that lie inside a bucket.
-fn drop_inside(rows: &mut Vec<Row>, bucket: Bucket)
-    ensures items { rows.new.items ≡ filter (λ r. not (covers bucket r.bucket)) rows.old.items }
-    ensures len { vec_len rows.new ≤ vec_len rows.old }
-    ensures capacity { vec_capacity rows.new ≡ vec_capacity rows.old }
+/// Two places, the lesser first.
+fn in_order(at: usize, other: usize) -> (usize, usize)
+    ensures rising { at < other → (result.0 ≡ at) × (result.1 ≡ other) }
+    ensures falling { other ≤ at → (result.0 ≡ other) × (result.1 ≡ at) }
 {
-    rows.retain(
-        |row: &Row| -> bool
-            ensures { result ≡ not (covers bucket row.now.bucket) }
-        { !bucket.covers(row.bucket) },
-    );
+    if at < other { (at, other) } else { (other, at) }
 }
 
 /// Joins the rows of two places, which are siblings.
-pub fn join_at(rows: &mut Vec<Row>, at: usize, sibling: usize) -> Result<(), NoMemory>
+pub fn join_at(rows: &mut Vec<Row>, at: usize, sibling: usize)
     requires place { at < length rows.old.items }
     requires sibling { sibling < length rows.old.items }
+    requires halves { AreHalves rows.old.items at sibling }
     requires more { IfSome (slice_get rows.old.items at) (λ row. 1 < row.bucket.bits) }
     requires rising { RisesFrom 0 (buckets_of rows.old.items) }
-    ensures ok { (row other : Row) → slice_get rows.old.items at ≡ Some row → slice_get rows.old.items sibling ≡ Some other
-        → OnOk result ((joined : Row) × IsJoined row other joined × (rows.new.items ≡ with_joined joined rows.old.items)) }
-    ensures err { OnErr result (rows.new.items ≡ rows.old.items) }
+    ensures { (row other : Row) → slice_get rows.old.items at ≡ Some row
+        → slice_get rows.old.items sibling ≡ Some other
+        → (joined : Row) × IsJoined row other joined × (rows.new.items ≡ with_joined joined rows.old.items) }
 {
-    rows.reserve(1)?;
     let joined = joined(&rows[at], &rows[sibling]);
-    drop_inside(rows, joined.bucket);
-    place(rows, joined);
-    Ok(())
+    let (least, most) = in_order(at, sibling);
+    let _last = rows.remove(most);
+    exchange(rows, least, joined);
 }

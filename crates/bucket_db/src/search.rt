@@ -2,7 +2,8 @@ ghost use Rattle.std.specs.Prelude.{◌≡◌, ℕ, ◌+◌, ◌*◌, ◌%◌, �
 ghost use Rattle.std.specs.List.{AllWithin, count_by};
 ghost use Rattle.bucket_ids.specs.Buckets.{has_key};
 ghost use Rattle.bucket_ids.specs.Printed.{number_of};
-ghost use Rattle.bucket_db.specs.Rows.{AreBuckets, RisesFrom, buckets_of};
+ghost use Rattle.bucket_db.specs.Order.{RisesFrom};
+ghost use Rattle.bucket_db.specs.Rows.{AreBuckets, buckets_of};
 ghost use Rattle.bucket_db.specs.declared.row.Row.{Row};
 
 use crate::row::{Row, number_of};
@@ -42,7 +43,8 @@ fn has_at(rows: &[Row], at: usize, key: u64) -> bool
     requires { key < 2 ^ 58 }
     ensures yes { IsTrue result → IfSome (slice_get rows.now at) (λ row. has_key row.bucket key ≡ true) }
     ensures within { IsTrue result → at < length rows.now }
-    ensures no { IsFalse result → (row : Row) → slice_get rows.now at ≡ Some row → has_key row.bucket key ≡ false }
+    ensures no { IsFalse result → (row : Row) → slice_get rows.now at ≡ Some row
+        → has_key row.bucket key ≡ false }
 {
     match rows.get(at) {
         Some(row) => row.bucket.contains(key),
@@ -59,7 +61,8 @@ pub fn place_of(rows: &[Row], key: u64) -> usize
     requires one { count_by (λ b. has_key b key) (buckets_of rows.now) ≡ 1 }
     ensures within { result < length rows.now }
     ensures found { IfSome (slice_get rows.now result) (λ row. has_key row.bucket key ≡ true) }
-    ensures only { (at : ℕ) (row : Row) → slice_get rows.now at ≡ Some row → has_key row.bucket key ≡ true → at ≡ result }
+    ensures only { (at : ℕ) (row : Row) → slice_get rows.now at ≡ Some row
+        → has_key row.bucket key ≡ true → at ≡ result }
 {
     let (Some(first), Some(last)) = (rows.first(), rows.last()) else {
         unreachable!();
