@@ -12,8 +12,8 @@ use Rattle.bucket_db.proofs.changes.split_at.Goals as goal
 
 pub place-requires-clause-rising : goal.place-requires-clause-rising
 place-requires-clause-rising c =
-    subst (λ (xs : List Row). RisesFrom 0 (buckets_of xs)) (sym (c.exchange.ensures.rows ∙ ap (λ (xs : List Row). with_row (record c.index-row.result.now { bucket = c.children.result.0 }) (remove xs c.args.at)) c.in_ok-reserve.ensures.items))
-    (exchanged_rises _ c.args.rows.now.items c.args.at c.requires.rising)
+    let rises = subst (λ (xs : List Row). RisesFrom 0 (buckets_of xs)) (sym c.in_ok-reserve.ensures.items) c.requires.rising in
+    subst (λ (xs : List Row). RisesFrom 0 (buckets_of xs)) (sym c.exchange.ensures.rows) (exchanged_rises _ c.reserve.new.self.items c.args.at rises)
 
 pub returns-clause-ok : goal.returns-clause-ok
 returns-clause-ok c =
