@@ -6,3 +6,4 @@ pub mod StoredLaws
 pub mod RunLaws
 pub mod MergeLaws
 pub mod CountLaws
+pub mod StampLaws

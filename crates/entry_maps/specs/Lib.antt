@@ -1,5 +1,6 @@
 -- `Entries` says what a map of entries has, and `EntryCodes` that it is data; a reader needs no more. How
 -- slots lie in it say `Order`, `Slots` and `Chunks`, and `Merging` and `Runs` what a merge and a bucket take of them.
+-- `Stamps` has the stamps of its entries in rising order.
 pub mod Entries
 pub mod EntryCodes
 pub mod Order
@@ -7,3 +8,4 @@ pub mod Slots
 pub mod Chunks
 pub mod Merging
 pub mod Runs
+pub mod Stamps

@@ -3,15 +3,17 @@ ghost use Rattle.std.specs.Option.{option_copied};
 ghost use Rattle.std.specs.FinMap as fin;
 ghost use Rattle.global_ids.specs.Keys.{key_of};
 ghost use Rattle.entry_maps.specs.Entries.{is_newer, with_entry, newer_of, in_bucket, documents_of};
+ghost use Rattle.entry_maps.specs.Stamps.{stamps_of};
 
 use crate::entry::Entry;
 use crate::stored::Stored;
 use bucket_ids::{Bucket, path_of};
 use document_ids::DocId;
 use global_ids::key_of;
+use stamps::Stamp;
 use std::alloc::Global;
 use std::marker::Model;
-use value_lists::NoMemory;
+use value_lists::{NoMemory, TryCopy};
 
 /// The newest entry of each document.
 #[derive(Drop)]
@@ -73,6 +75,13 @@ impl EntryMap {
         self.stored.documents as u64
     }
 
+    /// The stamps of all entries, each once, the smallest first. The only error is want of memory.
+    pub fn stamps(&self) -> Result<Vec<Stamp>, NoMemory>
+        ensures { IfOk result (λ stamps. stamps.items ≡ stamps_of self.now) }
+    {
+        self.stored.stamps(self.alloc)
+    }
+
     /// Takes an entry; `false` exactly where an entry of the same or a greater stamp was there,
     /// which stays. The only error is want of memory.
     pub fn put(&mut self, entry: Entry) -> Result<bool, NoMemory>
@@ -117,5 +126,15 @@ impl EntryMap {
         ensures { self.new ≡ fin.retain_keys self.old (λ id. not (in_bucket bucket id)) }
     {
         self.stored.remove_within(bucket);
+    }
+}
+
+impl TryCopy for EntryMap {
+    /// The entries are shared.
+    fn copy(&self, alloc: Global) -> Result<EntryMap, NoMemory> {
+        Ok(EntryMap {
+            stored: self.stored.shared(alloc)?,
+            alloc,
+        })
     }
 }

@@ -12,6 +12,8 @@
 //! map.get_at(key, &id)                // the same, where the id's key is at hand
 //! map.within(Bucket::new(4, 0))?      // the entries of one bucket
 //! map.merge(&other)?;                 // of each document the newer entry
+//! map.stamps()?                       // the stamps of all entries, the smallest first
+//! map.copy(alloc)?                    // the same entries, shared
 //! ```
 #![tactic(auto)]
 
@@ -20,6 +22,8 @@ mod cuts;
 mod edits;
 pub mod entry;
 pub mod entry_map;
+pub mod laws;
+mod listing;
 mod merging;
 mod runs;
 mod slots;

@@ -49,7 +49,7 @@ impl Stored {
     }
 
     /// Copies of the slots of a run. The only error is want of memory.
-    fn copied(&self, alloc: Global, run: Run) -> Result<Stored, NoMemory>
+    pub fn copied(&self, alloc: Global, run: Run) -> Result<Stored, NoMemory>
         requires stored { IsStored self.now }
         requires run { IsWhole self.now.list run }
         ensures slots { IfOk result (λ part. slots_in part ≡ take run.entries (drop (place self.now.list run.from) (slots_in self.now))) }
