@@ -1,0 +1,9 @@
+pub mod PieceLaws
+pub mod RunLaws
+pub mod Laid
+pub mod Serials
+pub mod Finding
+pub mod PlaceLaws
+pub mod ApplyLaws
+pub mod KeyLaws
+pub mod ToldLaws

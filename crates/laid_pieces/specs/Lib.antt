@@ -1,0 +1,8 @@
+-- `Pieces` says what each call makes of a list of pieces, `Told` where it is refused, and `Holdings` what a
+-- node has of pieces and what it keeps of them. `Runs` and `Places` say where pieces lie; only this crate
+-- speaks of these.
+pub mod Pieces
+pub mod Told
+pub mod Holdings
+pub mod Runs
+pub mod Places
