@@ -1,0 +1,66 @@
+ghost use Rattle.std.specs.Prelude.{◌≡◌, IfOk};
+ghost use Rattle.conditions.specs.Formulas.{claim};
+ghost use Rattle.conditions.specs.Views as views;
+ghost use Rattle.query_text.specs.Formulas.{formula_of};
+
+use crate::terms::{Rel, Term};
+use conditions::Tree;
+use doc_types::TextList;
+use std::alloc::Global;
+use value_lists::{NoMemory, TextValue};
+
+/// What a query asks of a document. A chain of `and` or of `or` is a balanced tree.
+#[derive(Drop)]
+pub enum Expr {
+    True,
+    False,
+    Not(Box<Expr>),
+    And(Box<Expr>, Box<Expr>),
+    Or(Box<Expr>, Box<Expr>),
+    /// There is a token, and the field has each.
+    Contains {
+        field: TextValue,
+        tokens: TextList,
+    },
+    /// The field, or some item of it, compares so with the number.
+    Compare {
+        field: TextValue,
+        rel: Rel,
+        number: i64,
+    },
+}
+
+/// The expression of one term; takes no memory.
+fn expr_of_term(term: Term) -> Expr
+    ensures { formula_of result ≡ claim term }
+{
+    match term {
+        Term::Contains { field, tokens } => Expr::Contains { field, tokens },
+        Term::Compare { field, rel, number } => Expr::Compare { field, rel, number },
+    }
+}
+
+/// The expression of a tree of terms; the only error is want of memory.
+pub fn expr_of(alloc: Global, tree: Tree<Term>) -> Result<Expr, NoMemory>
+    ensures { IfOk result (λ expr. formula_of expr ≡ views.formula_of tree) }
+{
+    match tree {
+        Tree::True => Ok(Expr::True),
+        Tree::False => Ok(Expr::False),
+        Tree::Atom(term) => Ok(expr_of_term(term)),
+        Tree::Not(inner) => {
+            let inner = expr_of(alloc, Box::into_inner(inner))?;
+            Ok(Expr::Not(Box::new(alloc, inner)?))
+        }
+        Tree::And(one, two) => {
+            let one = expr_of(alloc, Box::into_inner(one))?;
+            let two = expr_of(alloc, Box::into_inner(two))?;
+            Ok(Expr::And(Box::new(alloc, one)?, Box::new(alloc, two)?))
+        }
+        Tree::Or(one, two) => {
+            let one = expr_of(alloc, Box::into_inner(one))?;
+            let two = expr_of(alloc, Box::into_inner(two))?;
+            Ok(Expr::Or(Box::new(alloc, one)?, Box::new(alloc, two)?))
+        }
+    }
+}
