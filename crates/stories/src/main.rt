@@ -5,8 +5,6 @@
 #[cfg(test)]
 mod choices;
 #[cfg(test)]
-mod document_tables;
-#[cfg(test)]
 mod faults;
 #[cfg(test)]
 mod large_maps;
@@ -14,13 +12,7 @@ mod large_maps;
 mod lines;
 #[cfg(test)]
 mod maps;
-#[cfg(test)]
-mod names;
-#[cfg(test)]
-mod states;
 mod story;
-#[cfg(test)]
-mod words;
 
 use crate::story::Story;
 use anyhow::Result;
