@@ -1,10 +1,11 @@
 -- Where bytes have no line feed.
-use Rattle.std.proofs.Common.{◌≡◌, ℕ, suc, ◌+◌, ◌<◌, ◌≤◌, ◌==◌, Bool, true, false, None, Some, List, [], ◌∷◌, ◌++◌, length, get_or, take, drop, sym, ◌∙◌, subst, arith, length-take, length-drop, get_or-take, get_or-drop, take-add, take-append-drop}
+use Rattle.std.proofs.Common.{◌≡◌, ℕ, zero, suc, ◌+◌, ◌<◌, ◌≤◌, ◌==◌, Bool, true, false, None, Some, List, [], ◌∷◌, ◌++◌, length, get_or, take, drop, sym, ◌∙◌, subst, arith, length-take, length-drop, get_or-take, get_or-drop, take-add, take-append-drop}
 use Rattle.std.proofs.lemmas.Bool.Decides.{nat_tests}
 use Rattle.std.proofs.lemmas.Bool.{false≢true}
 use Rattle.memchr.specs.Find.{IsFirstByte, is_byte}
 use Rattle.io_ends.specs.Lines.{NoLineFeed}
-use Rattle.io_ends.specs.Filling.{IsFeedAt}
+use Rattle.io_ends.specs.Filling.{IsFeedAt, IsNearEnd}
+use Rattle.io_ends.specs.declared.sizes.TheConstants.{PIECE}
 
 -- no line feed at any place
 pub NoLineFeed-from_places : (xs : List ℕ) → ((k : ℕ) → k < length xs → get_or xs k 0 ≡ 10 → ⊥) → NoLineFeed xs
@@ -18,6 +19,19 @@ NoLineFeed-append (x ∷ xs) ys p q = (p.0, NoLineFeed-append xs ys p.1 q)
 -- the front and the rest
 pub NoLineFeed-whole : (xs : List ℕ) (from : ℕ) → NoLineFeed (take from xs) → NoLineFeed (drop from xs) → NoLineFeed xs
 NoLineFeed-whole xs from p q = subst NoLineFeed (take-append-drop from xs) (NoLineFeed-append (take from xs) (drop from xs) p q)
+
+-- a line feed stands behind all bytes that have none
+pub feed_behind : (xs : List ℕ) (seen at : ℕ) → NoLineFeed (take seen xs) → IsFeedAt xs at → seen ≤ at
+feed_behind [] seen at clear feed = absurd (omega (arith, feed.within))
+feed_behind (x ∷ xs) zero at clear feed = omega arith
+feed_behind (x ∷ xs) (suc seen) zero clear feed = absurd (clear.0 feed.here)
+feed_behind (x ∷ xs) (suc seen) (suc at) clear feed =
+    let deeper : seen ≤ at = feed_behind xs seen at clear.1 (record { within = omega (arith, feed.within); before = feed.before.1; here = feed.here }) in
+    omega (arith, deeper)
+
+-- where all but a piece was seen, the first line feed stands in the last piece
+pub near_end-seen : (xs : List ℕ) (seen : ℕ) → NoLineFeed (take seen xs) → length xs ≤ seen + PIECE → IsNearEnd xs
+near_end-seen xs seen clear few at feed = omega (arith, few, feed_behind xs seen at clear feed)
 
 pub feed_none : (xs : List ℕ) (from : ℕ) → ((k : ℕ) → 0 ≤ k → k < length (drop from xs) → get_or (drop from xs) k 0 ≡ 10 → ⊥) → NoLineFeed (take from xs) → NoLineFeed xs
 feed_none xs from h p = NoLineFeed-whole xs from p (NoLineFeed-from_places (drop from xs) (λ k q. h k (omega arith) q))

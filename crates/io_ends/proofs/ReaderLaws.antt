@@ -4,14 +4,15 @@ use Rattle.std.proofs.lemmas.List.{take-append-le}
 use Rattle.std.specs.Io.KnownBytes.{Keeps, IsAtEnd}
 use Rattle.io_ends.specs.Ahead.{Ahead}
 use Rattle.io_ends.specs.Fetching.{Fetches}
-use Rattle.io_ends.specs.Filling.{HoldsIn, IsLong, IsFeedAt, Passes, after_line, Gives, GivesLast}
+use Rattle.io_ends.specs.Filling.{HoldsIn, IsLong, IsNearEnd, IsFeedAt, Passes, after_line, Gives, GivesLast}
 use Rattle.io_ends.specs.Lines.{NoLineFeed, lines_of, end_of}
-use Rattle.io_ends.specs.Reading.{Reading, IsSplit, IsAt, StandsIn, longest, Reaches, Tells}
+use Rattle.io_ends.specs.Reading.{Reading, IsSplit, IsAt, StandsIn, Reaches, Tells}
 use Rattle.io_ends.specs.declared.next.Next.{Next}
 use Rattle.io_ends.specs.declared.next.Next.TheVariants as next
 use Rattle.io_ends.specs.declared.next.LimitKind.TheVariants as limit
+use Rattle.io_ends.specs.declared.sizes.TheConstants.{LONGEST, PIECE}
 use Rattle.io_ends.proofs.Seeking.{IsSought}
-use Rattle.io_ends.proofs.FeedPlaces.{NoLineFeed-append}
+use Rattle.io_ends.proofs.FeedPlaces.{NoLineFeed-append, near_end-seen}
 use Rattle.io_ends.proofs.LineLaws.{lines_of_first, lines_of_last, lines_of_none, end_of_first, end_of_last, end_of_past, end_of_zero, end_of_none, lines_of_some}
 
 whole_take : (xs : List ℕ) → take (length xs) xs ≡ xs
@@ -49,16 +50,20 @@ split_passed bytes w (Some left) clear h = record {
 -- what a search may rely on after it passed over a long front, or didn't
 pub record IsPassed (old new : Ahead) (room seen : ℕ) : Type 0 where
   pub kept : (bytes : List ℕ) (left : Option (List ℕ)) → HoldsIn bytes old left → HoldsIn bytes new left
-  pub seen_lies_ahead : seen ≤ length new.ahead
+  pub all_seen : seen ≡ length new.ahead
   pub clear : NoLineFeed (take seen new.ahead)
   pub passed : new.passed ≤ room
   pub long : IsLong new
 
-pass_over : (old new : Ahead) (room size seen : ℕ) → (new ≡ record { ahead = []; passed = old.passed + length old.ahead }) × (seen ≡ 0) → longest < size → length old.ahead ≡ size
+-- where all that lies ahead was seen, its last piece is where the first line feed stands, if there is one
+pub near_passed : (old new : Ahead) (room seen : ℕ) → IsPassed old new room seen → IsNearEnd new.ahead
+near_passed old new room seen p = near_end-seen new.ahead seen p.clear (omega (arith, p.all_seen))
+
+pass_over : (old new : Ahead) (room size seen : ℕ) → (new ≡ record { ahead = []; passed = old.passed + length old.ahead }) × (seen ≡ 0) → LONGEST < size → length old.ahead ≡ size
     → NoLineFeed old.ahead → old.passed + size ≤ room → IsPassed old new room seen
 pass_over old new room size seen is more len clear fits = record {
   kept = λ bytes left h. subst (λ w. HoldsIn bytes w left) (sym is.0) (split_passed bytes old left clear h);
-  seen_lies_ahead = omega (arith, is.1);
+  all_seen = is.1 ∙ sym (ap (λ (w : Ahead). length w.ahead) is.0);
   clear = subst NoLineFeed (sym (ap (λ n. take n new.ahead) is.1)) tt;
   passed = omega (arith, ap (λ (w : Ahead). w.passed) is.0, len);
   long = λ _. omega (arith, ap (λ (w : Ahead). w.passed) is.0, len, more);
@@ -70,7 +75,7 @@ pass_none old new room size seen is len clear fits long =
     let same : seen ≡ length old.ahead = is.1 ∙ sym len in
     subst (λ w. IsPassed old w room seen) (sym is.0) (record {
       kept = λ bytes left h. h;
-      seen_lies_ahead = omega (arith, same);
+      all_seen = same;
       clear = subst NoLineFeed (sym (ap (λ n. take n old.ahead) same ∙ whole_take old.ahead)) clear;
       passed = omega arith;
       long = long;
@@ -78,21 +83,24 @@ pass_none old new room size seen is len clear fits long =
 
 pub passes : (old new : Ahead) (room size seen : ℕ) → Passes old new size seen → length old.ahead ≡ size → NoLineFeed old.ahead → old.passed + size ≤ room → IsLong old → IsPassed old new room seen
 passes old new room size seen h len clear fits long =
-    elim (nat_lt longest size) as (λ t. nat_lt longest size ≡ t → MatchBool t ((new ≡ record { ahead = []; passed = old.passed + length old.ahead }) × (seen ≡ 0)) ((new ≡ old) × (seen ≡ size)) → IsPassed old new room seen) [
-      | true ↦ λ e is. pass_over old new room size seen is (ltb-true longest size e) len clear fits
+    elim (nat_lt LONGEST size) as (λ t. nat_lt LONGEST size ≡ t → MatchBool t ((new ≡ record { ahead = []; passed = old.passed + length old.ahead }) × (seen ≡ 0)) ((new ≡ old) × (seen ≡ size)) → IsPassed old new room seen) [
+      | true ↦ λ e is. pass_over old new room size seen is (ltb-true LONGEST size e) len clear fits
       | false ↦ λ e is. pass_none old new room size seen is len clear fits long
     ] refl h
 
 -- one more turn of the search
 pub sought_next : (first : Ahead) (told : Option (List ℕ)) (w mid new : Ahead) (left after : Option (List ℕ)) (room seen next n : ℕ) → IsSought first told w left room seen
     → IsPassed w mid room next → Fetches mid new left after n → IsSought first told new after room next
-sought_next first told w mid new left after room seen next n s p f = record {
-  seen_lies_ahead = omega (arith, p.seen_lies_ahead, ap length f.ahead, length-append mid.ahead f.bytes);
-  clear = subst NoLineFeed (sym (ap (take next) f.ahead ∙ take-append-le next mid.ahead f.bytes p.seen_lies_ahead)) p.clear;
-  kept = λ bytes h. split_fetched bytes mid new left after n f (p.kept bytes left (s.kept bytes h));
-  passed = omega (arith, f.passed, p.passed);
-  long = subst (λ x. 0 < x → longest < x) (sym f.passed) p.long;
-}
+sought_next first told w mid new left after room seen next n s p f =
+    let clear = subst NoLineFeed (sym (ap (take next) f.ahead ∙ take-append-le next mid.ahead f.bytes (omega (arith, p.all_seen)))) p.clear in
+    record {
+      seen_lies_ahead = omega (arith, p.all_seen, ap length f.ahead, length-append mid.ahead f.bytes);
+      clear = clear;
+      kept = λ bytes h. split_fetched bytes mid new left after n f (p.kept bytes left (s.kept bytes h));
+      passed = omega (arith, f.passed, p.passed);
+      long = subst (λ x. 0 < x → LONGEST < x) (sym f.passed) p.long;
+      near = near_end-seen new.ahead next clear (omega (arith, p.all_seen, ap length f.ahead, length-append mid.ahead f.bytes, f.size, f.few));
+    }
 
 -- ---- the line at the front of what is to come
 

@@ -1,7 +1,7 @@
 -- How far the search for the end of a line is.
 use Rattle.std.proofs.Common.{ℕ, ◌≤◌, List, length, take, Option}
 use Rattle.io_ends.specs.Ahead.{Ahead}
-use Rattle.io_ends.specs.Filling.{HoldsIn, IsLong}
+use Rattle.io_ends.specs.Filling.{HoldsIn, IsLong, IsNearEnd}
 use Rattle.io_ends.specs.Lines.{NoLineFeed}
 
 -- so far in the search: what was kept since it began, and that the first `seen` bytes ahead have no line feed
@@ -11,3 +11,4 @@ pub record IsSought (first : Ahead) (told : Option (List ℕ)) (now : Ahead) (le
   pub kept : (bytes : List ℕ) → HoldsIn bytes first told → HoldsIn bytes now left
   pub passed : now.passed ≤ room
   pub long : IsLong now
+  pub near : IsNearEnd now.ahead

@@ -12,4 +12,5 @@ Takes piece r = IfOk r (λ n. 0 < length piece → 0 < n)
 
 -- known bytes grew by a front of these bytes
 abbrev pub AppendsFront : Option (List ℕ) → Option (List ℕ) → List ℕ → Type 0
-AppendsFront old new bytes = (front : List ℕ) × ((rest : List ℕ) × ((bytes ≡ front ++ rest) × Appends old new front))
+AppendsFront old new bytes =
+    (front : List ℕ) × ((rest : List ℕ) × ((bytes ≡ front ++ rest) × Appends old new front))

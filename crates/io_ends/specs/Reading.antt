@@ -5,6 +5,7 @@ use Rattle.io_ends.specs.declared.next.Next.{Next}
 use Rattle.io_ends.specs.declared.next.Next.TheVariants as next
 use Rattle.io_ends.specs.declared.next.LimitKind.{LimitKind}
 use Rattle.io_ends.specs.declared.next.LimitKind.TheVariants as limit
+use Rattle.io_ends.specs.declared.sizes.TheConstants.{LONGEST, PIECE}
 
 -- the bytes that were taken from the source and not yet given, without those of the current line that
 -- were passed over; how many those are; how many lines and bytes were given; and the limits
@@ -15,10 +16,6 @@ pub record Reading : Type 0 where
   pub given : ℕ
   pub max_lines : ℕ
   pub max_bytes : ℕ
-
--- the longest line that is handed out
-abbrev pub longest : ℕ
-longest = 65536
 
 -- these bytes are what was passed over, then what lies ahead, then what the source has left
 pub record IsSplit (bytes : List ℕ) (passed : ℕ) (ahead left : List ℕ) : Type 0 where
@@ -64,10 +61,24 @@ Counts old new (next.Limit which) = Stays old new
 Counts old new next.ReadFault = Stays old new
 Counts old new next.NoMemory = Stays old new
 
+-- what was taken from the source and not given is less than a piece
+abbrev pub IsLittle : Reading → Type 0
+IsLittle r = r.passed + length r.ahead < PIECE
+
+-- where a line is given the source was read no further than the piece in which the line ends
+abbrev pub HoldsLittle : Reading → Next → Type 0
+HoldsLittle new (next.Line number) = IsLittle new
+HoldsLittle new (next.TooLong number) = IsLittle new
+HoldsLittle new next.End = Unit {0}
+HoldsLittle new (next.Limit which) = Unit {0}
+HoldsLittle new next.ReadFault = Unit {0}
+HoldsLittle new next.NoMemory = Unit {0}
+
 -- there is a further line, and it is past the limit
 abbrev pub Reaches : List ℕ → Reading → LimitKind → Type 0
 Reaches text r limit.Lines = (r.lines < length (lines_of text)) × (r.lines ≡ r.max_lines)
-Reaches text r limit.Bytes = (r.lines < length (lines_of text)) × ((r.lines < r.max_lines) × (r.max_bytes < end_of (r.lines + 1) text))
+Reaches text r limit.Bytes =
+    (r.lines < length (lines_of text)) × ((r.lines < r.max_lines) × (r.max_bytes < end_of (r.lines + 1) text))
 
 -- the next line of the text ends within the limits
 pub record IsWithin (text : List ℕ) (r : Reading) : Type 0 where
@@ -76,8 +87,11 @@ pub record IsWithin (text : List ℕ) (r : Reading) : Type 0 where
 
 -- what each answer says of the text in which the reader stood; `line` is what was handed out
 abbrev pub Tells : List ℕ → Reading → Next → List ℕ → Type 0
-Tells text old (next.Line number) line = (slice_get (lines_of text) old.lines ≡ Some line) × ((length line ≤ longest) × IsWithin text old)
-Tells text old (next.TooLong number) line = ((bytes : List ℕ) × ((slice_get (lines_of text) old.lines ≡ Some bytes) × (longest < length bytes))) × IsWithin text old
+Tells text old (next.Line number) line =
+    (slice_get (lines_of text) old.lines ≡ Some line) × ((length line ≤ LONGEST) × IsWithin text old)
+Tells text old (next.TooLong number) line =
+    ((bytes : List ℕ) × ((slice_get (lines_of text) old.lines ≡ Some bytes) × (LONGEST < length bytes)))
+    × IsWithin text old
 Tells text old next.End line = length (lines_of text) ≡ old.lines
 Tells text old (next.Limit which) line = Reaches text old which
 Tells text old next.ReadFault line = Unit {0}

@@ -1,13 +1,11 @@
 ghost use Rattle.std.specs.Prelude.{◌≡◌, ℕ, ◌+◌, ◌^◌, ◌<◌, ◌≤◌, List, length};
 ghost use Rattle.io_ends.specs.Causes.{HasRisen};
-ghost use Rattle.io_ends.specs.Filling.{HoldsIn, IsLong, Finds, Passes};
+ghost use Rattle.io_ends.specs.Filling.{HoldsIn, IsLong, IsNearEnd, Finds, Passes};
 
 use crate::ends::Source;
 use crate::fetching::FetchError;
+use crate::sizes::LONGEST;
 use crate::window::Window;
-
-/// The most bytes of a line that is handed out, without its line feed.
-pub const LONGEST: usize = 65_536;
 
 /// What ended the search for the end of a line.
 #[derive(Clone, Copy, Debug, PartialEq, Eq)]
@@ -29,11 +27,13 @@ pub enum LineEnd {
 pub fn find_end<S: Source>(window: &mut Window, source: &mut S, room: u64) -> LineEnd
     requires room { window.old.passed ≤ room }
     requires long { IsLong window.old }
+    requires near { IsNearEnd window.old.ahead }
     ensures found { Finds window.new room (S.left source.new) result }
     ensures kept { (bytes : List ℕ) → HoldsIn bytes window.old (S.left source.old)
         → HoldsIn bytes window.new (S.left source.new) }
     ensures room { window.new.passed ≤ room }
     ensures long { IsLong window.new }
+    ensures near { IsNearEnd window.new.ahead }
     ensures count { S.faults source.old ≤ S.faults source.new }
     ensures fault { result ≡ LineEnd.Fault → HasRisen S.last (S.faults source.old) (S.faults source.new) }
 {

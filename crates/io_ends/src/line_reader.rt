@@ -2,13 +2,14 @@ ghost use Rattle.std.specs.Prelude.{◌≡◌, ℕ, ◌+◌, ◌<◌, ◌≤◌,
 ghost use Rattle.io_ends.specs.Causes.{HasRisen};
 ghost use Rattle.io_ends.specs.Lines.{NoLineFeed};
 ghost use Rattle.io_ends.specs.Filling.{Gives, GivesLast, after_line};
-ghost use Rattle.io_ends.specs.Reading.{Reading, StandsIn, Counts, Tells, Stays};
+ghost use Rattle.io_ends.specs.Reading.{Reading, StandsIn, Counts, Tells, Stays, IsLittle, HoldsLittle};
 
 use crate::ends::Source;
 use crate::fetching::FetchError;
-use crate::filling::{LONGEST, LineEnd, find_end};
+use crate::filling::{LineEnd, find_end};
 use crate::next::{LimitKind, Next};
-use crate::window::{CHUNK, Window};
+use crate::sizes::{LONGEST, PIECE};
+use crate::window::Window;
 use std::alloc::Global;
 use std::marker::Model;
 use value_lists::NoMemory;
@@ -29,7 +30,14 @@ impl Model for LineReader {
 
     ghost Value = { Reading };
 
-    ghost view = { λ r. record { ahead = r.window.ahead; passed = r.window.passed; lines = r.lines; given = r.given; max_lines = r.max_lines; max_bytes = r.max_bytes } };
+    ghost view = { λ r. record {
+      ahead = r.window.ahead;
+      passed = r.window.passed;
+      lines = r.lines;
+      given = r.given;
+      max_lines = r.max_lines;
+      max_bytes = r.max_bytes;
+    } };
 
     ghost invariant = { λ r. IsReader r.window r.lines r.given r.max_lines r.max_bytes };
 }
@@ -40,10 +48,17 @@ impl LineReader {
     /// memory.
     pub fn new(alloc: Global, max_bytes: u64, max_lines: u32) -> Result<LineReader, NoMemory>
         ensures { IfOk result
-            (λ r. r ≡ record { ahead = []; passed = 0; lines = 0; given = 0; max_lines = max_lines; max_bytes = max_bytes }) }
+            (λ r. r ≡ record {
+              ahead = [];
+              passed = 0;
+              lines = 0;
+              given = 0;
+              max_lines = max_lines;
+              max_bytes = max_bytes;
+            }) }
     {
         Ok(LineReader {
-            window: Window::new(alloc, LONGEST + 2 * CHUNK)?,
+            window: Window::new(alloc, LONGEST + 2 * PIECE)?,
             lines: 0,
             given: 0,
             max_lines,
@@ -52,7 +67,8 @@ impl LineReader {
     }
 
     /// The next line, in `into`, or why there is none. A limit comes before the answer of the line
-    /// that passes it, the one on lines first. After a fault what lies ahead is no whole line.
+    /// that passes it, the one on lines first. After a fault what lies ahead is no whole line. For a
+    /// line the source is read to the piece in which the line ends, and no further.
     pub fn next<S: Source>(&mut self, source: &mut S, into: &mut Vec<u8>) -> Next
         ensures counts { Counts self.old self.new result }
         ensures told { (text : List ℕ) → StandsIn text self.old (S.left source.old)
@@ -62,6 +78,7 @@ impl LineReader {
         ensures count { S.faults source.old ≤ S.faults source.new }
         ensures fault { result ≡ Next.ReadFault → HasRisen S.last (S.faults source.old) (S.faults source.new) }
         ensures unended { result ≡ Next.ReadFault → NoLineFeed self.new.ahead }
+        ensures near { HoldsLittle self.new result }
     {
         if self.lines == self.max_lines {
             return self.past_the_last(source);
@@ -115,6 +132,7 @@ impl LineReader {
         ensures count { S.faults source.old ≤ S.faults source.new }
         ensures fault { result ≡ Next.ReadFault → HasRisen S.last (S.faults source.old) (S.faults source.new) }
         ensures unended { result ≡ Next.ReadFault → NoLineFeed self.new.ahead }
+        ensures near { HoldsLittle self.new result }
     {
         let room = self.max_bytes - self.given;
         match find_end(&mut self.window, source, room) {
@@ -132,7 +150,9 @@ impl LineReader {
     fn give(&mut self, size: usize, feed: usize, into: &mut Vec<u8>) -> Next
         requires ahead { size + feed ≤ length self.old.ahead }
         requires within { self.old.lines < self.old.max_lines }
-        ensures { Gives self.old self.new size feed result into.new.items }
+        requires near { length self.old.ahead < size + feed + PIECE }
+        ensures gives { Gives self.old self.new size feed result into.new.items }
+        ensures near { HoldsLittle self.new result }
     {
         let room = self.max_bytes - self.given - self.window.passed();
         if size as u64 > room {
@@ -167,7 +187,8 @@ impl LineReader {
     /// Gives the line that the end of the input ends, if it has a byte.
     fn give_last(&mut self, into: &mut Vec<u8>) -> Next
         requires { self.old.lines < self.old.max_lines }
-        ensures { GivesLast self.old self.new result into.new.items }
+        ensures gives { GivesLast self.old self.new result into.new.items }
+        ensures near { HoldsLittle self.new result }
     {
         let size = self.window.ahead().len();
         if self.window.passed() == 0 && size == 0 {
@@ -182,8 +203,10 @@ impl LineReader {
         requires ahead { taken ≤ length self.old.ahead }
         requires lines { self.old.lines < self.old.max_lines }
         requires bytes { self.old.given + self.old.passed + taken ≤ self.old.max_bytes }
+        requires near { length self.old.ahead < taken + PIECE }
         ensures after { self.new ≡ after_line self.old taken }
         ensures number { result ≡ self.old.lines + 1 }
+        ensures near { IsLittle self.new }
     {
         let size = self.window.passed() + taken as u64;
         self.window.begin_after(taken);

@@ -31,7 +31,12 @@ impl Model for MemorySource {
 
     ghost Value = { MemorySourceView };
 
-    ghost view = { λ s. record { left = drop s.at s.bytes.items; failing = s.failing.items; calls = s.calls; faults = s.faults } };
+    ghost view = { λ s. record {
+      left = drop s.at s.bytes.items;
+      failing = s.failing.items;
+      calls = s.calls;
+      faults = s.faults;
+    } };
 
     ghost invariant = { λ s. (s.at ≤ vec_len s.bytes) × (s.faults ≤ s.calls) };
 }
@@ -100,7 +105,13 @@ impl Model for MemorySink {
 
     ghost Value = { MemorySinkView };
 
-    ghost view = { λ s. record { written = s.bytes.items; failing = s.failing.items; calls = s.calls; faults = s.faults; wants = s.wants } };
+    ghost view = { λ s. record {
+      written = s.bytes.items;
+      failing = s.failing.items;
+      calls = s.calls;
+      faults = s.faults;
+      wants = s.wants;
+    } };
 
     ghost invariant = { λ s. s.faults ≤ s.calls };
 }

@@ -6,13 +6,11 @@ ghost use Rattle.io_ends.specs.Fetching.{Fetches};
 
 use crate::ends::Source;
 use crate::fetching::FetchError;
+use crate::sizes::PIECE;
 use memchr::memchr;
 use std::alloc::Global;
 use std::marker::Model;
 use value_lists::NoMemory;
-
-/// How many bytes a call asks of the source.
-pub const CHUNK: usize = 16384;
 
 /// The bytes that were read and not yet given.
 #[derive(Debug, Drop)]
@@ -25,14 +23,15 @@ pub struct Window {
 }
 
 impl Model for Window {
-    ghost use Rattle.std.specs.Prelude.{◌≤◌, ◌<◌, drop, vec_len};
+    ghost use Rattle.std.specs.Prelude.{◌≡◌, ◌≤◌, drop, vec_len};
     ghost use Rattle.io_ends.specs.Ahead.{Ahead};
+    ghost use Rattle.io_ends.specs.declared.sizes.TheConstants.{PIECE};
 
     ghost Value = { Ahead };
 
     ghost view = { λ w. record { ahead = drop w.start w.buffer.items; passed = w.passed } };
 
-    ghost invariant = { λ w. (w.start ≤ vec_len w.buffer) × (0 < vec_len w.piece) };
+    ghost invariant = { λ w. (w.start ≤ vec_len w.buffer) × (vec_len w.piece ≡ PIECE) };
 }
 
 /// Drops the first `count` bytes.
@@ -54,7 +53,7 @@ impl Window {
             buffer: Vec::with_capacity(alloc, room)?,
             start: 0,
             passed: 0,
-            piece: vec![in alloc; 0u8; CHUNK]?,
+            piece: vec![in alloc; 0u8; PIECE]?,
         })
     }
 
@@ -103,7 +102,7 @@ impl Window {
         self.passed = 0;
     }
 
-    /// Reads one chunk of the source behind what lies ahead, and answers how many bytes came.
+    /// Reads one piece of the source behind what lies ahead, and answers how many bytes came.
     pub fn fetch<S: Source>(&mut self, source: &mut S) -> Result<usize, FetchError>
         ensures ok { IfOk result (λ n. Fetches self.old self.new (S.left source.old) (S.left source.new) n) }
         ensures err { OnErr result ((self.new ≡ self.old) × Keeps (S.left source.old) (S.left source.new)) }

@@ -1,5 +1,5 @@
 use Rattle.std.proofs.Common.{arith, ap, length, sym}
-use Rattle.io_ends.proofs.ReaderLaws.{passes, sought_next, split_fetched, split_kept}
+use Rattle.io_ends.proofs.ReaderLaws.{passes, near_passed, sought_next, split_fetched, split_kept}
 use Rattle.io_ends.proofs.filling.find_end.Goals as goal
 
 pub returns-in-Ok-eq0-clause-kept : goal.returns-in-Ok-eq0-clause-kept
@@ -25,3 +25,21 @@ returns-in-Err-Memory-clause-kept g c =
     let so_far = c.loop-at.invariant.0 in
     let p = passes _ _ c.args.room _ _ c.pass_long-seen.ensures (ap length (sym c.ahead-size.ensures)) (c.in_default.ensures so_far.clear) (omega arith) so_far.long in
     λ bytes h. rw c.in-Err-Memory.ensures.err.0 (split_kept bytes _ _ _ c.in-Err-Memory.ensures.err.1 (p.kept bytes _ (so_far.kept bytes h)))
+
+pub returns-in-Ok-eq0-clause-near : goal.returns-in-Ok-eq0-clause-near
+returns-in-Ok-eq0-clause-near g c =
+    let so_far = c.loop-at.invariant.0 in
+    let p = passes _ _ c.args.room _ _ c.pass_long-seen.ensures (ap length (sym c.ahead-size.ensures)) (c.in_default.ensures so_far.clear) (omega arith) so_far.long in
+    (sought_next _ _ _ _ _ _ _ _ _ _ _ so_far p c.in-Ok-eq0.ensures.ok).near
+
+pub returns-in-Err-Fault-clause-near : goal.returns-in-Err-Fault-clause-near
+returns-in-Err-Fault-clause-near g c =
+    let so_far = c.loop-at.invariant.0 in
+    let p = passes _ _ c.args.room _ _ c.pass_long-seen.ensures (ap length (sym c.ahead-size.ensures)) (c.in_default.ensures so_far.clear) (omega arith) so_far.long in
+    rw c.in-Err-Fault.ensures.err.0 (near_passed _ _ _ _ p)
+
+pub returns-in-Err-Memory-clause-near : goal.returns-in-Err-Memory-clause-near
+returns-in-Err-Memory-clause-near g c =
+    let so_far = c.loop-at.invariant.0 in
+    let p = passes _ _ c.args.room _ _ c.pass_long-seen.ensures (ap length (sym c.ahead-size.ensures)) (c.in_default.ensures so_far.clear) (omega arith) so_far.long in
+    rw c.in-Err-Memory.ensures.err.0 (near_passed _ _ _ _ p)

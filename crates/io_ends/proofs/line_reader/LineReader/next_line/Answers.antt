@@ -4,19 +4,19 @@ use Rattle.io_ends.proofs.line_reader.LineReader.next_line.Goals as goal
 
 pub returns-in-Feed-clause-told : goal.returns-in-Feed-clause-told
 returns-in-Feed-clause-told g c = rw (← c.self.view_is) (λ text s.
-    feed_told text _ c.find_end.new.window _ _ (stands_kept text _ _ _ _ c.in-Feed.ensures.kept s) c.in-Feed.ensures.found (rw (← c.self.view_is) at c.requires) _ _ _ c.give.ensures)
+    feed_told text _ c.find_end.new.window _ _ (stands_kept text _ _ _ _ c.in-Feed.ensures.kept s) c.in-Feed.ensures.found (rw (← c.self.view_is) at c.requires) _ _ _ c.give.ensures.gives)
 
 pub returns-in-Feed-clause-stands : goal.returns-in-Feed-clause-stands
 returns-in-Feed-clause-stands g c = rw (← c.self.view_is) (λ text s.
-    feed_stands text (record { ahead = c.self.inside.window.ahead; passed = c.self.inside.window.passed; lines = c.self.inside.lines; given = c.self.inside.given; max_lines = c.self.inside.max_lines; max_bytes = c.self.inside.max_bytes }) c.find_end.new.window _ _ (stands_kept text _ _ _ _ c.in-Feed.ensures.kept s) c.in-Feed.ensures.found _ _ _ c.give.ensures)
+    feed_stands text (record { ahead = c.self.inside.window.ahead; passed = c.self.inside.window.passed; lines = c.self.inside.lines; given = c.self.inside.given; max_lines = c.self.inside.max_lines; max_bytes = c.self.inside.max_bytes }) c.find_end.new.window _ _ (stands_kept text _ _ _ _ c.in-Feed.ensures.kept s) c.in-Feed.ensures.found _ _ _ c.give.ensures.gives)
 
 pub returns-in-Input-clause-told : goal.returns-in-Input-clause-told
 returns-in-Input-clause-told g c = rw (← c.self.view_is) (λ text s.
-    input_told text _ c.find_end.new.window _ (stands_kept text _ _ _ _ c.in-Input.ensures.kept s) c.in-Input.ensures.found.0 c.in-Input.ensures.found.1 (rw (← c.self.view_is) at c.requires) _ _ _ c.give_last.ensures)
+    input_told text _ c.find_end.new.window _ (stands_kept text _ _ _ _ c.in-Input.ensures.kept s) c.in-Input.ensures.found.0 c.in-Input.ensures.found.1 (rw (← c.self.view_is) at c.requires) _ _ _ c.give_last.ensures.gives)
 
 pub returns-in-Input-clause-stands : goal.returns-in-Input-clause-stands
 returns-in-Input-clause-stands g c = rw (← c.self.view_is) (λ text s.
-    input_stands text (record { ahead = c.self.inside.window.ahead; passed = c.self.inside.window.passed; lines = c.self.inside.lines; given = c.self.inside.given; max_lines = c.self.inside.max_lines; max_bytes = c.self.inside.max_bytes }) c.find_end.new.window _ (stands_kept text _ _ _ _ c.in-Input.ensures.kept s) c.in-Input.ensures.found.0 c.in-Input.ensures.found.1 _ _ _ c.give_last.ensures)
+    input_stands text (record { ahead = c.self.inside.window.ahead; passed = c.self.inside.window.passed; lines = c.self.inside.lines; given = c.self.inside.given; max_lines = c.self.inside.max_lines; max_bytes = c.self.inside.max_bytes }) c.find_end.new.window _ (stands_kept text _ _ _ _ c.in-Input.ensures.kept s) c.in-Input.ensures.found.0 c.in-Input.ensures.found.1 _ _ _ c.give_last.ensures.gives)
 
 pub returns-in-Past-clause-told : goal.returns-in-Past-clause-told
 returns-in-Past-clause-told g c = rw (← c.self.view_is) (λ text s.
