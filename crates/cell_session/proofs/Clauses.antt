@@ -7,7 +7,8 @@ use Rattle.std.specs.Io.KnownBytes.{Appends}
 use Rattle.clap.specs.Walk.{Text}
 use Rattle.io_ends.specs.Lines.{lines_of, end_of}
 use Rattle.io_ends.specs.declared.next.LimitKind.{LimitKind}
-use Rattle.cell_session.specs.Asking.{command_of}
+use Rattle.doc_types.specs.SchemaCodes.{Types}
+use Rattle.cell_session.specs.Asking.{asked_of}
 use Rattle.cell_session.specs.declared.asked.Asked.{Asked}
 use Rattle.cell_session.specs.declared.asked.Asked.TheVariants as command
 use Rattle.lane_laws.specs.Journals.{Journal, events_of}
@@ -23,6 +24,7 @@ use Rattle.cell_session.specs.Lanes.{lane_of_id, journal_in, AreLegal, AreInOrde
 use Rattle.cell_session.specs.Operations.{HasEvents, IsCommandAt, HaveOutcomes}
 use Rattle.cell_session.specs.Output.{output_of}
 use Rattle.cell_session.specs.Settings.{lane_count}
+use Rattle.cell_session.specs.declared.choice.Choice.{Choice}
 use Rattle.cell_session.specs.declared.setting.Setting.{Setting}
 use Rattle.cell_session.specs.declared.status.Status.{Status}
 use Rattle.cell_session.specs.declared.status.Status.TheVariants as status
@@ -47,9 +49,9 @@ everywhere P n Js is empty lane each = elim (cases_lt lane n) [
 
 -- ---- the journals
 
-pub ends_legal : (end : Status) (s : Setting) (text left : Option (List ℕ)) (c : Cell) (before now : Option (List ℕ)) → EndsAs end s text left c before now → AreLegal c.journals
-ends_legal end s text left c before now (inl none) lane = subst IsLegal (sym (none_journal c.journals lane none.none)) tt
-ends_legal end s text left c before now (inr some) lane = everywhere IsLegal (lane_count s) c.journals some.dealt.lanes tt lane (some.dealt.legal lane)
+pub ends_legal : (end : Status) (s : Setting) (types : Types) (text left : Option (List ℕ)) (c : Cell) (before now : Option (List ℕ)) → EndsAs end s types text left c before now → AreLegal c.journals
+ends_legal end s types text left c before now (inl none) lane = subst IsLegal (sym (none_journal c.journals lane none.none)) tt
+ends_legal end s types text left c before now (inr some) lane = everywhere IsLegal (lane_count s) c.journals some.dealt.lanes tt lane (some.dealt.legal lane)
 
 pub none_legal : (Js : List Journal) → Js ≡ [] → AreLegal Js
 none_legal Js none lane = subst IsLegal (sym (none_journal Js lane none)) tt
@@ -60,9 +62,9 @@ not_begun J line none some = false≢true (subst IsSome (ap (begun_in line) none
 pub none_in_order : (Js : List Journal) → Js ≡ [] → AreInOrder Js
 none_in_order Js none lane earlier line before first second = absurd (not_begun (journal_in lane Js) line (none_journal Js lane none) second)
 
-pub ends_in_order : (end : Status) (s : Setting) (text left : Option (List ℕ)) (c : Cell) (before now : Option (List ℕ)) → EndsAs end s text left c before now → AreInOrder c.journals
-ends_in_order end s text left c before now (inl none) lane earlier line early first second = none_in_order c.journals none.none lane earlier line early first second
-ends_in_order end s text left c before now (inr some) lane earlier line early first second = elim (cases_lt lane (lane_count s)) [
+pub ends_in_order : (end : Status) (s : Setting) (types : Types) (text left : Option (List ℕ)) (c : Cell) (before now : Option (List ℕ)) → EndsAs end s types text left c before now → AreInOrder c.journals
+ends_in_order end s types text left c before now (inl none) lane earlier line early first second = none_in_order c.journals none.none lane earlier line early first second
+ends_in_order end s types text left c before now (inr some) lane earlier line early first second = elim (cases_lt lane (lane_count s)) [
   | inl within ↦ some.dealt.in_order earlier line lane within early first second
   | inr past ↦ absurd (not_begun (journal_in lane c.journals) line (past_journal c.journals lane (omega (arith, some.dealt.lanes, past))) second)
 ]
@@ -75,9 +77,9 @@ all_lanes status.NoMemory s cs c before now is wrote = inr is
 all_lanes (status.Limit which) s cs c before now is wrote = is
 all_lanes status.Usage s cs c before now is wrote = absurd wrote
 
-pub ends_lanes : (end : Status) (s : Setting) (text left : Option (List ℕ)) (c : Cell) (before now : Option (List ℕ)) → EndsAs end s text left c before now → HasLanes end s c.journals
-ends_lanes end s text left c before now (inl none) = subst (λ e. HasLanes e s c.journals) (sym none.memory) (inl (ap length none.none))
-ends_lanes end s text left c before now (inr some) = all_lanes end s some.commands c before now some.dealt.lanes some.output
+pub ends_lanes : (end : Status) (s : Setting) (types : Types) (text left : Option (List ℕ)) (c : Cell) (before now : Option (List ℕ)) → EndsAs end s types text left c before now → HasLanes end s c.journals
+ends_lanes end s types text left c before now (inl none) = subst (λ e. HasLanes e s c.journals) (sym none.memory) (inl (ap length none.none))
+ends_lanes end s types text left c before now (inr some) = all_lanes end s some.commands c before now some.dealt.lanes some.output
 
 -- ---- which lines were dealt with
 
@@ -86,22 +88,22 @@ unfolding end_of
 none_dealt None left count is = tt
 none_dealt (Some t) left count is = subst (λ n. DealsWith status.NoMemory t n left) (sym is) (record { within = record { some = omega arith; few = omega arith; within = omega arith }; stops = tt })
 
-some_dealt : (end : Status) (text left : Option (List ℕ)) (cs : List Asked) → IfTold text (λ t. AreFirst t cs) → IfTold text (λ t. StopsAt end t (length cs) left) → IfTold text (λ t. DealsWith end t (length cs) left)
-some_dealt end None left cs first stops = tt
-some_dealt end (Some t) left cs first stops = record { within = first.within; stops = stops }
+some_dealt : (end : Status) (types : Types) (text left : Option (List ℕ)) (cs : List Asked) → IfTold text (λ t. AreFirst types t cs) → IfTold text (λ t. StopsAt end t (length cs) left) → IfTold text (λ t. DealsWith end t (length cs) left)
+some_dealt end types None left cs first stops = tt
+some_dealt end types (Some t) left cs first stops = record { within = first.within; stops = stops }
 
-pub ends_dealt : (end : Status) (s : Setting) (text left : Option (List ℕ)) (c : Cell) (before now : Option (List ℕ)) → EndsAs end s text left c before now → IfTold text (λ t. DealsWith end t c.dealt left)
-ends_dealt end s text left c before now (inl none) = subst (λ e. IfTold text (λ t. DealsWith e t c.dealt left)) (sym none.memory) (none_dealt text left c.dealt none.dealt)
-ends_dealt end s text left c before now (inr some) = subst (λ n. IfTold text (λ t. DealsWith end t n left)) some.count (some_dealt end text left some.commands some.first some.stops)
+pub ends_dealt : (end : Status) (s : Setting) (types : Types) (text left : Option (List ℕ)) (c : Cell) (before now : Option (List ℕ)) → EndsAs end s types text left c before now → IfTold text (λ t. DealsWith end t c.dealt left)
+ends_dealt end s types text left c before now (inl none) = subst (λ e. IfTold text (λ t. DealsWith e t c.dealt left)) (sym none.memory) (none_dealt text left c.dealt none.dealt)
+ends_dealt end s types text left c before now (inr some) = subst (λ n. IfTold text (λ t. DealsWith end t n left)) some.count (some_dealt end types text left some.commands some.first some.stops)
 
 stopped_limit : (which : LimitKind) (text left : Option (List ℕ)) (count : ℕ) → IfTold text (λ t. DealsWith (status.Limit which) t count left) → IfTold text (λ t. PassesLimit which t count)
 stopped_limit which None left count told = tt
 stopped_limit which (Some t) left count told = told.stops
 
-pub ends_limit : (end : Status) (s : Setting) (text left : Option (List ℕ)) (c : Cell) (before now : Option (List ℕ)) → EndsAs end s text left c before now → (which : LimitKind) → end ≡ status.Limit which
+pub ends_limit : (end : Status) (s : Setting) (types : Types) (text left : Option (List ℕ)) (c : Cell) (before now : Option (List ℕ)) → EndsAs end s types text left c before now → (which : LimitKind) → end ≡ status.Limit which
     → IfTold text (λ t. PassesLimit which t c.dealt)
-ends_limit end s text left c before now ends which is =
-    stopped_limit which text left c.dealt (subst (λ e. IfTold text (λ t. DealsWith e t c.dealt left)) is (ends_dealt end s text left c before now ends))
+ends_limit end s types text left c before now ends which is =
+    stopped_limit which text left c.dealt (subst (λ e. IfTold text (λ t. DealsWith e t c.dealt left)) is (ends_dealt end s types text left c before now ends))
 
 -- ---- what each line began, wrote and closed
 
@@ -125,27 +127,27 @@ command_at [] k h = absurd (omega (arith, h))
 command_at (c ∷ cs) zero h = (c, refl)
 command_at (c ∷ cs) (suc k) h = command_at cs k (omega (arith, h))
 
-taken_at : (lines : List (List ℕ)) (n k : ℕ) (c : Asked) → slice_get (map command_of (take n lines)) k ≡ Some c → (bytes : List ℕ) × ((slice_get lines k ≡ Some bytes) × (c ≡ command_of bytes))
-taken_at lines zero k c h = cc h
-taken_at [] (suc n) k c h = cc h
-taken_at (l ∷ lines) (suc n) zero c h = (l, (refl, sym (some_is (command_of l) c h)))
-taken_at (l ∷ lines) (suc n) (suc k) c h = taken_at lines n k c h
+taken_at : (types : Types) (lines : List (List ℕ)) (n k : ℕ) (c : Asked) → slice_get (map (asked_of types) (take n lines)) k ≡ Some c → (bytes : List ℕ) × ((slice_get lines k ≡ Some bytes) × (c ≡ asked_of types bytes))
+taken_at types lines zero k c h = cc h
+taken_at types [] (suc n) k c h = cc h
+taken_at types (l ∷ lines) (suc n) zero c h = (l, (refl, sym (some_is (asked_of types l) c h)))
+taken_at types (l ∷ lines) (suc n) (suc k) c h = taken_at types lines n k c h
 
-asked_at : (text : Option (List ℕ)) (cs : List Asked) (k : ℕ) (c : Asked) → IfTold text (λ t. AreFirst t cs) → slice_get cs k ≡ Some c → IsCommandAt text k c
-asked_at None cs k c first at = tt
-asked_at (Some t) cs k c first at = taken_at (lines_of t) (length cs) k c (ap (λ l. slice_get l k) (sym first.lines) ∙ at)
+asked_at : (types : Types) (text : Option (List ℕ)) (cs : List Asked) (k : ℕ) (c : Asked) → IfTold text (λ t. AreFirst types t cs) → slice_get cs k ≡ Some c → IsCommandAt types text k c
+asked_at types None cs k c first at = tt
+asked_at types (Some t) cs k c first at = taken_at types (lines_of t) (length cs) k c (ap (λ l. slice_get l k) (sym first.lines) ∙ at)
 
-pub ends_outcomes : (end : Status) (s : Setting) (text left : Option (List ℕ)) (c : Cell) (before now : Option (List ℕ)) → EndsAs end s text left c before now → HaveOutcomes s text c.dealt c.journals
-ends_outcomes end s text left c before now (inl none) = record {
+pub ends_outcomes : (end : Status) (s : Setting) (types : Types) (text left : Option (List ℕ)) (c : Cell) (before now : Option (List ℕ)) → EndsAs end s types text left c before now → HaveOutcomes s types text c.dealt c.journals
+ends_outcomes end s types text left c before now (inl none) = record {
   each = λ at h. absurd (omega (arith, h, none.dealt));
   no_others = λ lane line far. ap (events_of line) (none_journal c.journals lane none.none);
 }
-ends_outcomes end s text left c before now (inr some) = record {
+ends_outcomes end s types text left c before now (inr some) = record {
   each = λ k h.
       let asked = command_at some.commands k (omega (arith, h, some.count)) in
       record {
         asked = asked.0;
-        told = asked_at text some.commands k asked.0 some.first asked.1;
+        told = asked_at types text some.commands k asked.0 some.first asked.1;
         events = λ lane. elim (cases_lt lane (lane_count s)) [
           | inl within ↦ some.dealt.events k lane asked.0 asked.1 within
           | inr past ↦ subst (HasEvents s lane (k + 1) asked.0) (sym (past_journal c.journals lane (omega (arith, some.dealt.lanes, past)))) (events_past s lane (k + 1) asked.0 (omega (arith, past)))
@@ -161,44 +163,47 @@ ends_outcomes end s text left c before now (inr some) = record {
 
 -- ---- the bytes written
 
-some_written : (end : Status) (s : Setting) (text : Option (List ℕ)) (cs : List Asked) (c : Cell) (before now : Option (List ℕ)) → IfTold text (λ t. AreFirst t cs) → length cs ≡ c.dealt → Writes end s cs c.journals before now
-    → IfTold text (λ t. Writes end s (commands_of t c.dealt) c.journals before now)
-some_written end s None cs c before now first count wrote = tt
-some_written end s (Some t) cs c before now first count wrote = subst (λ l. Writes end s l c.journals before now) (first.lines ∙ ap (commands_of t) count) wrote
+some_written : (end : Status) (s : Setting) (types : Types) (text : Option (List ℕ)) (cs : List Asked) (c : Cell) (before now : Option (List ℕ)) → IfTold text (λ t. AreFirst types t cs) → length cs ≡ c.dealt → Writes end s cs c.journals before now
+    → IfTold text (λ t. Writes end s (commands_of types t c.dealt) c.journals before now)
+some_written end s types None cs c before now first count wrote = tt
+some_written end s types (Some t) cs c before now first count wrote = subst (λ l. Writes end s l c.journals before now) (first.lines ∙ ap (commands_of types t) count) wrote
 
-none_written : (s : Setting) (text : Option (List ℕ)) (c : Cell) (before now : Option (List ℕ)) → c.dealt ≡ 0 → Appends before now [] → IfTold text (λ t. Writes status.NoMemory s (commands_of t c.dealt) c.journals before now)
-none_written s None c before now is wrote = tt
-none_written s (Some t) c before now is wrote = inl (subst (λ n. Appends before now (output_of s (commands_of t n) c.journals)) (sym is) wrote)
+none_written : (s : Setting) (types : Types) (text : Option (List ℕ)) (c : Cell) (before now : Option (List ℕ)) → c.dealt ≡ 0 → Appends before now [] → IfTold text (λ t. Writes status.NoMemory s (commands_of types t c.dealt) c.journals before now)
+none_written s types None c before now is wrote = tt
+none_written s types (Some t) c before now is wrote = inl (subst (λ n. Appends before now (output_of s (commands_of types t n) c.journals)) (sym is) wrote)
 
-pub ends_written : (end : Status) (s : Setting) (text left : Option (List ℕ)) (c : Cell) (before now : Option (List ℕ)) → EndsAs end s text left c before now
-    → IfTold text (λ t. Writes end s (commands_of t c.dealt) c.journals before now)
-ends_written end s text left c before now (inl none) =
-    subst (λ e. IfTold text (λ t. Writes e s (commands_of t c.dealt) c.journals before now)) (sym none.memory) (none_written s text c before now none.dealt (appends_nothing before now none.kept))
-ends_written end s text left c before now (inr some) = some_written end s text some.commands c before now some.first some.count some.output
+pub ends_written : (end : Status) (s : Setting) (types : Types) (text left : Option (List ℕ)) (c : Cell) (before now : Option (List ℕ)) → EndsAs end s types text left c before now
+    → IfTold text (λ t. Writes end s (commands_of types t c.dealt) c.journals before now)
+ends_written end s types text left c before now (inl none) =
+    subst (λ e. IfTold text (λ t. Writes e s (commands_of types t c.dealt) c.journals before now)) (sym none.memory) (none_written s types text c before now none.dealt (appends_nothing before now none.kept))
+ends_written end s types text left c before now (inr some) = some_written end s types text some.commands c before now some.first some.count some.output
 
 -- ---- no session over lines ends with usage
 
 not_usage : (end : Status) (s : Setting) (cs : List Asked) (c : Cell) (before now : Option (List ℕ)) → Writes end s cs c.journals before now → end ≡ status.Usage → ⊥
 not_usage end s cs c before now wrote is = subst (λ e. Writes e s cs c.journals before now) is wrote
 
-pub ends_usage : (end : Status) (s : Setting) (text left : Option (List ℕ)) (c : Cell) (before now : Option (List ℕ)) → EndsAs end s text left c before now → end ≡ status.Usage → ⊥
-ends_usage end s text left c before now (inl none) is = cc (none.memory, is)
-ends_usage end s text left c before now (inr some) is = not_usage end s some.commands c before now some.output is
+pub ends_usage : (end : Status) (s : Setting) (types : Types) (text left : Option (List ℕ)) (c : Cell) (before now : Option (List ℕ)) → EndsAs end s types text left c before now → end ≡ status.Usage → ⊥
+ends_usage end s types text left c before now (inl none) is = cc (none.memory, is)
+ends_usage end s types text left c before now (inr some) is = not_usage end s some.commands c before now some.output is
 
--- ---- of the setting that the words choose
+-- ---- of what the words choose
 
-pub chosen_lanes : (words : List Text) (a s : Setting) (end : Status) (text left : Option (List ℕ)) (c : Cell) (before now : Option (List ℕ)) → Chooses words a → Chooses words s → EndsAs end a text left c before now
-    → HasLanes end s c.journals
-chosen_lanes words a s end text left c before now p q ends = subst (λ (x : Setting). HasLanes end x c.journals) (one_choice words a s p q) (ends_lanes end a text left c before now ends)
+pub chosen_lanes : (words : List Text) (a x : Choice) (end : Status) (text left : Option (List ℕ)) (c : Cell) (before now : Option (List ℕ)) → Chooses words a → Chooses words x
+    → EndsAs end a.setting a.schema text left c before now → HasLanes end x.setting c.journals
+chosen_lanes words a x end text left c before now p q ends =
+    subst (λ (y : Choice). HasLanes end y.setting c.journals) (one_choice words a x p q) (ends_lanes end a.setting a.schema text left c before now ends)
 
-pub chosen_outcomes : (words : List Text) (a s : Setting) (end : Status) (text left : Option (List ℕ)) (c : Cell) (before now : Option (List ℕ)) → Chooses words a → Chooses words s → EndsAs end a text left c before now
-    → HaveOutcomes s text c.dealt c.journals
-chosen_outcomes words a s end text left c before now p q ends = subst (λ (x : Setting). HaveOutcomes x text c.dealt c.journals) (one_choice words a s p q) (ends_outcomes end a text left c before now ends)
+pub chosen_outcomes : (words : List Text) (a x : Choice) (end : Status) (text left : Option (List ℕ)) (c : Cell) (before now : Option (List ℕ)) → Chooses words a → Chooses words x
+    → EndsAs end a.setting a.schema text left c before now → HaveOutcomes x.setting x.schema text c.dealt c.journals
+chosen_outcomes words a x end text left c before now p q ends =
+    subst (λ (y : Choice). HaveOutcomes y.setting y.schema text c.dealt c.journals) (one_choice words a x p q) (ends_outcomes end a.setting a.schema text left c before now ends)
 
-pub chosen_written : (words : List Text) (a s : Setting) (end : Status) (text left : Option (List ℕ)) (c : Cell) (before now : Option (List ℕ)) → Chooses words a → Chooses words s → EndsAs end a text left c before now
-    → IfTold text (λ t. Writes end s (commands_of t c.dealt) c.journals before now)
-chosen_written words a s end text left c before now p q ends =
-    subst (λ (x : Setting). IfTold text (λ t. Writes end x (commands_of t c.dealt) c.journals before now)) (one_choice words a s p q) (ends_written end a text left c before now ends)
+pub chosen_written : (words : List Text) (a x : Choice) (end : Status) (text left : Option (List ℕ)) (c : Cell) (before now : Option (List ℕ)) → Chooses words a → Chooses words x
+    → EndsAs end a.setting a.schema text left c before now → IfTold text (λ t. Writes end x.setting (commands_of x.schema t c.dealt) c.journals before now)
+chosen_written words a x end text left c before now p q ends =
+    subst (λ (y : Choice). IfTold text (λ t. Writes end y.setting (commands_of y.schema t c.dealt) c.journals before now)) (one_choice words a x p q)
+    (ends_written end a.setting a.schema text left c before now ends)
 
 -- a cluster that is empty, as memory wanted before the words were read
 both_zero : (n m : ℕ) → IsTrue (n == 0 && m == 0) → (n ≡ 0) × (m ≡ 0)
@@ -211,8 +216,8 @@ no_items (J ∷ Js) none = absurd (omega (arith, none))
 pub empty_cell : (c : Cell) → IsTrue (is_empty c) → (c.journals ≡ []) × (c.dealt ≡ 0)
 empty_cell c h = let both = both_zero (length c.journals) c.dealt h in (no_items c.journals both.0, both.1)
 
-pub empty_ends : (s : Setting) (text left : Option (List ℕ)) (c : Cell) (before : Option (List ℕ)) → IsTrue (is_empty c) → EndsAs status.NoMemory s text left c before before
-empty_ends s text left c before h = unopened_ends s text left c before (empty_cell c h)
+pub empty_ends : (s : Setting) (types : Types) (text left : Option (List ℕ)) (c : Cell) (before : Option (List ℕ)) → IsTrue (is_empty c) → EndsAs status.NoMemory s types text left c before before
+empty_ends s types text left c before h = unopened_ends s types text left c before (empty_cell c h)
 
 pub usage_written : (end : Status) (before now : Option (List ℕ)) → UsageEnd end before now → end ≡ status.Usage → Appends before now usage_text
 usage_written end before now ends is = subst (λ e. UsageEnd e before now) is ends

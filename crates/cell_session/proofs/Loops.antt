@@ -7,17 +7,18 @@ use Rattle.std.proofs.KnownBytes.{Appends-nil, Appends-trans}
 use Rattle.std.specs.Io.KnownBytes.{Appends, Keeps}
 use Rattle.io_ends.specs.Causes.{AppendsFront}
 use Rattle.io_ends.specs.Lines.{lines_of, end_of, NoLineFeed}
-use Rattle.io_ends.specs.Reading.{Reading, StandsIn}
+use Rattle.io_ends.specs.Reading.{Reading, StandsIn, IsLittle}
 use Rattle.io_ends.specs.declared.next.LimitKind.{LimitKind}
 use Rattle.io_ends.specs.declared.next.LimitKind.TheVariants as limit
 use Rattle.io_ends.proofs.FeedPlaces.{NoLineFeed-append}
 use Rattle.io_ends.proofs.ReaderStarts.{start_at}
-use Rattle.cell_session.specs.Asking.{command_of}
+use Rattle.doc_types.specs.SchemaCodes.{Types}
+use Rattle.cell_session.specs.Asking.{asked_of}
 use Rattle.cell_session.specs.declared.asked.Asked.{Asked}
 use Rattle.cell_session.specs.Answering.{IsAllOrNothing, StopsAs}
 use Rattle.cell_session.specs.Cells.{Cell}
 use Rattle.cell_session.specs.Dealing.{AreFirst, EndsAs}
-use Rattle.cell_session.specs.Ends.{IfTold, IsReadTo, PassesLimit, StopsAt, Writes}
+use Rattle.cell_session.specs.Ends.{IfTold, IsReadTo, IsReadNear, PassesLimit, StopsAt, Writes}
 use Rattle.cell_session.specs.Output.{output_of, report_in}
 use Rattle.cell_session.specs.Reads.{Finishes, Shows, HoldsBack, IsReadEnd}
 use Rattle.cell_session.specs.Settings.{IsSetting}
@@ -36,15 +37,15 @@ use Rattle.cell_session.proofs.SessionSteps.{kept_none, kept_command, command_mo
 -- ---- the commands of the first lines of a text
 
 -- one line more
-first_more : (text : List ℕ) (cs : List Asked) (bytes : List ℕ) → AreFirst text cs → slice_get (lines_of text) (length cs) ≡ Some bytes → length cs < MOST_LINES → end_of (length cs + 1) text ≤ MOST_BYTES
-    → AreFirst text (cs ++ command_of bytes ∷ [])
-first_more text cs bytes first at few within =
+first_more : (types : Types) (text : List ℕ) (cs : List Asked) (bytes : List ℕ) → AreFirst types text cs → slice_get (lines_of text) (length cs) ≡ Some bytes → length cs < MOST_LINES → end_of (length cs + 1) text ≤ MOST_BYTES
+    → AreFirst types text (cs ++ asked_of types bytes ∷ [])
+first_more types text cs bytes first at few within =
     let n = length cs in
-    let longer : length (cs ++ command_of bytes ∷ []) ≡ suc n = omega (arith, length-append cs (command_of bytes ∷ [])) in
+    let longer : length (cs ++ asked_of types bytes ∷ []) ≡ suc n = omega (arith, length-append cs (asked_of types bytes ∷ [])) in
     let there = slice_get_within (lines_of text) n bytes at in
     let last = take-suc (lines_of text) n [] there ∙ ap (λ x. take n (lines_of text) ++ x ∷ []) (get_or_from_slice_get (lines_of text) n bytes [] at) in
     record {
-      lines = ap (λ l. l ++ command_of bytes ∷ []) first.lines ∙ sym (map-append command_of (take n (lines_of text)) (bytes ∷ [])) ∙ ap (map command_of) (sym last) ∙ ap (λ k. map command_of (take k (lines_of text))) (sym longer);
+      lines = ap (λ l. l ++ asked_of types bytes ∷ []) first.lines ∙ sym (map-append (asked_of types) (take n (lines_of text)) (bytes ∷ [])) ∙ ap (map (asked_of types)) (sym last) ∙ ap (λ k. map (asked_of types) (take k (lines_of text))) (sym longer);
       within = record {
         some = omega (arith, longer, there);
         few = omega (arith, longer, few);
@@ -52,39 +53,39 @@ first_more text cs bytes first at few within =
       };
     }
 
-told_more : (text : Option (List ℕ)) (reader reader' : Reading) (left left' : Option (List ℕ)) (cs : List Asked) (number : ℕ) (c : Asked)
-    → IfTold text (IsBehind reader left cs) → length cs ≡ reader.lines → reader.max_lines ≡ MOST_LINES → reader.max_bytes ≡ MOST_BYTES
-    → ((t : List ℕ) → StandsIn t reader left → Shows t reader (step.Command number c))
+told_more : (types : Types) (text : Option (List ℕ)) (reader reader' : Reading) (left left' : Option (List ℕ)) (cs : List Asked) (number : ℕ) (c : Asked)
+    → IfTold text (IsBehind types reader left cs) → length cs ≡ reader.lines → reader.max_lines ≡ MOST_LINES → reader.max_bytes ≡ MOST_BYTES
+    → ((t : List ℕ) → StandsIn t reader left → Shows types t reader (step.Command number c))
     → ((t : List ℕ) → StandsIn t reader left → StandsIn t reader' left')
-    → IfTold text (IsBehind reader' left' (cs ++ c ∷ []))
-told_more None reader reader' left left' cs number c told count lines bytes shows stands = tt
-told_more (Some text) reader reader' left left' cs number c told count lines bytes shows stands =
+    → IfTold text (IsBehind types reader' left' (cs ++ c ∷ []))
+told_more types None reader reader' left left' cs number c told count lines bytes shows stands = tt
+told_more types (Some text) reader reader' left left' cs number c told count lines bytes shows stands =
     let shown = shows text told.1 in
     let line = shown.0.0 in
     let within = shown.1 in
-    let first = first_more text cs line told.0 (subst (λ k. slice_get (lines_of text) k ≡ Some line) (sym count) shown.0.1.0)
+    let first = first_more types text cs line told.0 (subst (λ k. slice_get (lines_of text) k ≡ Some line) (sym count) shown.0.1.0)
     (omega (arith, within.lines, count, lines)) (subst (λ k. end_of (k + 1) text ≤ MOST_BYTES) (sym count) (omega (arith, within.bytes, bytes))) in
-    (subst (λ x. AreFirst text (cs ++ x ∷ [])) (sym shown.0.1.1) first, stands text told.1)
+    (subst (λ x. AreFirst types text (cs ++ x ∷ [])) (sym shown.0.1.1) first, stands text told.1)
 
-first_of : (text : Option (List ℕ)) (cs : List Asked) (reader : Reading) (left : Option (List ℕ)) → IfTold text (IsBehind reader left cs) → IfTold text (λ t. AreFirst t cs)
-first_of None cs reader left told = tt
-first_of (Some text) cs reader left told = told.0
+first_of : (types : Types) (text : Option (List ℕ)) (cs : List Asked) (reader : Reading) (left : Option (List ℕ)) → IfTold text (IsBehind types reader left cs) → IfTold text (λ t. AreFirst types t cs)
+first_of types None cs reader left told = tt
+first_of types (Some text) cs reader left told = told.0
 
 -- ---- between two lines
 
 abbrev pub first_reading : Reading
 first_reading = record { ahead = []; passed = 0; lines = 0; given = 0; max_lines = MOST_LINES; max_bytes = MOST_BYTES }
 
-first_none : (text : List ℕ) → AreFirst text []
+first_none : (types : Types) (text : List ℕ) → AreFirst types text []
 unfolding end_of
-first_none text = record { lines = refl; within = record { some = omega arith; few = omega arith; within = omega arith } }
+first_none types text = record { lines = refl; within = record { some = omega arith; few = omega arith; within = omega arith } }
 
-told_none : (text : Option (List ℕ)) → IfTold text (IsBehind first_reading text [])
-told_none None = tt
-told_none (Some t) = (first_none t, start_at t MOST_LINES MOST_BYTES)
+told_none : (types : Types) (text : Option (List ℕ)) → IfTold text (IsBehind types first_reading text [])
+told_none types None = tt
+told_none types (Some t) = (first_none types t, start_at t MOST_LINES MOST_BYTES)
 
-so_far_start : (s : Setting) (text before : Option (List ℕ)) → IsSetting s → IsSoFar s text first_reading text (opened s) before before
-so_far_start s text before setting = record {
+so_far_start : (s : Setting) (types : Types) (text before : Option (List ℕ)) → IsSetting s → IsSoFar s types text first_reading text (opened s) before before
+so_far_start s types text before setting = record {
   setting = setting;
   bits = refl;
   commands = [];
@@ -92,35 +93,35 @@ so_far_start s text before setting = record {
   dealt = refl;
   kept = kept_none s;
   output = Appends-nil before;
-  told = told_none text;
+  told = told_none types text;
 }
 
-pub so_far_new : (s : Setting) (text before : Option (List ℕ)) (reader : Reading) (c : Cell) → IsSetting s → reader ≡ first_reading → c ≡ opened s → IsSoFar s text reader text c before before
-so_far_new s text before reader c setting is none =
-    subst (λ (x : Cell). IsSoFar s text reader text x before before) (sym none) (subst (λ r. IsSoFar s text r text (opened s) before before) (sym is) (so_far_start s text before setting))
+pub so_far_new : (s : Setting) (types : Types) (text before : Option (List ℕ)) (reader : Reading) (c : Cell) → IsSetting s → reader ≡ first_reading → c ≡ opened s → IsSoFar s types text reader text c before before
+so_far_new s types text before reader c setting is none =
+    subst (λ (x : Cell). IsSoFar s types text reader text x before before) (sym none) (subst (λ r. IsSoFar s types text r text (opened s) before before) (sym is) (so_far_start s types text before setting))
 
-pub so_far_ready : (s : Setting) (text left : Option (List ℕ)) (reader : Reading) (c : Cell) (before now : Option (List ℕ)) (number : ℕ)
-    → IsSoFar s text reader left c before now → number ≡ reader.lines + 1 → reader.lines ≤ MOST_LINES → IsReady s number c
-so_far_ready s text left reader c before now number so is few = ready_next s so.commands c number so.setting so.bits so.kept (omega (arith, is, so.count)) (omega (arith, so.count, few))
+pub so_far_ready : (s : Setting) (types : Types) (text left : Option (List ℕ)) (reader : Reading) (c : Cell) (before now : Option (List ℕ)) (number : ℕ)
+    → IsSoFar s types text reader left c before now → number ≡ reader.lines + 1 → reader.lines ≤ MOST_LINES → IsReady s number c
+so_far_ready s types text left reader c before now number so is few = ready_next s so.commands c number so.setting so.bits so.kept (omega (arith, is, so.count)) (omega (arith, so.count, few))
 
 -- what one line more keeps, whatever was written
-record IsMore (s : Setting) (text left' : Option (List ℕ)) (reader reader' : Reading) (cs : List Asked) (old new : Cell) (number : ℕ) (c : Asked) : Type 0 where
+record IsMore (s : Setting) (types : Types) (text left' : Option (List ℕ)) (reader reader' : Reading) (cs : List Asked) (old new : Cell) (number : ℕ) (c : Asked) : Type 0 where
   count : length (cs ++ c ∷ []) ≡ number
   dealt : new.dealt ≡ number
   bits : new.bits ≡ old.bits
   journals : new.journals ≡ with_command s number c old.journals
   kept : IsKept s (cs ++ c ∷ []) new.journals
-  told : IfTold text (IsBehind reader' left' (cs ++ c ∷ []))
+  told : IfTold text (IsBehind types reader' left' (cs ++ c ∷ []))
   earlier : output_of s cs new.journals ≡ output_of s cs old.journals
   output : output_of s (cs ++ c ∷ []) new.journals ≡ output_of s cs old.journals ++ report_in s number c new.journals
 
-one_more : (s : Setting) (text left left' : Option (List ℕ)) (reader reader' : Reading) (old new : Cell) (before now : Option (List ℕ)) (number : ℕ) (c : Asked)
-    → (so : IsSoFar s text reader left old before now) → reader.max_lines ≡ MOST_LINES → reader.max_bytes ≡ MOST_BYTES
-    → ((t : List ℕ) → StandsIn t reader left → Shows t reader (step.Command number c))
+one_more : (s : Setting) (types : Types) (text left left' : Option (List ℕ)) (reader reader' : Reading) (old new : Cell) (before now : Option (List ℕ)) (number : ℕ) (c : Asked)
+    → (so : IsSoFar s types text reader left old before now) → reader.max_lines ≡ MOST_LINES → reader.max_bytes ≡ MOST_BYTES
+    → ((t : List ℕ) → StandsIn t reader left → Shows types t reader (step.Command number c))
     → ((t : List ℕ) → StandsIn t reader left → StandsIn t reader' left')
     → number ≡ reader.lines + 1 → new ≡ after_line s number c old
-    → IsMore s text left' reader reader' so.commands old new number c
-one_more s text left left' reader reader' old new before now number c so lines bytes shows stands is grown =
+    → IsMore s types text left' reader reader' so.commands old new number c
+one_more s types text left left' reader reader' old new before now number c so lines bytes shows stands is grown =
     let cs = so.commands in
     let k : number ≡ length cs + 1 = omega (arith, is, so.count) in
     let moves = command_moves s cs c old.journals number so.kept k in
@@ -131,22 +132,22 @@ one_more s text left left' reader reader' old new before now number c so lines b
       bits = ap (λ (x : Cell). x.bits) grown;
       journals = journals;
       kept = subst (IsKept s (cs ++ c ∷ [])) (sym journals) (kept_command s cs c old.journals number so.kept k);
-      told = told_more text reader reader' left left' cs number c so.told so.count lines bytes shows stands;
+      told = told_more types text reader reader' left left' cs number c so.told so.count lines bytes shows stands;
       earlier = ap (output_of s cs) journals ∙ output_kept s cs old.journals (with_command s number c old.journals) number so.kept k moves;
       output = ap (output_of s (cs ++ c ∷ [])) journals ∙ output_more s cs c old.journals (with_command s number c old.journals) number so.kept k moves
           ∙ ap (λ x. output_of s cs old.journals ++ report_in s number c x) (sym journals);
     }
 
-pub so_far_more : (s : Setting) (text left left' : Option (List ℕ)) (reader reader' : Reading) (old new : Cell) (before now now' : Option (List ℕ)) (number : ℕ) (c : Asked)
-    → IsSoFar s text reader left old before now → reader.max_lines ≡ MOST_LINES → reader.max_bytes ≡ MOST_BYTES
-    → ((t : List ℕ) → StandsIn t reader left → Shows t reader (step.Command number c))
+pub so_far_more : (s : Setting) (types : Types) (text left left' : Option (List ℕ)) (reader reader' : Reading) (old new : Cell) (before now now' : Option (List ℕ)) (number : ℕ) (c : Asked)
+    → IsSoFar s types text reader left old before now → reader.max_lines ≡ MOST_LINES → reader.max_bytes ≡ MOST_BYTES
+    → ((t : List ℕ) → StandsIn t reader left → Shows types t reader (step.Command number c))
     → ((t : List ℕ) → StandsIn t reader left → StandsIn t reader' left')
     → number ≡ reader.lines + 1 → reader'.lines ≡ reader.lines + 1
     → new ≡ after_line s number c old → Appends now now' (report_in s number c new.journals)
-    → IsSoFar s text reader' left' new before now'
-so_far_more s text left left' reader reader' old new before now now' number c so lines bytes shows stands is grows grown wrote =
+    → IsSoFar s types text reader' left' new before now'
+so_far_more s types text left left' reader reader' old new before now now' number c so lines bytes shows stands is grows grown wrote =
     let cs = so.commands in
-    let more = one_more s text left left' reader reader' old new before now number c so lines bytes shows stands is grown in
+    let more = one_more s types text left left' reader reader' old new before now number c so lines bytes shows stands is grown in
     record {
       setting = so.setting;
       bits = more.bits ∙ so.bits;
@@ -176,34 +177,34 @@ passes limit.Lines text reader count is lines bytes past = (omega (arith, is, pa
 passes limit.Bytes text reader count is lines bytes past =
     (omega (arith, is, past.0), (omega (arith, is, past.1.0, lines), subst (λ k. MOST_BYTES < end_of (k + 1) text) (sym is) (omega (arith, past.1.1, bytes))))
 
-stops_of : (end : Status) (text left left' : Option (List ℕ)) (reader reader' : Reading) (cs : List Asked)
-    → IfTold text (IsBehind reader left cs) → length cs ≡ reader.lines → reader.max_lines ≡ MOST_LINES → reader.max_bytes ≡ MOST_BYTES
+stops_of : (end : Status) (types : Types) (text left left' : Option (List ℕ)) (reader reader' : Reading) (cs : List Asked)
+    → IfTold text (IsBehind types reader left cs) → length cs ≡ reader.lines → reader.max_lines ≡ MOST_LINES → reader.max_bytes ≡ MOST_BYTES
     → ((t : List ℕ) → StandsIn t reader left → Finishes t reader end)
     → ((t : List ℕ) → StandsIn t reader left → StandsIn t reader' left')
     → HoldsBack reader reader' end → (last : Option ℕ) (a b : ℕ) → IsReadEnd end last a b
     → IfTold text (λ t. StopsAt end t (length cs) left')
-stops_of end None left left' reader reader' cs told count lines bytes finishes stands holds last a b may = tt
-stops_of status.Done (Some text) left left' reader reader' cs told count lines bytes finishes stands holds last a b may = omega (arith, count, finishes text told.1)
-stops_of status.ReadFault (Some text) left left' reader reader' cs told count lines bytes finishes stands holds last a b may = read_to text reader' left' (length cs) (stands text told.1) holds.1 (count ∙ sym holds.0)
-stops_of status.Usage (Some text) left left' reader reader' cs told count lines bytes finishes stands holds last a b may = absurd may
-stops_of status.WriteFault (Some text) left left' reader reader' cs told count lines bytes finishes stands holds last a b may = absurd may
-stops_of status.NoMemory (Some text) left left' reader reader' cs told count lines bytes finishes stands holds last a b may = tt
-stops_of (status.Limit which) (Some text) left left' reader reader' cs told count lines bytes finishes stands holds last a b may = passes which text reader (length cs) count lines bytes (finishes text told.1)
+stops_of end types None left left' reader reader' cs told count lines bytes finishes stands holds last a b may = tt
+stops_of status.Done types (Some text) left left' reader reader' cs told count lines bytes finishes stands holds last a b may = omega (arith, count, finishes text told.1)
+stops_of status.ReadFault types (Some text) left left' reader reader' cs told count lines bytes finishes stands holds last a b may = read_to text reader' left' (length cs) (stands text told.1) holds.1 (count ∙ sym holds.0)
+stops_of status.Usage types (Some text) left left' reader reader' cs told count lines bytes finishes stands holds last a b may = absurd may
+stops_of status.WriteFault types (Some text) left left' reader reader' cs told count lines bytes finishes stands holds last a b may = absurd may
+stops_of status.NoMemory types (Some text) left left' reader reader' cs told count lines bytes finishes stands holds last a b may = tt
+stops_of (status.Limit which) types (Some text) left left' reader reader' cs told count lines bytes finishes stands holds last a b may = passes which text reader (length cs) count lines bytes (finishes text told.1)
 
 -- ---- the ends
 
-over_with : (end : Status) (s : Setting) (text left left' : Option (List ℕ)) (reader reader' : Reading) (c : Cell) (before now : Option (List ℕ))
-    → (so : IsSoFar s text reader left c before now) → reader.max_lines ≡ MOST_LINES → reader.max_bytes ≡ MOST_BYTES
+over_with : (end : Status) (s : Setting) (types : Types) (text left left' : Option (List ℕ)) (reader reader' : Reading) (c : Cell) (before now : Option (List ℕ))
+    → (so : IsSoFar s types text reader left c before now) → reader.max_lines ≡ MOST_LINES → reader.max_bytes ≡ MOST_BYTES
     → ((t : List ℕ) → StandsIn t reader left → Finishes t reader end)
     → ((t : List ℕ) → StandsIn t reader left → StandsIn t reader' left')
     → HoldsBack reader reader' end → (last : Option ℕ) (a b : ℕ) → IsReadEnd end last a b
-    → Writes end s so.commands c.journals before now → EndsAs end s text left' c before now
-over_with end s text left left' reader reader' c before now so lines bytes finishes stands holds last a b may wrote = inr (record {
+    → Writes end s so.commands c.journals before now → EndsAs end s types text left' c before now
+over_with end s types text left left' reader reader' c before now so lines bytes finishes stands holds last a b may wrote = inr (record {
   commands = so.commands;
   count = so.count ∙ sym so.dealt;
   dealt = so.kept.dealt;
-  first = first_of text so.commands reader left so.told;
-  stops = stops_of end text left left' reader reader' so.commands so.told so.count lines bytes finishes stands holds last a b may;
+  first = first_of types text so.commands reader left so.told;
+  stops = stops_of end types text left left' reader reader' so.commands so.told so.count lines bytes finishes stands holds last a b may;
   output = wrote;
 })
 
@@ -217,43 +218,55 @@ written_by status.NoMemory s cs c before now last a b may wrote = inl wrote
 written_by (status.Limit which) s cs c before now last a b may wrote = wrote
 
 -- where no line is left to deal with
-pub over_ends : (end : Status) (s : Setting) (text left left' : Option (List ℕ)) (reader reader' : Reading) (c : Cell) (before now : Option (List ℕ))
-    → IsSoFar s text reader left c before now → reader.max_lines ≡ MOST_LINES → reader.max_bytes ≡ MOST_BYTES
+pub over_ends : (end : Status) (s : Setting) (types : Types) (text left left' : Option (List ℕ)) (reader reader' : Reading) (c : Cell) (before now : Option (List ℕ))
+    → IsSoFar s types text reader left c before now → reader.max_lines ≡ MOST_LINES → reader.max_bytes ≡ MOST_BYTES
     → ((t : List ℕ) → StandsIn t reader left → Finishes t reader end)
     → ((t : List ℕ) → StandsIn t reader left → StandsIn t reader' left')
     → HoldsBack reader reader' end → (last : Option ℕ) (a b : ℕ) → IsReadEnd end last a b
-    → EndsAs end s text left' c before now
-over_ends end s text left left' reader reader' c before now so lines bytes finishes stands holds last a b may =
-    over_with end s text left left' reader reader' c before now so lines bytes finishes stands holds last a b may (written_by end s so.commands c before now last a b may so.output)
+    → EndsAs end s types text left' c before now
+over_ends end s types text left left' reader reader' c before now so lines bytes finishes stands holds last a b may =
+    over_with end s types text left left' reader reader' c before now so lines bytes finishes stands holds last a b may (written_by end s so.commands c before now last a b may so.output)
 
-some_dealt : (text left : Option (List ℕ)) (count : ℕ) → 0 < count → IfTold text (λ t. StopsAt status.WriteFault t count left)
-some_dealt None left count h = tt
-some_dealt (Some text) left count h = h
+-- the reader holds less than a piece
+read_near : (text : List ℕ) (reader : Reading) (left : Option (List ℕ)) (count : ℕ) → StandsIn text reader left → IsLittle reader → count ≡ reader.lines → IfTold left (IsReadNear text count)
+read_near text reader None count at little is = absurd at
+read_near text reader (Some left) count at little is = (
+  at.split.front ++ reader.ahead,
+  (
+    omega (arith, length-append at.split.front reader.ahead, at.split.size, little),
+    ap (λ k. drop (end_of k text) text) is ∙ ap (λ k. drop k text) (sym at.given) ∙ at.after ∙ at.split.whole ∙ sym (append_assoc at.split.front reader.ahead left),
+  ),
+)
+
+some_dealt : (types : Types) (text left : Option (List ℕ)) (reader : Reading) (cs : List Asked) → IfTold text (IsBehind types reader left cs) → IsLittle reader → length cs ≡ reader.lines → 0 < length cs
+    → IfTold text (λ t. StopsAt status.WriteFault t (length cs) left)
+some_dealt types None left reader cs told little is some = tt
+some_dealt types (Some text) left reader cs told little is some = (some, read_near text reader left (length cs) told.1 little is)
 
 no_claim : (text left : Option (List ℕ)) (count : ℕ) → IfTold text (λ t. StopsAt status.NoMemory t count left)
 no_claim None left count = tt
 no_claim (Some text) left count = tt
 
 -- where the sink failed
-pub fault_ends : (why : Stop) (s : Setting) (text left left' : Option (List ℕ)) (reader reader' : Reading) (old new : Cell) (before now now' : Option (List ℕ)) (number : ℕ) (c : Asked)
-    → IsSoFar s text reader left old before now → reader.max_lines ≡ MOST_LINES → reader.max_bytes ≡ MOST_BYTES
-    → ((t : List ℕ) → StandsIn t reader left → Shows t reader (step.Command number c))
+pub fault_ends : (why : Stop) (s : Setting) (types : Types) (text left left' : Option (List ℕ)) (reader reader' : Reading) (old new : Cell) (before now now' : Option (List ℕ)) (number : ℕ) (c : Asked)
+    → IsSoFar s types text reader left old before now → reader.max_lines ≡ MOST_LINES → reader.max_bytes ≡ MOST_BYTES
+    → ((t : List ℕ) → StandsIn t reader left → Shows types t reader (step.Command number c))
     → ((t : List ℕ) → StandsIn t reader left → StandsIn t reader' left')
-    → number ≡ reader.lines + 1 → why ≡ stop.Fault → StopsAs why s number c old new now now'
-    → EndsAs status.WriteFault s text left' new before now'
-fault_ends why s text left left' reader reader' old new before now now' number c so lines bytes shows stands is fault stopped =
+    → number ≡ reader.lines + 1 → reader'.lines ≡ reader.lines + 1 → IsLittle reader' → why ≡ stop.Fault → StopsAs why s number c old new now now'
+    → EndsAs status.WriteFault s types text left' new before now'
+fault_ends why s types text left left' reader reader' old new before now now' number c so lines bytes shows stands is grows little fault stopped =
     ended (subst (λ w. StopsAs w s number c old new now now') fault stopped)
   where
-    ended : (new ≡ after_line s number c old) × AppendsFront now now' (report_in s number c new.journals) → EndsAs status.WriteFault s text left' new before now'
+    ended : (new ≡ after_line s number c old) × AppendsFront now now' (report_in s number c new.journals) → EndsAs status.WriteFault s types text left' new before now'
     ended (grown, (front, (rest, (whole, wrote)))) =
         let cs = so.commands in
-        let more = one_more s text left left' reader reader' old new before now number c so lines bytes shows stands is grown in
+        let more = one_more s types text left left' reader reader' old new before now number c so lines bytes shows stands is grown in
         inr (record {
           commands = cs ++ c ∷ [];
           count = more.count ∙ sym more.dealt;
           dealt = more.kept.dealt;
-          first = first_of text (cs ++ c ∷ []) reader' left' more.told;
-          stops = some_dealt text left' (length (cs ++ c ∷ [])) (omega (arith, more.count, is));
+          first = first_of types text (cs ++ c ∷ []) reader' left' more.told;
+          stops = some_dealt types text left' reader' (cs ++ c ∷ []) more.told little (omega (arith, more.count, is, grows)) (omega (arith, more.count, is));
           output = record {
             earlier = cs;
             last = c;
@@ -276,55 +289,55 @@ pub appends_nothing : (a b : Option (List ℕ)) → Keeps a b → Appends a b []
 appends_nothing a b kept = appends_kept a a b [] (Appends-nil a) kept
 
 -- where memory wanted before a line's report was written
-pub memory_ends : (why : Stop) (s : Setting) (text left left' : Option (List ℕ)) (reader reader' : Reading) (old new : Cell) (before now now' : Option (List ℕ)) (number : ℕ) (c : Asked)
-    → IsSoFar s text reader left old before now → reader.max_lines ≡ MOST_LINES → reader.max_bytes ≡ MOST_BYTES
-    → ((t : List ℕ) → StandsIn t reader left → Shows t reader (step.Command number c))
+pub memory_ends : (why : Stop) (s : Setting) (types : Types) (text left left' : Option (List ℕ)) (reader reader' : Reading) (old new : Cell) (before now now' : Option (List ℕ)) (number : ℕ) (c : Asked)
+    → IsSoFar s types text reader left old before now → reader.max_lines ≡ MOST_LINES → reader.max_bytes ≡ MOST_BYTES
+    → ((t : List ℕ) → StandsIn t reader left → Shows types t reader (step.Command number c))
     → ((t : List ℕ) → StandsIn t reader left → StandsIn t reader' left')
     → number ≡ reader.lines + 1 → why ≡ stop.Memory → StopsAs why s number c old new now now'
-    → EndsAs status.NoMemory s text left' new before now'
-memory_ends why s text left left' reader reader' old new before now now' number c so lines bytes shows stands is memory stopped =
+    → EndsAs status.NoMemory s types text left' new before now'
+memory_ends why s types text left left' reader reader' old new before now now' number c so lines bytes shows stands is memory stopped =
     let told = subst (λ w. StopsAs w s number c old new now now') memory stopped in
     ended told.0 (appends_kept before now now' (output_of s so.commands old.journals) so.output told.1)
   where
-    ended : IsAllOrNothing s number c old new → Appends before now' (output_of s so.commands old.journals) → EndsAs status.NoMemory s text left' new before now'
-    ended (inl same) wrote = subst (λ (x : Cell). EndsAs status.NoMemory s text left' x before now') (sym same) (inr (record {
+    ended : IsAllOrNothing s number c old new → Appends before now' (output_of s so.commands old.journals) → EndsAs status.NoMemory s types text left' new before now'
+    ended (inl same) wrote = subst (λ (x : Cell). EndsAs status.NoMemory s types text left' x before now') (sym same) (inr (record {
       commands = so.commands;
       count = so.count ∙ sym so.dealt;
       dealt = so.kept.dealt;
-      first = first_of text so.commands reader left so.told;
+      first = first_of types text so.commands reader left so.told;
       stops = no_claim text left' (length so.commands);
       output = inl wrote;
     }))
     ended (inr grown) wrote =
         let cs = so.commands in
-        let more = one_more s text left left' reader reader' old new before now number c so lines bytes shows stands is grown in
+        let more = one_more s types text left left' reader reader' old new before now number c so lines bytes shows stands is grown in
         inr (record {
           commands = cs ++ c ∷ [];
           count = more.count ∙ sym more.dealt;
           dealt = more.kept.dealt;
-          first = first_of text (cs ++ c ∷ []) reader' left' more.told;
+          first = first_of types text (cs ++ c ∷ []) reader' left' more.told;
           stops = no_claim text left' (length (cs ++ c ∷ []));
           output = inr (record { earlier = cs; last = c; all = refl; output = subst (Appends before now') (sym more.earlier) wrote });
         })
 
 -- where memory wanted before the first line
-firsts_none : (text : Option (List ℕ)) → IfTold text (λ t. AreFirst t [])
-firsts_none None = tt
-firsts_none (Some t) = first_none t
+firsts_none : (types : Types) (text : Option (List ℕ)) → IfTold text (λ t. AreFirst types t [])
+firsts_none types None = tt
+firsts_none types (Some t) = first_none types t
 
 keeps_same : (a : Option (List ℕ)) → Keeps a a
 keeps_same None = tt
 keeps_same (Some x) = refl
 
-pub opened_ends : (s : Setting) (text left : Option (List ℕ)) (c : Cell) (before : Option (List ℕ)) → c ≡ opened s → EndsAs status.NoMemory s text left c before before
-opened_ends s text left c before is = subst (λ (x : Cell). EndsAs status.NoMemory s text left x before before) (sym is) (inr (record {
+pub opened_ends : (s : Setting) (types : Types) (text left : Option (List ℕ)) (c : Cell) (before : Option (List ℕ)) → c ≡ opened s → EndsAs status.NoMemory s types text left c before before
+opened_ends s types text left c before is = subst (λ (x : Cell). EndsAs status.NoMemory s types text left x before before) (sym is) (inr (record {
   commands = [];
   count = refl;
   dealt = (kept_none s).dealt;
-  first = firsts_none text;
+  first = firsts_none types text;
   stops = no_claim text left 0;
   output = inl (Appends-nil before);
 }))
 
-pub unopened_ends : (s : Setting) (text left : Option (List ℕ)) (c : Cell) (before : Option (List ℕ)) → (c.journals ≡ []) × (c.dealt ≡ 0) → EndsAs status.NoMemory s text left c before before
-unopened_ends s text left c before is = inl (record { memory = refl; none = is.0; dealt = is.1; kept = keeps_same before })
+pub unopened_ends : (s : Setting) (types : Types) (text left : Option (List ℕ)) (c : Cell) (before : Option (List ℕ)) → (c.journals ≡ []) × (c.dealt ≡ 0) → EndsAs status.NoMemory s types text left c before before
+unopened_ends s types text left c before is = inl (record { memory = refl; none = is.0; dealt = is.1; kept = keeps_same before })

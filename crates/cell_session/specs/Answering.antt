@@ -17,5 +17,6 @@ IsAllOrNothing s line asked old new = (new ≡ old) ⊎ (new ≡ after_line s li
 -- a fault comes after the line was dealt with, and a front of the report was written; want of memory
 -- comes before anything is written
 abbrev pub StopsAs : Stop → Setting → ℕ → Asked → Cell → Cell → Option (List ℕ) → Option (List ℕ) → Type 0
-StopsAs stop.Fault s line asked old new before now = (new ≡ after_line s line asked old) × AppendsFront before now (report_in s line asked new.journals)
+StopsAs stop.Fault s line asked old new before now =
+    (new ≡ after_line s line asked old) × AppendsFront before now (report_in s line asked new.journals)
 StopsAs stop.Memory s line asked old new before now = IsAllOrNothing s line asked old new × Keeps before now

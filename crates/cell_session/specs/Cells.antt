@@ -13,8 +13,11 @@ pub record Cell : Type 0 where
   pub dealt : ℕ
 
 abbrev pub cell_code : Coded Cell
-cell_code = code_by (ℕ × (ℕ × (List Journal × ℕ))) (coded× coded_ℕ (coded× coded_ℕ (coded× (coded_list journal_code) coded_ℕ)))
-    (λ c. (c.bits, (c.node, (c.journals, c.dealt)))) (λ p. record { bits = p.0; node = p.1.0; journals = p.1.1.0; dealt = p.1.1.1 }) (λ _. refl)
+cell_code = code_by (ℕ × (ℕ × (List Journal × ℕ)))
+    (coded× coded_ℕ (coded× coded_ℕ (coded× (coded_list journal_code) coded_ℕ)))
+    (λ c. (c.bits, (c.node, (c.journals, c.dealt))))
+    (λ p. record { bits = p.0; node = p.1.0; journals = p.1.1.0; dealt = p.1.1.1 })
+    (λ _. refl)
 
 -- there is no lane, and no line was dealt with
 abbrev pub is_empty : Cell → Bool

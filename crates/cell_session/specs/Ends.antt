@@ -5,7 +5,9 @@ use Rattle.io_ends.specs.Causes.{AppendsFront}
 use Rattle.io_ends.specs.Lines.{lines_of, end_of, NoLineFeed}
 use Rattle.io_ends.specs.declared.next.LimitKind.{LimitKind}
 use Rattle.io_ends.specs.declared.next.LimitKind.TheVariants as limit
-use Rattle.cell_session.specs.Asking.{command_of}
+use Rattle.io_ends.specs.declared.sizes.TheConstants.{PIECE}
+use Rattle.doc_types.specs.SchemaCodes.{Types}
+use Rattle.cell_session.specs.Asking.{asked_of}
 use Rattle.cell_session.specs.declared.asked.Asked.{Asked}
 use Rattle.lane_laws.specs.Journals.{Journal}
 use Rattle.reports.specs.ReportText.{usage_text}
@@ -21,9 +23,9 @@ abbrev pub IfTold : Option (List ℕ) → (List ℕ → Type 0) → Type 0
 IfTold None P = Unit {0}
 IfTold (Some bytes) P = P bytes
 
--- what the first lines of a text ask for
-abbrev pub commands_of : List ℕ → ℕ → List Asked
-commands_of text count = map command_of (take count (lines_of text))
+-- what the first lines of a text ask for under a schema
+abbrev pub commands_of : Types → List ℕ → ℕ → List Asked
+commands_of types text count = map (asked_of types) (take count (lines_of text))
 
 -- ---- lanes
 
@@ -48,16 +50,23 @@ pub record AreWithin (text : List ℕ) (count : ℕ) : Type 0 where
 abbrev pub IsReadTo : List ℕ → ℕ → List ℕ → Type 0
 IsReadTo text count left = (held : List ℕ) × (NoLineFeed held × (drop (end_of count text) text ≡ held ++ left))
 
+-- what was read behind these lines is less than a piece: no call of the source came after the one that
+-- gave the last line feed
+abbrev pub IsReadNear : List ℕ → ℕ → List ℕ → Type 0
+IsReadNear text count left =
+    (held : List ℕ) × ((length held < PIECE) × (drop (end_of count text) text ≡ held ++ left))
+
 -- there is one line more, and it is past the limit
 abbrev pub PassesLimit : LimitKind → List ℕ → ℕ → Type 0
 PassesLimit limit.Lines text count = (count < length (lines_of text)) × (count ≡ MOST_LINES)
-PassesLimit limit.Bytes text count = (count < length (lines_of text)) × ((count < MOST_LINES) × (MOST_BYTES < end_of (count + 1) text))
+PassesLimit limit.Bytes text count =
+    (count < length (lines_of text)) × ((count < MOST_LINES) × (MOST_BYTES < end_of (count + 1) text))
 
 -- why no further line was dealt with
 abbrev pub StopsAt : Status → List ℕ → ℕ → Option (List ℕ) → Type 0
 StopsAt status.Done text count left = count ≡ length (lines_of text)
 StopsAt status.ReadFault text count left = IfTold left (IsReadTo text count)
-StopsAt status.WriteFault text count left = 0 < count
+StopsAt status.WriteFault text count left = (0 < count) × IfTold left (IsReadNear text count)
 StopsAt status.NoMemory text count left = Unit {0}
 StopsAt (status.Limit which) text count left = PassesLimit which text count
 StopsAt status.Usage text count left = ⊥
@@ -70,7 +79,8 @@ pub record DealsWith (end : Status) (text : List ℕ) (count : ℕ) (left : Opti
 -- ---- the bytes written
 
 -- the sink took the reports of all lines but the last, and a front of that one's
-pub record TakesFront (s : Setting) (commands : List Asked) (Js : List Journal) (before now : Option (List ℕ)) : Type 0 where
+pub record TakesFront (s : Setting) (commands : List Asked) (Js : List Journal)
+    (before now : Option (List ℕ)) : Type 0 where
   pub earlier : List Asked
   pub last : Asked
   pub all : commands ≡ earlier ++ last ∷ []
@@ -80,7 +90,8 @@ pub record TakesFront (s : Setting) (commands : List Asked) (Js : List Journal) 
   pub output : Appends before now (output_of s earlier Js ++ front)
 
 -- the sink took the reports of all lines but the last
-pub record TakesAllButOne (s : Setting) (commands : List Asked) (Js : List Journal) (before now : Option (List ℕ)) : Type 0 where
+pub record TakesAllButOne (s : Setting) (commands : List Asked) (Js : List Journal)
+    (before now : Option (List ℕ)) : Type 0 where
   pub earlier : List Asked
   pub last : Asked
   pub all : commands ≡ earlier ++ last ∷ []
@@ -91,7 +102,8 @@ Writes status.Done s commands Js before now = Appends before now (output_of s co
 Writes status.ReadFault s commands Js before now = Appends before now (output_of s commands Js)
 Writes (status.Limit which) s commands Js before now = Appends before now (output_of s commands Js)
 Writes status.WriteFault s commands Js before now = TakesFront s commands Js before now
-Writes status.NoMemory s commands Js before now = Appends before now (output_of s commands Js) ⊎ TakesAllButOne s commands Js before now
+Writes status.NoMemory s commands Js before now =
+    Appends before now (output_of s commands Js) ⊎ TakesAllButOne s commands Js before now
 Writes status.Usage s commands Js before now = ⊥
 
 -- ---- wrong words

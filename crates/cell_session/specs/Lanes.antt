@@ -19,5 +19,6 @@ AreLegal Js = (lane : ℕ) → IsLegal (journal_in lane Js)
 
 -- of two lines that began in one lane the earlier is closed before the later begins
 abbrev pub AreInOrder : List Journal → Type 0
-AreInOrder Js = (lane earlier line : ℕ) → earlier < line → IsSome (begun_in earlier (journal_in lane Js)) → IsSome (begun_in line (journal_in lane Js))
+AreInOrder Js = (lane earlier line : ℕ) → earlier < line
+    → IsSome (begun_in earlier (journal_in lane Js)) → IsSome (begun_in line (journal_in lane Js))
     → IsSome (closed_in earlier (before_line line (journal_in lane Js)))

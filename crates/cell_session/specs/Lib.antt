@@ -1,4 +1,5 @@
--- For a reader: Settings, Choices, Cells, Lanes, Operations, Output and Ends. The others serve the calls below the top one.
+-- For a reader: Settings, Choices, Cells, Lanes, Operations, Output and Ends. The others serve the calls
+-- below the top one.
 pub mod StatusNumbers
 pub mod Settings
 pub mod Choices

@@ -16,7 +16,8 @@ next_stamp version J = record { version = version; count = stamps_of version J +
 -- an entry is begun, written and acknowledged
 abbrev pub write_events : Setting → ℕ → Entry → Journal
 write_events s line entry =
-    event.Closed line (outcome.Acked entry.stamp) ∷ event.Wrote line entry ∷ event.Begun line s.distributor s.version entry.id (Some entry.stamp) ∷ []
+    event.Closed line (outcome.Acked entry.stamp) ∷ event.Wrote line entry
+    ∷ event.Begun line s.distributor s.version entry.id (Some entry.stamp) ∷ []
 
 -- a get is begun and closed
 abbrev pub read_events : Setting → ℕ → List ℕ → Outcome → Journal
@@ -24,4 +25,5 @@ read_events s line id ending = event.Closed line ending ∷ event.Begun line s.d
 
 -- a stamp is drawn, and nothing is written
 abbrev pub draw_events : Setting → ℕ → List ℕ → Stamp → Outcome → Journal
-draw_events s line id stamp ending = event.Closed line ending ∷ event.Begun line s.distributor s.version id (Some stamp) ∷ []
+draw_events s line id stamp ending =
+    event.Closed line ending ∷ event.Begun line s.distributor s.version id (Some stamp) ∷ []

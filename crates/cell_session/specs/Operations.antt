@@ -5,7 +5,8 @@ use Rattle.stamps.specs.declared.stamp.Stamp.{Stamp}
 use Rattle.io_ends.specs.Lines.{lines_of}
 use Rattle.documents.specs.Fields.{Contents}
 use Rattle.entry_maps.specs.declared.entry.Entry.{Entry}
-use Rattle.cell_session.specs.Asking.{command_of}
+use Rattle.doc_types.specs.SchemaCodes.{Types}
+use Rattle.cell_session.specs.Asking.{asked_of}
 use Rattle.cell_session.specs.declared.asked.Asked.{Asked}
 use Rattle.cell_session.specs.declared.asked.Asked.TheVariants as command
 use Rattle.lane_laws.specs.Journals.{Journal, events_of}
@@ -70,18 +71,21 @@ HasEvents s lane line command.TooLong J = events_of line J ≡ []
 HasEvents s lane line (command.Bad why) J = events_of line J ≡ []
 HasEvents s lane line (command.Feed op) J = OnlyIn s lane op.id line J (HasOperation s line op J)
 
--- the line at a place of the text, from 0, asks for this, where the source tells its text
-abbrev pub IsCommandAt : Option (List ℕ) → ℕ → Asked → Type 0
-IsCommandAt None at c = Unit {0}
-IsCommandAt (Some text) at c = (bytes : List ℕ) × ((slice_get (lines_of text) at ≡ Some bytes) × (c ≡ command_of bytes))
+-- the line at a place of the text, from 0, asks for this under a schema, where the source tells its text
+abbrev pub IsCommandAt : Types → Option (List ℕ) → ℕ → Asked → Type 0
+IsCommandAt types None at c = Unit {0}
+IsCommandAt types (Some text) at c =
+    (bytes : List ℕ) × ((slice_get (lines_of text) at ≡ Some bytes) × (c ≡ asked_of types bytes))
 
 -- the line after so many has the events of what it asks for
-pub record HasOutcome (s : Setting) (text : Option (List ℕ)) (at : ℕ) (Js : List Journal) : Type 0 where
+pub record HasOutcome (s : Setting) (types : Types) (text : Option (List ℕ)) (at : ℕ)
+    (Js : List Journal) : Type 0 where
   pub asked : Asked
-  pub told : IsCommandAt text at asked
+  pub told : IsCommandAt types text at asked
   pub events : (lane : ℕ) → HasEvents s lane (at + 1) asked (journal_in lane Js)
 
 -- each line dealt with has its events, and no event is of another line
-pub record HaveOutcomes (s : Setting) (text : Option (List ℕ)) (dealt : ℕ) (Js : List Journal) : Type 0 where
-  pub each : (at : ℕ) → at < dealt → HasOutcome s text at Js
+pub record HaveOutcomes (s : Setting) (types : Types) (text : Option (List ℕ)) (dealt : ℕ)
+    (Js : List Journal) : Type 0 where
+  pub each : (at : ℕ) → at < dealt → HasOutcome s types text at Js
   pub no_others : (lane line : ℕ) → (line ≡ 0) ⊎ (dealt < line) → events_of line (journal_in lane Js) ≡ []

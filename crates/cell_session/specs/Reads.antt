@@ -2,8 +2,9 @@
 use Rattle.std.specs.Prelude.{◌≡◌, ℕ, ◌+◌, ◌≤◌, List, length, Option, Some, slice_get}
 use Rattle.io_ends.specs.Causes.{HasRisen}
 use Rattle.io_ends.specs.Lines.{lines_of, NoLineFeed}
-use Rattle.io_ends.specs.Reading.{Reading, Grows, IsWithin, Reaches}
-use Rattle.cell_session.specs.Asking.{command_of}
+use Rattle.io_ends.specs.Reading.{Reading, Grows, IsLittle, IsWithin, Reaches}
+use Rattle.doc_types.specs.SchemaCodes.{Types}
+use Rattle.cell_session.specs.Asking.{asked_of}
 use Rattle.cell_session.specs.declared.next_command.Step.{Step}
 use Rattle.cell_session.specs.declared.next_command.Step.TheVariants as step
 use Rattle.cell_session.specs.declared.status.Status.{Status}
@@ -18,9 +19,16 @@ HoldsBack old new status.NoMemory = Unit {0}
 HoldsBack old new status.Usage = Unit {0}
 HoldsBack old new status.WriteFault = Unit {0}
 
--- a command is that of the next line by number
+-- a command is that of the next line by number, and the source was read no further than the piece in
+-- which the line ends
+pub record TakesLine (old new : Reading) (number : ℕ) : Type 0 where
+  pub numbered : number ≡ old.lines + 1
+  pub grows : Grows old new 1
+  pub few : new.lines ≤ new.max_lines
+  pub little : IsLittle new
+
 abbrev pub Advances : Reading → Reading → Step → Type 0
-Advances old new (step.Command number command) = (number ≡ old.lines + 1) × (Grows old new 1 × (new.lines ≤ new.max_lines))
+Advances old new (step.Command number command) = TakesLine old new number
 Advances old new (step.Over end) = HoldsBack old new end
 
 -- what an end says of the text in which the reader stood
@@ -32,10 +40,12 @@ Finishes text old status.NoMemory = Unit {0}
 Finishes text old status.Usage = ⊥
 Finishes text old status.WriteFault = ⊥
 
--- the command is that of the text's next line, which ends within the limits
-abbrev pub Shows : List ℕ → Reading → Step → Type 0
-Shows text old (step.Command number command) = ((bytes : List ℕ) × ((slice_get (lines_of text) old.lines ≡ Some bytes) × (command ≡ command_of bytes))) × IsWithin text old
-Shows text old (step.Over end) = Finishes text old end
+-- the command is that of the text's next line under a schema, which ends within the limits
+abbrev pub Shows : Types → List ℕ → Reading → Step → Type 0
+Shows types text old (step.Command number command) =
+    ((bytes : List ℕ) × ((slice_get (lines_of text) old.lines ≡ Some bytes) × (command ≡ asked_of types bytes)))
+    × IsWithin text old
+Shows types text old (step.Over end) = Finishes text old end
 
 -- an end that may come of reading; a fault of the source only where its count rose
 abbrev pub IsReadEnd : Status → Option ℕ → ℕ → ℕ → Type 0
@@ -50,12 +60,12 @@ abbrev pub CausedBySource : Step → Option ℕ → ℕ → ℕ → Type 0
 CausedBySource (step.Command number command) last before now = Unit {0}
 CausedBySource (step.Over end) last before now = IsReadEnd end last before now
 
--- the command of these bytes, or want of memory
-abbrev pub IsOfLine : Step → ℕ → List ℕ → Type 0
-IsOfLine (step.Command n command) number bytes = (n ≡ number) × (command ≡ command_of bytes)
-IsOfLine (step.Over status.NoMemory) number bytes = Unit {0}
-IsOfLine (step.Over status.Done) number bytes = ⊥
-IsOfLine (step.Over status.ReadFault) number bytes = ⊥
-IsOfLine (step.Over status.WriteFault) number bytes = ⊥
-IsOfLine (step.Over status.Usage) number bytes = ⊥
-IsOfLine (step.Over (status.Limit which)) number bytes = ⊥
+-- the command of these bytes under a schema, or want of memory
+abbrev pub IsOfLine : Types → Step → ℕ → List ℕ → Type 0
+IsOfLine types (step.Command n command) number bytes = (n ≡ number) × (command ≡ asked_of types bytes)
+IsOfLine types (step.Over status.NoMemory) number bytes = Unit {0}
+IsOfLine types (step.Over status.Done) number bytes = ⊥
+IsOfLine types (step.Over status.ReadFault) number bytes = ⊥
+IsOfLine types (step.Over status.WriteFault) number bytes = ⊥
+IsOfLine types (step.Over status.Usage) number bytes = ⊥
+IsOfLine types (step.Over (status.Limit which)) number bytes = ⊥

@@ -20,7 +20,8 @@ use Rattle.cell_session.specs.declared.setting.Setting.{Setting}
 
 -- one journal after a deed, and after an operation
 abbrev pub after_deed : Setting → ℕ → List ℕ → Deed → Journal → Journal
-after_deed s line id (Write body) J = write_events s line (record { stamp = next_stamp s.version J; id = id; body = body }) ++ J
+after_deed s line id (Write body) J =
+    write_events s line (record { stamp = next_stamp s.version J; id = id; body = body }) ++ J
 after_deed s line id (Draw ending) J = draw_events s line id (next_stamp s.version J) ending ++ J
 after_deed s line id (Show ending) J = read_events s line id ending ++ J
 
@@ -36,7 +37,8 @@ ending_of s op J = deed_outcome (next_stamp s.version J) (deed_in op J)
 
 -- all journals after an operation
 abbrev pub with_operation : Setting → ℕ → Operation → List Journal → List Journal
-with_operation s line op Js = slice_set Js (lane_of_id s.bits op.id) (after_operation s line op (journal_in (lane_of_id s.bits op.id) Js))
+with_operation s line op Js =
+    slice_set Js (lane_of_id s.bits op.id) (after_operation s line op (journal_in (lane_of_id s.bits op.id) Js))
 
 -- all journals after a line
 abbrev pub with_command : Setting → ℕ → Asked → List Journal → List Journal

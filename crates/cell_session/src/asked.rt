@@ -1,8 +1,8 @@
 ghost use Rattle.std.specs.Prelude.{◌≡◌, IfOk};
-ghost use Rattle.cell_session.specs.Asking.{session_types, asked_by, asked_of};
+ghost use Rattle.cell_session.specs.Asking.{asked_by, asked_of};
 ghost use Rattle.feed_lines.specs.Meaning.{line_said};
 
-use doc_types::{DEFAULT_SCHEMA, Schema};
+use doc_types::Schema;
 use feed_lines::{Cause, Command, LONGEST, LineFault, read_line};
 use messages::Operation;
 use std::alloc::Global;
@@ -19,17 +19,6 @@ pub enum Asked {
     Bad { cause: Cause },
     /// An operation on one document.
     Feed { operation: Operation },
-}
-
-/// The schema that a session has. The only error is want of memory.
-#[tactic(auto, unfolding(crate::specs::Asking::session_types))]
-pub fn session_schema(alloc: Global) -> Result<Schema, NoMemory>
-    ensures { IfOk result (λ schema. schema ≡ session_types) }
-{
-    match Schema::from_json(alloc, DEFAULT_SCHEMA) {
-        Ok(schema) => Ok(schema),
-        Err(_) => Err(NoMemory),
-    }
 }
 
 /// What a line of at most 65,536 bytes asks for.

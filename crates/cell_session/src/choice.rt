@@ -1,16 +1,25 @@
-ghost use Rattle.std.specs.Prelude.{◌≡◌, IfOk, map};
+ghost use Rattle.std.specs.Prelude.{◌≡◌, ◌≢◌, IfOk, IfErr, map};
 ghost use Rattle.std.specs.String.{string_bytes};
-ghost use Rattle.cell_session.specs.Choices.{is_built, setting_of, Chooses, AreWrong};
+ghost use Rattle.cell_session.specs.Choices.{is_built, setting_of, SaysSchema, Chooses, AreWrong};
 
 use crate::setting::Setting;
-use doc_types::DEFAULT_SCHEMA;
+use doc_types::{Schema, SchemaFault};
 use std::alloc::Global;
 use words_line::{Options, WordsFault, read_words};
 
+/// What the words choose.
+#[derive(Drop)]
+pub struct Choice {
+    /// What the session is set to.
+    pub setting: Setting,
+    /// Which types of documents it has.
+    pub schema: Schema,
+}
+
 /// What the words choose, of which the first is the program's name. An option that isn't built yet
 /// must stand at its default.
-pub fn read_choice(alloc: Global, words: &[String]) -> Result<Setting, WordsFault>
-    ensures chosen { IfOk result (λ setting. Chooses (map string_bytes words.now) setting) }
+pub fn read_choice(alloc: Global, words: &[String]) -> Result<Choice, WordsFault>
+    ensures chosen { IfOk result (λ choice. Chooses (map string_bytes words.now) choice) }
     ensures usage { (result ≡ Err WordsFault.Usage) → AreWrong (map string_bytes words.now) }
 {
     let options = match read_words(alloc, words) {
@@ -21,7 +30,14 @@ pub fn read_choice(alloc: Global, words: &[String]) -> Result<Setting, WordsFaul
     if !is_built(&options) {
         return Err(WordsFault::Usage);
     }
-    Ok(setting_of(&options))
+    match Schema::from_json(alloc, options.schema.text()) {
+        Ok(schema) => Ok(Choice {
+            setting: setting_of(&options),
+            schema,
+        }),
+        Err(SchemaFault::NoMemory) => Err(WordsFault::NoMemory),
+        Err(_) => Err(WordsFault::Usage),
+    }
 }
 
 /// Whether each option that isn't built yet stands at its default.
@@ -34,7 +50,6 @@ fn is_built(options: &Options) -> bool
         && options.acks == 1
         && options.searchable == 1
         && options.split_at == 64
-        && options.schema.text() == DEFAULT_SCHEMA
         && options.initial.text() == "version:1 distributor:1 storage:1"
         && options.generate.is_none()
 }

@@ -189,9 +189,11 @@ impl Cluster {
         operation: &Operation,
     ) -> Result<Option<Answer>, NoMemory>
         requires { IsReady setting line self.old }
-        ensures ok { IfOk result (λ answer. (self.new ≡ grown self.old line (with_operation setting line operation.now self.old.journals))
+        ensures ok { IfOk result (λ answer.
+            (self.new ≡ grown self.old line (with_operation setting line operation.now self.old.journals))
             × (answer ≡ operation_answer setting line operation.now.id self.new.journals)) }
-        ensures err { OnErr result ((self.new ≡ self.old) ⊎ (self.new ≡ grown self.old line (with_operation setting line operation.now self.old.journals))) }
+        ensures err { OnErr result ((self.new ≡ self.old)
+            ⊎ (self.new ≡ grown self.old line (with_operation setting line operation.now self.old.journals))) }
     {
         let key = key_of(&operation.id);
         let outcome = self.operate(alloc, setting, line, key, operation)?;
@@ -210,8 +212,10 @@ impl Cluster {
     ) -> Result<Outcome, NoMemory>
         requires ready { IsReady setting line self.old }
         requires key { key ≡ key_of operation.now.id }
-        ensures ok { IfOk result (λ ending. (self.new ≡ grown self.old line (with_operation setting line operation.now self.old.journals))
-            × (ending ≡ ending_of setting operation.now (journal_in (lane_of_id setting.bits operation.now.id) self.old.journals))) }
+        ensures ok { IfOk result (λ ending.
+            (self.new ≡ grown self.old line (with_operation setting line operation.now self.old.journals))
+            × (ending ≡ ending_of setting operation.now
+            (journal_in (lane_of_id setting.bits operation.now.id) self.old.journals))) }
         ensures err { OnErr result (self.new ≡ self.old) }
     {
         let at = lane_at(key, setting.bits);

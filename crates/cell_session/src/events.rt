@@ -27,7 +27,8 @@ pub fn write_events(
     line: u32,
     entry: &Entry,
 ) -> Result<WriteEvents, NoMemory>
-    ensures { IfOk result (λ e. (e.begun ≡ event.Begun line setting.distributor setting.version entry.now.id (Some entry.now.stamp))
+    ensures { IfOk result (λ e.
+        (e.begun ≡ event.Begun line setting.distributor setting.version entry.now.id (Some entry.now.stamp))
         × (e.wrote ≡ event.Wrote line entry.now)
         × (e.closed ≡ event.Closed line (outcome.Acked entry.now.stamp))) }
 {
@@ -74,7 +75,8 @@ pub fn append_read(
     outcome: Outcome,
 )
     requires { vec_len events.old + 2 ≤ vec_capacity events.old }
-    ensures { past events.new.items ≡ event.Closed line outcome ∷ event.Begun line setting.distributor setting.version id None ∷ past events.old.items }
+    ensures { past events.new.items ≡ event.Closed line outcome
+        ∷ event.Begun line setting.distributor setting.version id None ∷ past events.old.items }
 {
     push_within(
         events,
@@ -99,7 +101,8 @@ pub fn append_draw(
     outcome: Outcome,
 )
     requires { vec_len events.old + 2 ≤ vec_capacity events.old }
-    ensures { past events.new.items ≡ event.Closed line outcome ∷ event.Begun line setting.distributor setting.version id (Some stamp) ∷ past events.old.items }
+    ensures { past events.new.items ≡ event.Closed line outcome
+        ∷ event.Begun line setting.distributor setting.version id (Some stamp) ∷ past events.old.items }
 {
     push_within(
         events,

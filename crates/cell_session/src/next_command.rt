@@ -1,6 +1,5 @@
 ghost use Rattle.std.specs.Prelude.{◌≡◌, ◌≤◌, ℕ, List};
 ghost use Rattle.io_ends.specs.Reading.{StandsIn};
-ghost use Rattle.cell_session.specs.Asking.{session_types};
 ghost use Rattle.cell_session.specs.Reads.{Advances, Shows, CausedBySource, IsOfLine};
 
 use crate::asked::{Asked, asked_of};
@@ -18,7 +17,7 @@ pub enum Step {
     Over { status: Status },
 }
 
-/// The next line's command, or how the session ends.
+/// The next line's command under a schema, or how the session ends.
 pub fn next_command<S: Source>(
     alloc: Global,
     schema: &Schema,
@@ -26,10 +25,11 @@ pub fn next_command<S: Source>(
     source: &mut S,
     line: &mut Vec<u8>,
 ) -> Step
-    requires { schema.now ≡ session_types }
     ensures advances { Advances reader.old reader.new result }
-    ensures shows { (text : List ℕ) → StandsIn text reader.old (S.left source.old) → Shows text reader.old result }
-    ensures stands { (text : List ℕ) → StandsIn text reader.old (S.left source.old) → StandsIn text reader.new (S.left source.new) }
+    ensures shows { (text : List ℕ) → StandsIn text reader.old (S.left source.old)
+        → Shows schema.now text reader.old result }
+    ensures stands { (text : List ℕ) → StandsIn text reader.old (S.left source.old)
+        → StandsIn text reader.new (S.left source.new) }
     ensures count { S.faults source.old ≤ S.faults source.new }
     ensures cause { CausedBySource result S.last (S.faults source.old) (S.faults source.new) }
 {
@@ -56,8 +56,7 @@ pub fn next_command<S: Source>(
 
 /// The command of a line that was read.
 fn line_command(alloc: Global, schema: &Schema, number: u32, line: &[u8]) -> Step
-    requires { schema.now ≡ session_types }
-    ensures { IsOfLine result number line.now }
+    ensures { IsOfLine schema.now result number line.now }
 {
     let Ok(command) = asked_of(alloc, schema, line) else {
         return Step::Over {

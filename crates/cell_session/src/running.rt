@@ -10,16 +10,16 @@ ghost use Rattle.cell_session.specs.Ends.{IfTold, commands_of, HasLanes, DealsWi
 ghost use Rattle.cell_session.specs.Lanes.{AreLegal, AreInOrder};
 ghost use Rattle.cell_session.specs.Operations.{HaveOutcomes};
 ghost use Rattle.cell_session.specs.Settings.{IsSetting};
-ghost use Rattle.cell_session.specs.declared.setting.Setting.{Setting};
+ghost use Rattle.cell_session.specs.declared.choice.Choice.{Choice};
 
 use crate::answering::{Stop, answer_line};
-use crate::asked::session_schema;
 use crate::choice::read_choice;
 use crate::cluster::Cluster;
 use crate::limits::{MOST_BYTES, MOST_LINES};
 use crate::next_command::{Step, next_command};
 use crate::setting::Setting;
 use crate::status::Status;
+use doc_types::Schema;
 use io_ends::{LimitKind, LineReader, Sink, Source, write_all};
 use reports::usage_report;
 use std::alloc::Global;
@@ -40,30 +40,40 @@ pub fn run_one<S: Source, K: Sink>(
     // the journals: which are legal, whether lines overlap, how many there are
     ensures legal_lanes { AreLegal cluster.new.journals }
     ensures lines_in_order { AreInOrder cluster.new.journals }
-    ensures lanes { (s : Setting) → Chooses (map string_bytes words.now) s → HasLanes result s cluster.new.journals }
+    ensures lanes { (c : Choice) → Chooses (map string_bytes words.now) c
+        → HasLanes result c.setting cluster.new.journals }
 
-    // the lines: which were dealt with, what each of them began, wrote and closed, and the bytes that answer them
-    ensures dealt_with { (s : Setting) → Chooses (map string_bytes words.now) s
+    // the lines: which were dealt with, what each of them began, wrote and closed, and the bytes that
+    // answer them
+    ensures dealt_with { (c : Choice) → Chooses (map string_bytes words.now) c
         → IfTold (S.left source.old) (λ text. DealsWith result text cluster.new.dealt (S.left source.new)) }
-    ensures one_outcome { (s : Setting) → Chooses (map string_bytes words.now) s
-        → HaveOutcomes s (S.left source.old) cluster.new.dealt cluster.new.journals }
-    ensures bytes_written { (s : Setting) → Chooses (map string_bytes words.now) s → IfTold (S.left source.old)
-        (λ text. Writes result s (commands_of text cluster.new.dealt) cluster.new.journals (K.written sink.old) (K.written sink.new)) }
+    ensures one_outcome { (c : Choice) → Chooses (map string_bytes words.now) c
+        → HaveOutcomes c.setting c.schema (S.left source.old) cluster.new.dealt cluster.new.journals }
+    ensures bytes_written { (c : Choice) → Chooses (map string_bytes words.now) c
+        → IfTold (S.left source.old) (λ text. Writes result c.setting
+        (commands_of c.schema text cluster.new.dealt) cluster.new.journals
+        (K.written sink.old) (K.written sink.new)) }
 
     // wrong words: the one usage line is written, nothing is read, and the cluster is as it was
-    ensures wrong_words { AreWrong (map string_bytes words.now) → UsageEnd result (K.written sink.old) (K.written sink.new) }
-    ensures nothing_read { AreWrong (map string_bytes words.now) → (source.new ≡ source.old) × (cluster.new ≡ cluster.old) }
+    ensures wrong_words { AreWrong (map string_bytes words.now)
+        → UsageEnd result (K.written sink.old) (K.written sink.new) }
+    ensures nothing_read { AreWrong (map string_bytes words.now)
+        → (source.new ≡ source.old) × (cluster.new ≡ cluster.old) }
 
     // each answer has its cause
-    ensures usage { result ≡ Status.Usage → AreWrong (map string_bytes words.now) × Appends (K.written sink.old) (K.written sink.new) usage_text }
-    ensures limit { (which : LimitKind) → result ≡ Status.Limit which → IfTold (S.left source.old) (λ text. PassesLimit which text cluster.new.dealt) }
-    ensures read_fault { result ≡ Status.ReadFault → HasRisen S.last (S.faults source.old) (S.faults source.new) }
-    ensures write_fault { result ≡ Status.WriteFault → HasRisen K.last (K.faults sink.old) (K.faults sink.new) }
+    ensures usage { result ≡ Status.Usage → AreWrong (map string_bytes words.now)
+        × Appends (K.written sink.old) (K.written sink.new) usage_text }
+    ensures limit { (which : LimitKind) → result ≡ Status.Limit which
+        → IfTold (S.left source.old) (λ text. PassesLimit which text cluster.new.dealt) }
+    ensures read_fault { result ≡ Status.ReadFault
+        → HasRisen S.last (S.faults source.old) (S.faults source.new) }
+    ensures write_fault { result ≡ Status.WriteFault
+        → HasRisen K.last (K.faults sink.old) (K.faults sink.new) }
     ensures source_calm { S.faults source.old ≤ S.faults source.new }
     ensures sink_calm { K.faults sink.old ≤ K.faults sink.new }
 {
     match read_choice(alloc, words) {
-        Ok(setting) => run_lines(alloc, setting, source, sink, cluster),
+        Ok(choice) => run_lines(alloc, choice.setting, &choice.schema, source, sink, cluster),
         Err(WordsFault::Usage) => refuse_words(alloc, sink),
         Err(WordsFault::NoMemory) => Status::NoMemory,
     }
@@ -88,15 +98,19 @@ fn refuse_words<K: Sink>(alloc: Global, sink: &mut K) -> Status
 fn run_lines<S: Source, K: Sink>(
     alloc: Global,
     setting: Setting,
+    schema: &Schema,
     source: &mut S,
     sink: &mut K,
     cluster: &mut Cluster,
 ) -> Status
     requires empty { IsTrue (is_empty cluster.old) }
     requires setting { IsSetting setting }
-    ensures ended { EndsAs result setting (S.left source.old) (S.left source.new) cluster.new (K.written sink.old) (K.written sink.new) }
-    ensures read_fault { result ≡ Status.ReadFault → HasRisen S.last (S.faults source.old) (S.faults source.new) }
-    ensures write_fault { result ≡ Status.WriteFault → HasRisen K.last (K.faults sink.old) (K.faults sink.new) }
+    ensures ended { EndsAs result setting schema.now (S.left source.old) (S.left source.new) cluster.new
+        (K.written sink.old) (K.written sink.new) }
+    ensures read_fault { result ≡ Status.ReadFault
+        → HasRisen S.last (S.faults source.old) (S.faults source.new) }
+    ensures write_fault { result ≡ Status.WriteFault
+        → HasRisen K.last (K.faults sink.old) (K.faults sink.new) }
     ensures source_calm { S.faults source.old ≤ S.faults source.new }
     ensures sink_calm { K.faults sink.old ≤ K.faults sink.new }
 {
@@ -106,12 +120,9 @@ fn run_lines<S: Source, K: Sink>(
     let Ok(mut reader) = LineReader::new(alloc, MOST_BYTES, MOST_LINES) else {
         return Status::NoMemory;
     };
-    let Ok(schema) = session_schema(alloc) else {
-        return Status::NoMemory;
-    };
     let mut line = Vec::new(alloc);
     loop {
-        let (number, command) = match next_command(alloc, &schema, &mut reader, source, &mut line) {
+        let (number, command) = match next_command(alloc, schema, &mut reader, source, &mut line) {
             Step::Command { number, command } => (number, command),
             Step::Over { status } => return status,
         };

@@ -1,4 +1,4 @@
--- The command: nine options that take a text each, and neither help nor version.
+-- The command: ten options that take a text each, and neither help nor version.
 use Rattle.std.specs.Prelude.{Some, List, [], ◌∷◌, map, codes, true}
 use Rattle.clap.specs.Walk.{Rule, Text}
 use Rattle.clap.specs.Simple.{App, new_rule, new_shape, on_top}

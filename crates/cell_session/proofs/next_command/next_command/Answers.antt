@@ -5,4 +5,4 @@ use Rattle.cell_session.proofs.next_command.next_command.Goals as goal
 pub returns-in-TooLong-clause-shows : goal.returns-in-TooLong-clause-shows
 returns-in-TooLong-clause-shows g c text stands =
     let told = c.in-TooLong.ensures.told text stands in
-    ((told.0.0, (told.0.1.0, sym (long_command told.0.0 told.0.1.1))), told.1)
+    ((told.0.0, (told.0.1.0, sym (long_command c.args.schema.now told.0.0 told.0.1.1))), told.1)

@@ -8,7 +8,7 @@ pub returns-in-Ok-clause-lanes : goal.returns-in-Ok-clause-lanes
 returns-in-Ok-clause-lanes g c s x = chosen_lanes _ _ s _ _ _ _ _ _ c.in-Ok.ensures.chosen x c.run_lines.ensures.ended
 
 pub returns-in-Ok-clause-dealt_with : goal.returns-in-Ok-clause-dealt_with
-returns-in-Ok-clause-dealt_with g c s x = ends_dealt _ _ _ _ _ _ _ c.run_lines.ensures.ended
+returns-in-Ok-clause-dealt_with g c s x = ends_dealt _ _ _ _ _ _ _ _ c.run_lines.ensures.ended
 
 pub returns-in-Ok-clause-one_outcome : goal.returns-in-Ok-clause-one_outcome
 returns-in-Ok-clause-one_outcome g c s x = chosen_outcomes _ _ s _ _ _ _ _ _ c.in-Ok.ensures.chosen x c.run_lines.ensures.ended
@@ -34,4 +34,4 @@ returns-in-Err-Usage-clause-usage g c e =
 -- ---- memory wanted before the words were read
 
 pub returns-in-Err-NoMemory-clause-dealt_with : goal.returns-in-Err-NoMemory-clause-dealt_with
-returns-in-Err-NoMemory-clause-dealt_with g c s x = ends_dealt _ s _ _ c.args.cluster.now None None (empty_ends s _ _ c.args.cluster.now None c.requires)
+returns-in-Err-NoMemory-clause-dealt_with g c s x = ends_dealt _ s.setting s.schema _ _ c.args.cluster.now None None (empty_ends s.setting s.schema _ _ c.args.cluster.now None c.requires)
