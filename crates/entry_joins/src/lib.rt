@@ -10,4 +10,4 @@
 
 pub mod joins;
 
-pub use joins::join;
+pub use joins::{join, joins_are_by_document};

@@ -1,15 +1,15 @@
 -- Which keys the pieces have after each change.
-use Rattle.std.proofs.Common.{◌≡◌, ◌&&◌, ◌||◌, not, ℕ, zero, suc, ◌+◌, ◌-◌, ◌<◌, ◌≤◌, ◌^◌, Bool, true, false, cond, List, [], ◌∷◌, ◌++◌, map, filter, refl, sym, ap, ap₂, ◌∙◌, arith, eqb-true, eq-eqb, nat_lt, ◌⊎◌, inl, inr}
+use Rattle.std.proofs.Common.{◌≡◌, ◌&&◌, ◌||◌, not, ℕ, zero, suc, ◌+◌, ◌-◌, ◌<◌, ◌≤◌, ◌^◌, Bool, true, false, cond, List, [], ◌∷◌, ◌++◌, map, filter, refl, sym, ap, ap₂, ◌∙◌, subst, arith, eqb-true, eq-eqb, nat_lt, ◌⊎◌, inl, inr}
 use Rattle.std.specs.List.{list_any}
 use Rattle.std.proofs.lemmas.List.Folds.{list_any-append}
 use Rattle.bucket_ids.specs.Buckets.{Low, IsBucket, IsIn, covers, has_key, first_child, second_child}
 use Rattle.bucket_ids.specs.Paths.{path, first_path, last_path}
 use Rattle.pieces.specs.declared.piece.Piece.{Piece}
-use Rattle.laid_pieces.specs.Pieces.{is_over, is_inside, is_exactly, has_key_of, holds, renew, renewed, make_ready, ready_at, split_at, join_at, with_piece, apply_at, without, parts}
+use Rattle.laid_pieces.specs.Pieces.{meets, does_meet, is_over, is_inside, is_exactly, has_key_of, holds, renew, renewed, make_ready, ready_at, split_at, join_at, with_piece, apply_at, without, parts}
 use Rattle.laid_pieces.specs.Runs.{IsLaid, AreRuns}
-use Rattle.laid_pieces.proofs.PieceLaws.{bucket-same}
-use Rattle.laid_pieces.proofs.RunLaws.{first-last, first-bucket, second-bucket, covers-first, covers-last, covers-bits, next-child}
-use Rattle.laid_pieces.proofs.Laid.{renew_bucket, ready_bucket}
+use Rattle.laid_pieces.proofs.PieceLaws.{bucket-same, or_false}
+use Rattle.laid_pieces.proofs.RunLaws.{first-last, first-bucket, second-bucket, covers-first, covers-last, covers-bits, next-child, overlap-meets}
+use Rattle.laid_pieces.proofs.Laid.{renew_bucket, ready_bucket, none_past}
 
 or_none : (x : Bool) → x || false ≡ x
 or_none true = refl
@@ -184,3 +184,59 @@ module _ (laws : AreRuns) (key : ℕ) (small : key < 2 ^ 58) where
       by_tests true y e f = holds-split b vb s 0 ps h ∙ absorbed (has_key b key) (holds key ps) (over_holds b vb 0 ps h e)
       by_tests false true e f = holds-join b vb s 0 ps h f
       by_tests false false e f = holds-with_piece key (record { bucket = b; serial = s; ready = false }) ps
+
+  -- ---- a bucket that goes
+
+  no_key : (b : Low) → IsBucket b → has_key b key ≡ true → (lo : ℕ) (ps : List Piece) → IsLaid lo ps → list_any (does_meet b) ps ≡ false → holds key ps ≡ false
+  no_key b vb k lo [] h none = refl
+  no_key b vb k lo (p ∷ ps) h none =
+      let parts = or_false (meets p.bucket b) _ none in
+      ap₂ (λ x y. x || y) (by_test (has_key p.bucket key) refl parts.0) (no_key b vb k (last_path p.bucket + 1) ps h.2 parts.1)
+    where
+      by_test : (t : Bool) → has_key p.bucket key ≡ t → meets p.bucket b ≡ false → t ≡ false
+      by_test true e n =
+          let here = (laws.run p.bucket key h.1 small).0 (is_in p.bucket e) in
+          let there = (laws.run b key vb small).0 (is_in b k) in
+          cc (sym n ∙ overlap-meets laws p.bucket b h.1 vb (omega (arith, here.0, there.1)) (omega (arith, here.1, there.0)))
+      by_test false e n = refl
+
+  holds-filter : (test : Piece → Bool) (ps : List Piece) → holds key ps ≡ false → holds key (filter test ps) ≡ false
+  holds-filter test [] h = refl
+  holds-filter test (p ∷ ps) h = let parts = or_false (has_key p.bucket key) _ h in by_test (test p) parts.0 (holds-filter test ps parts.1)
+    where
+      by_test : (t : Bool) → has_key p.bucket key ≡ false → holds key (filter test ps) ≡ false → holds key (cond t (p ∷ filter test ps) (filter test ps)) ≡ false
+      by_test true e ih = ap₂ (λ x y. x || y) e ih
+      by_test false e ih = ih
+
+  exact_from : (b : Low) (lo : ℕ) (ps : List Piece) → IsLaid lo ps → list_any (is_exactly b) ps ≡ true → lo ≤ first_path b
+  exact_from b lo [] h there = cc
+  exact_from b lo (p ∷ ps) h there = by_test (is_exactly b p) refl there (exact_from b (last_path p.bucket + 1) ps h.2)
+    where
+      by_test : (t : Bool) → is_exactly b p ≡ t → t || list_any (is_exactly b) ps ≡ true → (list_any (is_exactly b) ps ≡ true → last_path p.bucket + 1 ≤ first_path b) → lo ≤ first_path b
+      by_test true e f ih = subst (λ x. lo ≤ first_path x) (bucket-same p.bucket b e) h.0
+      by_test false e f ih = let low = ih f in let order = first-last p.bucket in let from = h.0 in omega (arith, low, order, from)
+
+  holds-gone : (b : Low) → IsBucket b → has_key b key ≡ true → (lo : ℕ) (ps : List Piece) → IsLaid lo ps → list_any (is_exactly b) ps ≡ true → holds key (without b ps) ≡ false
+  holds-gone b vb k lo [] h there = cc
+  holds-gone b vb k lo (p ∷ ps) h there = by_test (is_exactly b p) refl there (holds-gone b vb k (last_path p.bucket + 1) ps h.2)
+    where
+      last_is : is_exactly b p ≡ true → last_path b < last_path p.bucket + 1
+      last_is e = subst (λ x. last_path x < last_path p.bucket + 1) (bucket-same p.bucket b e) (omega arith)
+      before : (t : Bool) → has_key p.bucket key ≡ t → list_any (is_exactly b) ps ≡ true → t ≡ false
+      before true e f =
+          let here = (laws.run p.bucket key h.1 small).0 (is_in p.bucket e) in
+          let later = (laws.run b key vb small).0 (is_in b k) in
+          let from = exact_from b (last_path p.bucket + 1) ps h.2 f in
+          absurd (omega (arith, here.1, later.0, from))
+      before false e f = refl
+      by_test : (t : Bool) → is_exactly b p ≡ t → t || list_any (is_exactly b) ps ≡ true → (list_any (is_exactly b) ps ≡ true → holds key (without b ps) ≡ false)
+          → holds key (cond (not t) (p ∷ without b ps) (without b ps)) ≡ false
+      by_test true e f ih = holds-filter (λ q. not (is_exactly b q)) ps (no_key b vb k (last_path p.bucket + 1) ps h.2 (none_past laws b vb (last_path p.bucket + 1) (last_is e) ps h.2))
+      by_test false e f ih = ap₂ (λ x y. x || y) (before (has_key p.bucket key) refl f) (ih f)
+
+  pub holds-delete : (b : Low) → IsBucket b → (lo : ℕ) (ps : List Piece) → IsLaid lo ps → list_any (is_exactly b) ps ≡ true → holds key (without b ps) ≡ (not (has_key b key) && holds key ps)
+  holds-delete b vb lo ps h there = by_key (has_key b key) refl
+    where
+      by_key : (t : Bool) → has_key b key ≡ t → holds key (without b ps) ≡ (not t && holds key ps)
+      by_key true e = holds-gone b vb e lo ps h there
+      by_key false e = holds-without key b e ps

@@ -1,4 +1,4 @@
-ghost use Rattle.std.specs.Prelude.{◌≡◌, ◌≢◌, ◌+◌, ◌-◌, ◌^◌, ◌<◌, ℕ, ◌||◌, Bool, true, false, filter, IfOk, OnOk, OnErr, Err};
+ghost use Rattle.std.specs.Prelude.{◌≡◌, ◌≢◌, ◌+◌, ◌-◌, ◌^◌, ◌<◌, ℕ, ◌||◌, ◌&&◌, not, Bool, true, false, filter, IfOk, OnOk, OnErr, Err};
 ghost use Rattle.std.specs.List.{list_any};
 ghost use Rattle.bucket_ids.specs.Buckets.{IsBucket, has_key};
 ghost use Rattle.laid_pieces.specs.Pieces.{holds, does_meet, is_exactly, has_key_of, renewed};
@@ -93,7 +93,8 @@ impl LaidPieces {
     pub fn renew(&mut self, key: u64)
         requires small { key < 2 ^ 58 }
         requires room { self.old.serial < 2 ^ 64 - 1 }
-        ensures { self.new ≡ after_store key self.old }
+        ensures renewed { self.new ≡ after_store key self.old }
+        ensures keys { (other : ℕ) → holds other self.new.pieces ≡ holds other self.old.pieces }
     {
         runs_are_known();
         self.serial += 1;
@@ -188,6 +189,7 @@ impl LaidPieces {
         ensures ok { OnOk result (self.new ≡ after_ready bucket self.old) }
         ensures err { OnErr result (self.new ≡ self.old) }
         ensures told { IsSurelyTold (ready_told bucket self.old.pieces) result }
+        ensures keys { OnOk result ((key : ℕ) → holds key self.new.pieces ≡ holds key self.old.pieces) }
     {
         runs_are_known();
         let Some(at) = place_of(&self.pieces, bucket) else {
@@ -222,6 +224,7 @@ impl LaidPieces {
         ensures ok { OnOk result (self.new ≡ after_activate bucket self.old) }
         ensures err { OnErr result (self.new ≡ self.old) }
         ensures told { IsSurelyTold (activate_told bucket self.old.pieces) result }
+        ensures keys { OnOk result ((key : ℕ) → holds key self.new.pieces ≡ holds key self.old.pieces) }
     {
         runs_are_known();
         let Some(at) = place_over(&self.pieces, bucket) else {
@@ -240,6 +243,8 @@ impl LaidPieces {
         ensures ok { OnOk result (self.new ≡ after_delete bucket self.old) }
         ensures err { OnErr result (self.new ≡ self.old) }
         ensures told { IsSurelyTold (delete_told bucket serial self.old.pieces) result }
+        ensures keys { OnOk result ((key : ℕ) → key < 2 ^ 58
+            → holds key self.new.pieces ≡ (not (has_key bucket key) && holds key self.old.pieces)) }
     {
         runs_are_known();
         let Some(at) = place_of(&self.pieces, bucket) else {

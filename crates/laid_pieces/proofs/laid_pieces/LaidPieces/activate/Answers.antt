@@ -7,6 +7,8 @@ use Rattle.laid_pieces.proofs.Laid.{IsLaid-renewed}
 use Rattle.laid_pieces.proofs.Serials.{AreUpTo-renewed}
 use Rattle.laid_pieces.proofs.PlaceLaws.{renewed-over}
 use Rattle.laid_pieces.proofs.ToldLaws.{activate-at, activate-none}
+use Rattle.laid_pieces.specs.Pieces.{holds}
+use Rattle.laid_pieces.proofs.KeyLaws.{holds-renewed}
 use Rattle.laid_pieces.proofs.laid_pieces.LaidPieces.activate.Goals as goal
 
 pub returns-in_default-clause-told : goal.returns-in_default-clause-told
@@ -40,3 +42,11 @@ returns-clause-told c =
     let x = c.index.result.now in
     let on : x.ready ≡ true = search rules in
     rw (← c.self.view_is) (activate-at c.args.bucket c.self.inside.pieces.items c.in-Some.at x some c.index.ensures ∙ ap (λ t. cond t Accepted Differs) on)
+
+pub returns-clause-keys : goal.returns-clause-keys
+returns-clause-keys c = λ key.
+    let some = rw c.deref.ensures.value at c.in-Some.ensures.some in
+    let x = c.index_mut.result.now in
+    let same : set c.self.inside.pieces.items c.in-Some.at (with_serial (c.self.inside.serial + 1) x) ≡ renewed (does_meet c.args.bucket) (c.self.inside.serial + 1) c.self.inside.pieces.items
+        = renewed-over c.runs_are_known.ensures c.args.bucket c.in-Some.ensures.valid (c.self.inside.serial + 1) c.self.inside.pieces.items c.self.invariant.laid c.in-Some.at x some c.index_mut.ensures.value in
+    rw (← c.self.view_is) (ap (holds key) same ∙ holds-renewed key (does_meet c.args.bucket) (c.self.inside.serial + 1) c.self.inside.pieces.items)

@@ -6,6 +6,9 @@ use Rattle.laid_pieces.specs.Holdings.{Holding}
 use Rattle.laid_pieces.proofs.Laid.{IsLaid-filter}
 use Rattle.laid_pieces.proofs.Serials.{AreUpTo-filter}
 use Rattle.laid_pieces.proofs.ToldLaws.{refused, delete-refused, delete-differs, delete-accepted, without-at}
+use Rattle.laid_pieces.specs.Pieces.{holds, is_exactly}
+use Rattle.laid_pieces.proofs.PieceLaws.{any_found}
+use Rattle.laid_pieces.proofs.KeyLaws.{holds-delete}
 use Rattle.laid_pieces.proofs.laid_pieces.LaidPieces.delete.Goals as goal
 
 pub returns-in_default-clause-told : goal.returns-in_default-clause-told
@@ -35,3 +38,11 @@ pub returns-clause-told : goal.returns-clause-told
 returns-clause-told c =
     let some = rw c.deref.ensures.value at c.in-Some.ensures.some in
     rw (← c.self.view_is) (delete-accepted c.args.bucket c.args.serial c.self.inside.pieces.items c.in-Some.at c.index.result.now some c.index.ensures (search rules))
+
+pub returns-clause-keys : goal.returns-clause-keys
+returns-clause-keys c = λ key small.
+    let some = rw c.deref.ensures.value at c.in-Some.ensures.some in
+    let laws = c.runs_are_known.ensures in
+    let gone = c.remove.ensures.items ∙ sym (without-at laws c.args.bucket c.in-Some.ensures.valid c.self.inside.pieces.items c.self.invariant.laid c.in-Some.at c.index.result.now some) in
+    let there = any_found (is_exactly c.args.bucket) c.self.inside.pieces.items c.in-Some.at c.index.result.now some.within (some.exact c.index.result.now) in
+    rw (← c.self.view_is) (ap (holds key) gone ∙ holds-delete laws key small c.args.bucket c.in-Some.ensures.valid 0 c.self.inside.pieces.items c.self.invariant.laid there)

@@ -1,9 +1,11 @@
-use Rattle.std.proofs.Common.{◌+◌, List, ap, false}
+use Rattle.std.proofs.Common.{◌∙◌, ◌+◌, List, ap, false}
 use Rattle.pieces.specs.declared.piece.Piece.{Piece}
 use Rattle.laid_pieces.specs.Holdings.{Holding}
 use Rattle.laid_pieces.proofs.Laid.{IsLaid-ready}
 use Rattle.laid_pieces.proofs.Serials.{AreUpTo-ready}
 use Rattle.laid_pieces.proofs.PlaceLaws.{ready-at}
+use Rattle.laid_pieces.specs.Pieces.{holds}
+use Rattle.laid_pieces.proofs.KeyLaws.{holds-ready}
 use Rattle.laid_pieces.proofs.laid_pieces.LaidPieces.ready.Goals as goal
 
 pub invariant_of-self : goal.invariant_of-self
@@ -19,3 +21,10 @@ returns-clause-ok c =
     let some = rw c.deref.ensures.value at c.in-Some.ensures.some in
     let whole : List Piece → Holding = λ ps. record { pieces = ps; serial = c.self.inside.serial + 1 } in
     rw (← c.self.view_is) (ap whole (ready-at c.runs_are_known.ensures c.args.bucket c.in-Some.ensures.valid (c.self.inside.serial + 1) c.self.inside.pieces.items c.self.invariant.laid c.in-Some.at d some.within (some.exact d)))
+
+pub returns-clause-keys : goal.returns-clause-keys
+returns-clause-keys c = λ key.
+    let d : Piece = record { bucket = c.args.bucket; serial = 0; ready = false } in
+    let some = rw c.deref.ensures.value at c.in-Some.ensures.some in
+    let same = ready-at c.runs_are_known.ensures c.args.bucket c.in-Some.ensures.valid (c.self.inside.serial + 1) c.self.inside.pieces.items c.self.invariant.laid c.in-Some.at d some.within (some.exact d) in
+    rw (← c.self.view_is) (ap (holds key) same ∙ holds-ready key c.args.bucket (c.self.inside.serial + 1) c.self.inside.pieces.items)
