@@ -7,3 +7,5 @@ pub mod PlaceLaws
 pub mod ApplyLaws
 pub mod KeyLaws
 pub mod ToldLaws
+pub mod SerialLaws
+pub mod FreshLaws

@@ -110,11 +110,11 @@ impl LaidPieces {
             → holds key self.new.pieces ≡ has_key bucket key || holds key self.old.pieces }
     {
         runs_are_known();
-        let Some(at) = place_of(&self.pieces, bucket) else {
+        let Some(place) = place_of(&self.pieces, bucket) else {
             unreachable!()
         };
         self.serial += 1;
-        self.pieces[at].serial = self.serial;
+        self.pieces[place].serial = self.serial;
     }
 
     /// The pieces after a bucket is made one of them. The only error is want of memory.

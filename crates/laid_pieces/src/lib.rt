@@ -17,7 +17,7 @@
 mod changes;
 pub mod fault;
 pub mod laid_pieces;
-mod laws;
+pub mod laws;
 mod places;
 
 pub use fault::StoreFault;
