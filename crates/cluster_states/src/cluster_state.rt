@@ -27,7 +27,8 @@ impl Model for ClusterState {
 
     ghost view = { λ s. record { version = s.version; distributors = s.distributors; nodes = s.nodes } };
 
-    ghost invariant = { λ s. IsState (record { version = s.version; distributors = s.distributors; nodes = s.nodes }) };
+    ghost invariant = { λ s.
+        IsState (record { version = s.version; distributors = s.distributors; nodes = s.nodes }) };
 
     ghost inverse = { λ s. record { version = s.version; distributors = s.distributors; nodes = s.nodes } };
 }

@@ -56,11 +56,16 @@ impl Model for Marks {
 
     ghost view = { λ m. take m.count m.marks };
 
-    ghost invariant = { λ m. (m.count ≤ 32) × ((length m.marks ≡ 32) × (drop m.count m.marks ≡ replicate (32 - m.count) Up)) };
+    ghost invariant = { λ m. (m.count ≤ 32)
+        × ((length m.marks ≡ 32) × (drop m.count m.marks ≡ replicate (32 - m.count) Up)) };
 
     ghost inverse = { λ l. record { marks = l ++ replicate (32 - length l) Up; count = length l } };
 
-    ghost inverse_ok = { λ m h i. record { marks = same_marks m.count m.marks h.0 h.1.0 h.1.1 i; count = same_count m.count m.marks h.0 h.1.0 i } };
+    ghost inverse_ok = { λ m h i.
+        record {
+          marks = same_marks m.count m.marks h.0 h.1.0 h.1.1 i;
+          count = same_count m.count m.marks h.0 h.1.0 i;
+        } };
 }
 
 impl Marks {

@@ -1,5 +1,5 @@
 -- The machine reads every condition.
-use Rattle.std.proofs.Common.{◌≡◌, ℕ, suc, ◌<◌, Bool, true, false, cond, List, [], ◌∷◌, ◌++◌, nat_lt, length, Option, Some, None, refl, sym, ap, subst, ◌∙◌, option_and_then, option_map, ◌&&◌, is_some}
+use Rattle.std.proofs.Common.{◌≡◌, ◌<◌, true, false, cond, List, [], ◌∷◌, ◌++◌, length, Option, Some, None, refl, ap, ◌∙◌, option_and_then, option_map, ◌&&◌, is_some}
 use Rattle.doc_types.specs.Tokens.{Token}
 use Rattle.token_readers.specs.Machines.{run}
 use Rattle.conditions.specs.declared.chains.Joint.TheVariants as joint
@@ -12,8 +12,8 @@ use Rattle.conditions.specs.declared.kinds.Negation.TheVariants as negation
 use Rattle.conditions.specs.Formulas.{Formula, truth, falsity, claim, opposite}
 use Rattle.conditions.specs.Chains.{Links}
 use Rattle.conditions.specs.Kinds.{kind_of, ends_operand, and_word, or_word, true_word, false_word, not_word, not_sign, opens, closes}
-use Rattle.conditions.specs.Grammar.{Condition, condition, Ors, no_ors, one_or, Terms, terms, Ands, no_ands, one_and, Factor, always, never, atom, brackets, negated, not_brackets, condition_tokens, ors_tokens, terms_tokens, ands_tokens, factor_tokens, ConditionFits, OrsFit, TermsFit, AndsFit, FactorFits, condition_formula, ors_links, terms_formula, ands_links, factor_formula}
-use Rattle.conditions.specs.Machine.{Frame, level, pending, Gap, want, want_bracket, behind, Moved, Atoms, Place, outside, within, State, in_gap, in_atom, settle, has_room, level_formula, behind_step, within_step, outside_step, place_step, step, operand}
+use Rattle.conditions.specs.Grammar.{Condition, condition, Ors, no_ors, one_or, terms, Ands, no_ands, one_and, Factor, always, never, atom, brackets, negated, not_brackets, condition_tokens, ors_tokens, ands_tokens, factor_tokens, ConditionFits, OrsFit, AndsFit, FactorFits, condition_formula, ors_links, ands_links, factor_formula}
+use Rattle.conditions.specs.Machine.{Frame, level, pending, Gap, want, want_bracket, behind, Moved, Atoms, Place, outside, within, State, in_gap, in_atom, settle, level_formula, behind_step, within_step, outside_step, place_step, step, operand}
 use Rattle.conditions.specs.AtomLaws.{ReadsAtoms, atom_run, atom_next, first_by, next_by}
 use Rattle.conditions.proofs.Basics.{some_same, none_some, false_true, run-one, run-cons, run-append, room, and_kind, or_kind, true_kind, false_kind, opens_kind, closes_kind, not_word_kind, not_sign_kind}
 

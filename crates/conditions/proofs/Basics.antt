@@ -1,5 +1,5 @@
 -- Runs, kinds and room.
-use Rattle.std.proofs.Common.{◌≡◌, ℕ, suc, ◌<◌, Bool, true, false, cond, List, [], ◌∷◌, ◌++◌, codes, bytes_eq, nat_lt, length, Option, Some, None, refl, sym, ap, subst, ◌∙◌, arith, option_and_then, option_map}
+use Rattle.std.proofs.Common.{◌≡◌, ℕ, suc, ◌<◌, Bool, true, false, cond, List, [], ◌∷◌, ◌++◌, codes, bytes_eq, nat_lt, Option, Some, None, refl, sym, ap, subst, ◌∙◌, arith, option_and_then}
 use mathlib.Core.Bool.{true≢false}
 use Rattle.std.specs.Cmp.Lexicographic.{same_text}
 use Rattle.std.proofs.lemmas.Bool.Decides.{nat_tests}

@@ -1,5 +1,5 @@
 -- The machine reads exactly the conditions.
-use Rattle.std.proofs.Common.{◌≡◌, ℕ, ◌<◌, List, [], ◌∷◌, ◌++◌, length, Option, Some, None, refl, sym, ap, subst, ◌∙◌, option_and_then, option_map, append_assoc, append-nil}
+use Rattle.std.proofs.Common.{◌≡◌, ◌<◌, List, [], ◌∷◌, ◌++◌, length, Some, None, refl, sym, ap, subst, ◌∙◌, option_and_then, option_map, append_assoc, append-nil}
 use Rattle.doc_types.specs.Tokens.{Token}
 use Rattle.token_readers.specs.Readings.{Begins}
 use Rattle.token_readers.specs.Machines.{run, Reads}
@@ -10,13 +10,11 @@ use Rattle.conditions.specs.declared.kinds.Kind.{Kind}
 use Rattle.conditions.specs.declared.kinds.Kind.TheVariants as kind
 use Rattle.conditions.specs.declared.kinds.Negation.{Negation}
 use Rattle.conditions.specs.declared.kinds.Negation.TheVariants as negation
-use Rattle.conditions.specs.Formulas.{Formula, truth, falsity, claim, opposite}
-use Rattle.conditions.specs.Chains.{Links, added, finished}
-use Rattle.conditions.specs.Kinds.{kind_of, ends_operand, and_word, or_word, true_word, false_word, not_word, not_sign, opens, closes}
-use Rattle.conditions.specs.Grammar.{Condition, condition, Ors, no_ors, one_or, Terms, terms, Ands, no_ands, one_and, Factor, always, never, atom, brackets, negated, not_brackets, condition_tokens, ors_tokens, terms_tokens, ands_tokens, factor_tokens, ConditionFits, OrsFit, TermsFit, AndsFit, FactorFits, condition_formula, ors_links, terms_formula, ands_links, factor_formula, IsCondition}
-use Rattle.conditions.specs.Machine.{Frame, level, pending, Gap, want, want_bracket, behind, Moved, Atoms, Place, outside, within, State, in_gap, in_atom, settle, has_room, level_formula, bracket_formula, close_step, behind_step, negate, within_step, outside_step, outside_formula, whole_formula, place_step, step, operand, whole, start}
-use Rattle.conditions.specs.AtomLaws.{ReadsAtoms, atom_run, atom_next, first_by, next_by}
-use Rattle.conditions.proofs.Written.{Around, opened, waiting, Spot, wanted, wanted_bracket, read_factor, read_part, Written, frame_seen, stack_seen, spot_seen, seen, seen_length, bracket_tokens, frame_tokens, stack_tokens, spot_tokens, tokens, depth, OpenedFits, StackFits, SpotFits, Fits, Settled, settled}
+use Rattle.conditions.specs.Formulas.{Formula, claim}
+use Rattle.conditions.specs.Grammar.{condition, Ors, no_ors, terms, Ands, no_ands, Factor, atom, condition_tokens, ors_tokens, ands_tokens, factor_tokens, FactorFits, condition_formula, ors_links, ands_links, factor_formula, IsCondition}
+use Rattle.conditions.specs.Machine.{Frame, level, Atoms, State, settle, level_formula, outside_formula, whole_formula, step, operand, whole, start}
+use Rattle.conditions.specs.AtomLaws.{ReadsAtoms}
+use Rattle.conditions.proofs.Written.{Around, opened, Spot, wanted, wanted_bracket, read_factor, read_part, Written, stack_seen, spot_seen, seen, bracket_tokens, stack_tokens, spot_tokens, tokens, depth, StackFits, SpotFits, Fits, Settled, settled}
 use Rattle.conditions.proofs.Basics.{some_same, none_some}
 use Rattle.conditions.proofs.Accepting.{Comes, stands, accept_condition, last_formula, last_ors, last_ands, last_is}
 use Rattle.conditions.proofs.Stepping.{Stepped, stepped}

@@ -1,8 +1,6 @@
 -- Every state of the machine can be read on to a whole condition.
-use Rattle.std.proofs.Common.{◌≡◌, ℕ, suc, ◌<◌, List, [], ◌∷◌, ◌++◌, length, Option, Some, refl, sym, ap, ◌∙◌, append_assoc, append-nil, arith}
+use Rattle.std.proofs.Common.{◌≡◌, ℕ, suc, ◌<◌, List, [], ◌∷◌, ◌++◌, length, sym, ap, ◌∙◌, append_assoc, append-nil, arith}
 use Rattle.doc_types.specs.Tokens.{Token}
-use Rattle.token_readers.specs.Readings.{Begins}
-use Rattle.token_readers.specs.Machines.{run, Reads}
 use Rattle.conditions.specs.declared.chains.Joint.TheVariants as joint
 use Rattle.conditions.specs.declared.frames.Bracket.{Bracket}
 use Rattle.conditions.specs.declared.frames.Bracket.TheVariants as bracket
@@ -10,13 +8,11 @@ use Rattle.conditions.specs.declared.kinds.Kind.{Kind}
 use Rattle.conditions.specs.declared.kinds.Kind.TheVariants as kind
 use Rattle.conditions.specs.declared.kinds.Negation.{Negation}
 use Rattle.conditions.specs.declared.kinds.Negation.TheVariants as negation
-use Rattle.conditions.specs.Formulas.{Formula, truth, falsity, claim, opposite}
-use Rattle.conditions.specs.Chains.{Links, added, finished}
-use Rattle.conditions.specs.Kinds.{kind_of, ends_operand, and_word, or_word, true_word, false_word, not_word, not_sign, opens, closes}
-use Rattle.conditions.specs.Grammar.{Condition, condition, Ors, no_ors, one_or, Terms, terms, Ands, no_ands, one_and, Factor, always, never, atom, brackets, negated, not_brackets, condition_tokens, ors_tokens, terms_tokens, ands_tokens, factor_tokens, ConditionFits, OrsFit, TermsFit, AndsFit, FactorFits, condition_formula, ors_links, terms_formula, ands_links, factor_formula, IsCondition}
-use Rattle.conditions.specs.Machine.{Frame, level, pending, Gap, want, want_bracket, behind, Moved, Atoms, Place, outside, within, State, in_gap, in_atom, settle, has_room, level_formula, bracket_formula, close_step, behind_step, negate, within_step, outside_step, outside_formula, whole_formula, place_step, step, operand, whole, start}
-use Rattle.conditions.specs.AtomLaws.{ReadsAtoms, atom_run, atom_next, first_by, next_by}
-use Rattle.conditions.proofs.Written.{Around, opened, waiting, Spot, wanted, wanted_bracket, read_factor, read_part, Written, frame_seen, stack_seen, spot_seen, seen, seen_length, bracket_tokens, frame_tokens, stack_tokens, spot_tokens, tokens, depth, OpenedFits, StackFits, SpotFits, Fits, Settled, settled}
+use Rattle.conditions.specs.Kinds.{true_word, not_word, not_sign, opens, closes}
+use Rattle.conditions.specs.Grammar.{Condition, condition, no_ors, terms, no_ands, Factor, always, atom, brackets, negated, not_brackets, condition_tokens, ors_tokens, ands_tokens, factor_tokens, ConditionFits, FactorFits}
+use Rattle.conditions.specs.Machine.{Atoms, whole}
+use Rattle.conditions.specs.AtomLaws.{ReadsAtoms}
+use Rattle.conditions.proofs.Written.{Around, opened, waiting, Spot, wanted, wanted_bracket, read_factor, read_part, Written, stack_tokens, spot_tokens, tokens, depth, StackFits, SpotFits, Fits}
 
 -- some tokens read on to a condition
 pub record Closed {A : Type 0} (n : Negation) (L : List Token → A → Type 0) (ts : List Token) : Type 0 where

@@ -1,8 +1,8 @@
 -- Balanced trees mean what their chains mean.
-use Rattle.std.proofs.Common.{◌≡◌, ℕ, ◌+◌, ◌==◌, min, Bool, true, false, not, cond, ◌&&◌, ◌||◌, List, [], ◌∷◌, refl, sym, ap, ap₂, ◌∙◌}
+use Rattle.std.proofs.Common.{◌≡◌, ℕ, ◌+◌, ◌==◌, min, Bool, true, false, not, cond, ◌&&◌, ◌||◌, [], ◌∷◌, refl, sym, ap, ap₂, ◌∙◌}
 use Rattle.conditions.specs.declared.chains.Joint.TheVariants as joint
 use Rattle.conditions.specs.Formulas.{Formula, both, either, holds}
-use Rattle.conditions.specs.Chains.{Links, carried, added, finished}
+use Rattle.conditions.specs.Chains.{Links, carried, finished}
 use Rattle.conditions.specs.Grammar.{Condition, condition, Ors, no_ors, one_or, Terms, terms, Ands, no_ands, one_and, Factor, always, never, atom, brackets, negated, not_brackets, condition_formula, ors_links, terms_formula, ands_links, factor_formula}
 use Rattle.conditions.specs.Meaning.{condition_holds, some_holds, terms_hold, all_hold, factor_holds}
 

@@ -1,14 +1,13 @@
 -- What the states of the machine have read, as trees of the grammar.
-use Rattle.std.proofs.Common.{◌≡◌, ℕ, suc, ◌<◌, List, [], ◌∷◌, ◌++◌, length, Option, Some, refl, sym, ap, ap₂, ◌∙◌, append_assoc, arith}
+use Rattle.std.proofs.Common.{◌≡◌, ℕ, suc, ◌<◌, List, [], ◌∷◌, ◌++◌, length, Some, refl, ap, ◌∙◌, append_assoc, arith}
 use Rattle.doc_types.specs.Tokens.{Token}
 use Rattle.conditions.specs.declared.frames.Bracket.{Bracket}
 use Rattle.conditions.specs.declared.frames.Bracket.TheVariants as bracket
 use Rattle.conditions.specs.declared.kinds.Negation.{Negation}
 use Rattle.conditions.specs.declared.kinds.Negation.TheVariants as negation
-use Rattle.conditions.specs.Formulas.{Formula}
 use Rattle.conditions.specs.Kinds.{not_word, not_sign, opens}
 use Rattle.conditions.specs.Grammar.{Ors, Ands, Factor, negated, ors_tokens, ands_tokens, factor_tokens, OrsFit, AndsFit, FactorFits, ors_links, ands_links, factor_formula}
-use Rattle.conditions.specs.Machine.{Frame, level, pending, Gap, want, want_bracket, behind, Atoms, Place, outside, within, State, settle}
+use Rattle.conditions.specs.Machine.{Frame, level, pending, want, want_bracket, behind, Atoms, Place, outside, within, State, settle}
 use Rattle.conditions.specs.AtomLaws.{atom_run}
 
 -- a frame, with what was read in it

@@ -1,5 +1,5 @@
 -- A machine that reads conditions token by token, with a stack of the brackets and negations that are open.
-use Rattle.std.specs.Prelude.{◌≡◌, ◌&&◌, ℕ, Bool, true, false, List, [], ◌∷◌, ◌++◌, length, Option, Some, None, is_some, nat_lt, option_map, option_and_then, if◌then◌else◌}
+use Rattle.std.specs.Prelude.{◌≡◌, ◌&&◌, Bool, List, [], ◌∷◌, ◌++◌, length, Option, Some, None, is_some, nat_lt, option_map, option_and_then, if◌then◌else◌}
 use Rattle.doc_types.specs.Tokens.{Token}
 use Rattle.conditions.specs.declared.chains.Joint.TheVariants as joint
 use Rattle.conditions.specs.declared.kinds.Kind.{Kind}

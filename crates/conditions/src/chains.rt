@@ -1,5 +1,5 @@
 ghost use Rattle.std.specs.Prelude.{◌≡◌, [], ◌∷◌, IfOk};
-ghost use Rattle.conditions.specs.Chains.{joined, carried, added, finished};
+ghost use Rattle.conditions.specs.Chains.{joined, added, finished};
 ghost use Rattle.conditions.specs.Views.{formula_of, links_of, chain_of};
 
 use crate::tree::Tree;

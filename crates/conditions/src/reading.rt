@@ -1,7 +1,7 @@
 ghost use Rattle.std.specs.Prelude.{◌≡◌, [], ◌∷◌, IfOk, Some};
 ghost use Rattle.conditions.specs.declared.frames.Bracket.TheVariants as bracket;
 ghost use Rattle.conditions.specs.Formulas.{opposite};
-ghost use Rattle.conditions.specs.Machine.{Moved, level, want, settle, has_room, open_frame, negate, want_step, bracket_step, and_step, or_step, level_formula, bracket_formula, close_step, behind_step, gap_step, whole_formula, outside_formula};
+ghost use Rattle.conditions.specs.Machine.{level, want, settle, has_room, open_frame, negate, want_step, bracket_step, and_step, or_step, level_formula, bracket_formula, close_step, behind_step, gap_step, whole_formula};
 ghost use Rattle.conditions.specs.Views.{formula_of, frame_of, stack_of, gap_of, moved_of, settled_of, chain_of, Goes};
 
 use crate::chains::{Chain, Joint};
@@ -41,7 +41,8 @@ impl<A: Drop> Conditions<A> {
 
     /// The condition with one token more.
     pub fn step(self, alloc: Global, negation: Negation, kind: Kind) -> Result<Conditions<A>, Stop>
-        ensures { Goes moved_of result (gap_step negation kind (gap_of self.place) (stack_of self.frames.items)) }
+        ensures { Goes moved_of result (gap_step negation kind (gap_of self.place)
+            (stack_of self.frames.items)) }
     {
         let Conditions { frames, place } = self;
         match place {

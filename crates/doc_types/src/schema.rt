@@ -1,9 +1,9 @@
-ghost use Rattle.std.specs.Prelude.{◌≡◌, ◌≢◌, is_some, map, OnErr, IfOk, IfErr, IsTrue, Some, None, option_and_then, option_map};
+ghost use Rattle.std.specs.Prelude.{◌≡◌, ◌≢◌, is_some, map, IfOk, IfErr, Some, None, option_and_then, option_map};
 ghost use Rattle.std.specs.FinMap as fin;
 ghost use Rattle.serde_json.specs.Find.{as_object};
 ghost use Rattle.serde_json.specs.Read.{read};
 ghost use Rattle.serde_json.specs.View.{view, members_view};
-ghost use Rattle.doc_types.specs.Schemas.{schema_fault, members_in, fields_of, types_of, schema_in, schema_of};
+ghost use Rattle.doc_types.specs.Schemas.{schema_fault, members_in, fields_of, types_of, schema_in};
 ghost use Rattle.doc_types.specs.SchemaCodes.{name_cmp};
 ghost use Rattle.doc_types.specs.Known.{has_types, has_fields, some_fields};
 ghost use Rattle.doc_types.specs.declared.schema_faults.SchemaFault.TheVariants as reason;
@@ -167,7 +167,8 @@ impl Schema {
 
     /// The kind of a field of a type; takes no memory.
     pub fn field(&self, type_name: &str, field: &str) -> Option<FieldType>
-        ensures { result ≡ option_and_then (λ fields. fin.get fields field.now) (fin.get self.now type_name.now) }
+        ensures { result ≡ option_and_then (λ fields. fin.get fields field.now)
+            (fin.get self.now type_name.now) }
     {
         match type_named(&self.types, type_name) {
             Some(found) => kind_of(&found.fields, field),

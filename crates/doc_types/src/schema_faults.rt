@@ -1,7 +1,6 @@
-ghost use Rattle.std.specs.Prelude.{◌≡◌, is_some, IfOk, IfErr, None, Some, option_and_then, true};
+ghost use Rattle.std.specs.Prelude.{◌≡◌, is_some, None, Some, true};
 ghost use Rattle.serde_json.specs.Events.{members_len};
 ghost use Rattle.serde_json.specs.Find.{as_object};
-ghost use Rattle.serde_json.specs.Read.{read};
 ghost use Rattle.serde_json.specs.View.{view, members_view};
 ghost use Rattle.std.specs.List.{list_all};
 ghost use Rattle.doc_types.specs.Tokens as tokens;

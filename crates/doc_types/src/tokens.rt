@@ -1,7 +1,6 @@
-ghost use Rattle.std.specs.Prelude.{◌≡◌, ◌∷◌, ◌≤◌, ◌<◌, ◌-◌, ℕ, true, ◌+◌, nat_eq, IfOk, IfSome, Some, option_map, take, drop, length, slice_index_or};
-ghost use Rattle.std.specs.List.{prefix_len};
+ghost use Rattle.std.specs.Prelude.{◌≡◌, ◌∷◌, ◌≤◌, ◌<◌, ◌-◌, true, ◌+◌, nat_eq, IfOk, IfSome, Some, drop, length, slice_index_or};
 ghost use Rattle.std.specs.Char.{is_ascii_digit, is_ascii_alphabetic};
-ghost use Rattle.doc_types.specs.Tokens.{is_name, skip_blanks, word_at, number_of, token_at, token_by, digits_at, literal_at, symbol_at, is_quote};
+ghost use Rattle.doc_types.specs.Tokens.{skip_blanks, word_at, number_of, token_at, digits_at, literal_at, symbol_at, is_quote};
 ghost use Rattle.doc_types.specs.Reading.{number_size, symbol_size, token_of, told, EndsInAscii};
 
 use crate::cuts::{blank_run, cut, digit_run, name_run};

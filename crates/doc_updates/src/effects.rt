@@ -107,7 +107,8 @@ pub fn changed(
     old: Option<&FieldValue>,
 ) -> Result<Option<FieldValue>, Reason>
     ensures read { IfOk result (λ found. changed change.now (option_map (λ v. v.now) old.entry) ≡ Ok found) }
-    ensures refused { IfErr result (λ why. (why ≢ reason.NoMemory) → changed change.now (option_map (λ v. v.now) old.entry) ≡ Err why) }
+    ensures refused { IfErr result (λ why. (why ≢ reason.NoMemory)
+        → changed change.now (option_map (λ v. v.now) old.entry) ≡ Err why) }
 {
     match change {
         Change::Assign { value } => Ok(Some(value.copy(alloc)?)),

@@ -1,4 +1,4 @@
-ghost use Rattle.std.specs.Prelude.{◌≡◌, ◌≢◌, T, true, Some, None, Ok, Err, IfOk, IfErr, OnOk, OnErr};
+ghost use Rattle.std.specs.Prelude.{◌≡◌, ◌≢◌, T, true, Some, None, Ok, Err, IfOk, IfErr, OnOk};
 ghost use Rattle.std.specs.FinMap as fin;
 ghost use Rattle.serde_json.specs.Find.{as_object};
 ghost use Rattle.serde_json.specs.View.{view};
@@ -65,8 +65,10 @@ fn named(alloc: Global, name: &str, why: Reason) -> UpdateFault
 /// Changes one field of a document.
 fn change_one(alloc: Global, document: &mut Document, change: &Named) -> Result<(), UpdateFault>
     ensures id { document.new.id ≡ document.old.id }
-    ensures ok { OnOk result (one_changed (change.now.name, change.now.change) document.old.fields ≡ Ok document.new.fields) }
-    ensures fault { IfErr result (λ fault. (fault ≢ update_reason.NoMemory) → one_changed (change.now.name, change.now.change) document.old.fields ≡ Err fault) }
+    ensures ok { OnOk result (one_changed (change.now.name, change.now.change) document.old.fields
+        ≡ Ok document.new.fields) }
+    ensures fault { IfErr result (λ fault. (fault ≢ update_reason.NoMemory)
+        → one_changed (change.now.name, change.now.change) document.old.fields ≡ Err fault) }
 {
     let name = change.name.text();
     match changed(alloc, &change.change, document.get(name)) {
@@ -86,7 +88,8 @@ fn change_one(alloc: Global, document: &mut Document, change: &Named) -> Result<
 fn change_all(alloc: Global, document: &mut Document, changes: &[Named]) -> Result<(), UpdateFault>
     ensures id { document.new.id ≡ document.old.id }
     ensures ok { OnOk result (all_changed (pairs changes.now) document.old.fields ≡ Ok document.new.fields) }
-    ensures fault { IfErr result (λ fault. (fault ≢ update_reason.NoMemory) → all_changed (pairs changes.now) document.old.fields ≡ Err fault) }
+    ensures fault { IfErr result (λ fault. (fault ≢ update_reason.NoMemory)
+        → all_changed (pairs changes.now) document.old.fields ≡ Err fault) }
 {
     for change in changes {
         change_one(alloc, document, change)?;
@@ -112,8 +115,10 @@ fn changed_by(
     changes: &[Named],
     document: &Document,
 ) -> Result<Document, UpdateFault>
-    ensures ok { IfOk result (λ left. (left.id ≡ document.now.id) × (and_then sized (all_changed (pairs changes.now) document.now.fields) ≡ Ok left.fields)) }
-    ensures fault { IfErr result (λ fault. (fault ≢ update_reason.NoMemory) → and_then sized (all_changed (pairs changes.now) document.now.fields) ≡ Err fault) }
+    ensures ok { IfOk result (λ left. (left.id ≡ document.now.id)
+        × (and_then sized (all_changed (pairs changes.now) document.now.fields) ≡ Ok left.fields)) }
+    ensures fault { IfErr result (λ fault. (fault ≢ update_reason.NoMemory)
+        → and_then sized (all_changed (pairs changes.now) document.now.fields) ≡ Err fault) }
 {
     let mut left = document.copy(alloc)?;
     change_all(alloc, &mut left, changes)?;
@@ -131,10 +136,13 @@ impl Update {
         schema: &Schema,
     ) -> Result<Update, DocumentFault>
         requires object { is_object (view fields.now) ≡ true }
-        ensures read { IfOk result (λ update. (update_fault schema.now (type_of id.now) (members_in (as_object (view fields.now))) ≡ None)
-            × (update ≡ changes_in (kinds_of schema.now (type_of id.now)) (members_in (as_object (view fields.now))))) }
+        ensures read { IfOk result (λ update.
+            (update_fault schema.now (type_of id.now) (members_in (as_object (view fields.now))) ≡ None)
+            × (update ≡ changes_in (kinds_of schema.now (type_of id.now))
+            (members_in (as_object (view fields.now))))) }
         ensures refused { IfErr result (λ fault. (fault ≢ reason.NoMemory)
-            → (update_fault schema.now (type_of id.now) (members_in (as_object (view fields.now))) ≡ Some fault)) }
+            → (update_fault schema.now (type_of id.now) (members_in (as_object (view fields.now)))
+            ≡ Some fault)) }
     {
         if !schema.has_type(id.type_name()) {
             return Err(DocumentFault::UnknownType);
@@ -160,8 +168,10 @@ impl Update {
     /// The document with this update: its fields are changed in the order of their names, and the first
     /// fault decides. A number that isn't there counts as 0, and a list as empty.
     pub fn apply(&self, alloc: Global, document: &Document) -> Result<Document, UpdateFault>
-        ensures ok { IfOk result (λ left. (left.id ≡ document.now.id) × (updated self.now document.now.fields ≡ Ok left.fields)) }
-        ensures fault { IfErr result (λ fault. (fault ≢ update_reason.NoMemory) → updated self.now document.now.fields ≡ Err fault) }
+        ensures ok { IfOk result (λ left. (left.id ≡ document.now.id)
+            × (updated self.now document.now.fields ≡ Ok left.fields)) }
+        ensures fault { IfErr result (λ fault. (fault ≢ update_reason.NoMemory)
+            → updated self.now document.now.fields ≡ Err fault) }
     {
         changed_by(alloc, &self.list, document)
     }

@@ -7,7 +7,7 @@ ghost use Rattle.documents.specs.Faults.{first_name, name_fault};
 ghost use Rattle.documents.specs.Json.{kinds_of, said};
 ghost use Rattle.documents.specs.declared.fault.DocumentFault.TheVariants as reason;
 ghost use Rattle.doc_updates.specs.Updates.{pairs, is_no_change, is_wrong};
-ghost use Rattle.doc_updates.specs.Words.{only, assign_by, number_change, numbers_change, texts_change, own_change, change_by, worded, change_of, change_for, change_in};
+ghost use Rattle.doc_updates.specs.Words.{only, assign_by, number_change, numbers_change, texts_change, own_change, change_by, change_of, change_for, change_in};
 
 use crate::change::{Change, Named};
 use doc_types::{FieldType, Schema};
@@ -125,7 +125,8 @@ fn change_by(
 
 /// The one member of a value that is an object with just one.
 fn only_in(value: &Value) -> Option<(&str, &Value)>
-    ensures { option_map (λ m. (m.0.now, view m.1.now)) result ≡ option_and_then only (as_object (view value.now)) }
+    ensures { option_map (λ m. (m.0.now, view m.1.now)) result
+        ≡ option_and_then only (as_object (view value.now)) }
 {
     match value.as_object() {
         Some(members) => only(members),
@@ -158,8 +159,10 @@ fn change_in(
     kind: Option<FieldType>,
     value: &Value,
 ) -> Result<Named, DocumentFault>
-    ensures read { IfOk result (λ named. (is_no_change kind (view value.now) ≡ false) × (change_for kind (view value.now) ≡ Some named.change) × (named.name ≡ name.now)) }
-    ensures refused { IfErr result (λ fault. (fault ≢ reason.NoMemory) → (is_no_change kind (view value.now) ≡ true) × (fault ≡ reason.WrongValue name.now)) }
+    ensures read { IfOk result (λ named. (is_no_change kind (view value.now) ≡ false)
+        × (change_for kind (view value.now) ≡ Some named.change) × (named.name ≡ name.now)) }
+    ensures refused { IfErr result (λ fault. (fault ≢ reason.NoMemory)
+        → (is_no_change kind (view value.now) ≡ true) × (fault ≡ reason.WrongValue name.now)) }
 {
     match change_for(alloc, kind, value)? {
         Some(change) => Ok(Named {
@@ -179,10 +182,13 @@ fn changes_said(
     type_name: &str,
     schema: &Schema,
 ) -> Result<Vec<Named>, DocumentFault>
-    ensures read { IfOk result (λ list. (first_name (is_wrong (kinds_of schema.now type_name.now)) (members_view members.now.entries) ≡ None)
-        × (pairs list.items ≡ said (change_in (kinds_of schema.now type_name.now)) (members_view members.now.entries))) }
+    ensures read { IfOk result (λ list.
+        (first_name (is_wrong (kinds_of schema.now type_name.now)) (members_view members.now.entries) ≡ None)
+        × (pairs list.items ≡ said (change_in (kinds_of schema.now type_name.now))
+        (members_view members.now.entries))) }
     ensures refused { IfErr result (λ fault. (fault ≢ reason.NoMemory)
-        → (option_map reason.WrongValue (first_name (is_wrong (kinds_of schema.now type_name.now)) (members_view members.now.entries)) ≡ Some fault)) }
+        → (option_map reason.WrongValue (first_name (is_wrong (kinds_of schema.now type_name.now))
+        (members_view members.now.entries)) ≡ Some fault)) }
     ensures sorted { IfOk result (λ list. T (fin.is_sorted name_cmp (pairs list.items))) }
 {
     let mut list = Vec::with_capacity(alloc, members.len())?;
@@ -200,10 +206,14 @@ pub fn changes_in(
     type_name: &str,
     schema: &Schema,
 ) -> Result<Vec<Named>, DocumentFault>
-    ensures read { IfOk result (λ list. (name_fault (is_wrong (kinds_of schema.now type_name.now)) (kinds_of schema.now type_name.now) (members_view members.now.entries) ≡ None)
-        × (pairs list.items ≡ said (change_in (kinds_of schema.now type_name.now)) (members_view members.now.entries))) }
+    ensures read { IfOk result (λ list.
+        (name_fault (is_wrong (kinds_of schema.now type_name.now)) (kinds_of schema.now type_name.now)
+        (members_view members.now.entries) ≡ None)
+        × (pairs list.items ≡ said (change_in (kinds_of schema.now type_name.now))
+        (members_view members.now.entries))) }
     ensures refused { IfErr result (λ fault. (fault ≢ reason.NoMemory)
-        → (name_fault (is_wrong (kinds_of schema.now type_name.now)) (kinds_of schema.now type_name.now) (members_view members.now.entries) ≡ Some fault)) }
+        → (name_fault (is_wrong (kinds_of schema.now type_name.now)) (kinds_of schema.now type_name.now)
+        (members_view members.now.entries) ≡ Some fault)) }
     ensures sorted { IfOk result (λ list. T (fin.is_sorted name_cmp (pairs list.items))) }
 {
     if let Some(name) = unknown_in(members, type_name, schema) {

@@ -6,7 +6,7 @@ use Rattle.std.specs.FinMap.{same_entries_map, entries-from_sorted, entries_sort
 use Rattle.std.specs.List.{AllByRecursion}
 use Rattle.serde_json.specs.Data.{Data, string}
 use Rattle.serde_json.specs.Events.{items_len}
-use Rattle.serde_json.specs.Find.{as_str, as_i64, of_integer}
+use Rattle.serde_json.specs.Find.{as_str}
 use Rattle.serde_json.specs.View.{items_of}
 use Rattle.doc_types.specs.SchemaCodes.{name_cmp, Types}
 use Rattle.doc_types.specs.Values.{kind_of}

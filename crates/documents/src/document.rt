@@ -71,10 +71,16 @@ impl Document {
         schema: &Schema,
     ) -> Result<Document, DocumentFault>
         requires object { is_object (view fields.now) ≡ true }
-        ensures read { IfOk result (λ document. (document_fault schema.now (type_of id) (members_in (as_object (view fields.now))) ≡ None)
-            × (document ≡ record { id = id; fields = fields_in (kinds_of schema.now (type_of id)) (members_in (as_object (view fields.now))) })) }
+        ensures read { IfOk result (λ document.
+            (document_fault schema.now (type_of id) (members_in (as_object (view fields.now))) ≡ None)
+            × (document ≡ record {
+              id = id;
+              fields = fields_in (kinds_of schema.now (type_of id))
+                  (members_in (as_object (view fields.now)));
+            })) }
         ensures refused { IfErr result (λ fault. (fault ≢ reason.NoMemory)
-            → (document_fault schema.now (type_of id) (members_in (as_object (view fields.now))) ≡ Some fault)) }
+            → (document_fault schema.now (type_of id) (members_in (as_object (view fields.now)))
+            ≡ Some fault)) }
     {
         if !schema.has_type(id.type_name()) {
             return Err(DocumentFault::UnknownType);
@@ -91,7 +97,8 @@ impl Document {
         requires sorted { T (fin.is_sorted name_cmp (pairs fields.items)) }
         ensures read { IfOk result (λ document. (size_fault (fin.from_entries (pairs fields.items)) ≡ None)
             × (document ≡ record { id = id; fields = fin.from_entries (pairs fields.items) })) }
-        ensures refused { IfErr result (λ fault. size_fault (fin.from_entries (pairs fields.items)) ≡ Some fault) }
+        ensures refused { IfErr result (λ fault. size_fault (fin.from_entries (pairs fields.items))
+            ≡ Some fault) }
     {
         let document = Document { id, fields };
         let size = document.size();

@@ -33,9 +33,11 @@ pub fn field_of<'a>(fields: &'a [SharedField], name: &str) -> Option<&'a SharedF
 
 /// Puts a field in its place. The only error is want of memory.
 pub fn put_in(fields: &mut Vec<SharedField>, field: SharedField) -> Result<(), NoMemory>
-    ensures ok { OnOk result (pairs fields.new.items ≡ fin.put name_cmp field.name field.value (pairs fields.old.items)) }
+    ensures ok { OnOk result (pairs fields.new.items
+        ≡ fin.put name_cmp field.name field.value (pairs fields.old.items)) }
     ensures err { OnErr result (fields.new.items ≡ fields.old.items) }
-    ensures sorted { T (fin.is_sorted name_cmp (pairs fields.old.items)) → T (fin.is_sorted name_cmp (pairs fields.new.items)) }
+    ensures sorted { T (fin.is_sorted name_cmp (pairs fields.old.items))
+        → T (fin.is_sorted name_cmp (pairs fields.new.items)) }
 {
     let at = place_of(fields, field.name());
     if at == fields.len() {

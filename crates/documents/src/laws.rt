@@ -11,8 +11,11 @@ ghost use Rattle.documents.specs.Sizes.{largest, size_of};
 
 /// Fields that a type may have are read again from their JSON, without a fault.
 pub fn json_and_back()
-    ensures right { (types : Types) (type_name : List ℕ) (fields : FieldMap) → is_some (fin.get types type_name) ≡ true
-        → Fits (kinds_of types type_name) (fin.entries fields) → size_of fields ≤ largest → document_fault types type_name (fields_json fields) ≡ None }
+    ensures right { (types : Types) (type_name : List ℕ) (fields : FieldMap)
+        → is_some (fin.get types type_name) ≡ true
+        → Fits (kinds_of types type_name) (fin.entries fields) → size_of fields ≤ largest
+        → document_fault types type_name (fields_json fields) ≡ None }
     ensures same { (types : Types) (type_name : List ℕ) (fields : FieldMap)
-        → Fits (kinds_of types type_name) (fin.entries fields) → fields_in (kinds_of types type_name) (fields_json fields) ≡ fields }
+        → Fits (kinds_of types type_name) (fin.entries fields)
+        → fields_in (kinds_of types type_name) (fields_json fields) ≡ fields }
 {}

@@ -21,7 +21,8 @@ pub fn unknown_in<'a>(
     type_name: &str,
     schema: &Schema,
 ) -> Option<&'a str>
-    ensures { option_map (λ name. name.now) result ≡ first_name (is_unknown (kinds_of schema.now type_name.now)) (members_view members.now.entries) }
+    ensures { option_map (λ name. name.now) result
+        ≡ first_name (is_unknown (kinds_of schema.now type_name.now)) (members_view members.now.entries) }
 {
     for (name, _value) in members {
         if schema.field(type_name, name.as_str()).is_none() {
@@ -45,8 +46,10 @@ fn value_in(
     kind: Option<FieldType>,
     value: &Value,
 ) -> Result<Option<FieldValue>, DocumentFault>
-    ensures read { IfOk result (λ found. (is_no_value kind (view value.now) ≡ false) × (found ≡ value_by kind (view value.now))) }
-    ensures refused { IfErr result (λ fault. (fault ≢ reason.NoMemory) → (is_no_value kind (view value.now) ≡ true) × (fault ≡ reason.WrongValue name.now)) }
+    ensures read { IfOk result (λ found. (is_no_value kind (view value.now) ≡ false)
+        × (found ≡ value_by kind (view value.now))) }
+    ensures refused { IfErr result (λ fault. (fault ≢ reason.NoMemory)
+        → (is_no_value kind (view value.now) ≡ true) × (fault ≡ reason.WrongValue name.now)) }
 {
     if value.is_null() {
         return Ok(None);
@@ -66,10 +69,13 @@ fn values_in(
     type_name: &str,
     schema: &Schema,
 ) -> Result<Vec<SharedField>, DocumentFault>
-    ensures read { IfOk result (λ list. (first_name (is_wrong (kinds_of schema.now type_name.now)) (members_view members.now.entries) ≡ None)
-        × (pairs list.items ≡ values_in (kinds_of schema.now type_name.now) (members_view members.now.entries))) }
+    ensures read { IfOk result (λ list.
+        (first_name (is_wrong (kinds_of schema.now type_name.now)) (members_view members.now.entries) ≡ None)
+        × (pairs list.items ≡ values_in (kinds_of schema.now type_name.now)
+        (members_view members.now.entries))) }
     ensures refused { IfErr result (λ fault. (fault ≢ reason.NoMemory)
-        → (option_map reason.WrongValue (first_name (is_wrong (kinds_of schema.now type_name.now)) (members_view members.now.entries)) ≡ Some fault)) }
+        → (option_map reason.WrongValue (first_name (is_wrong (kinds_of schema.now type_name.now))
+        (members_view members.now.entries)) ≡ Some fault)) }
     ensures sorted { IfOk result (λ list. T (fin.is_sorted name_cmp (pairs list.items))) }
 {
     let mut list = Vec::with_capacity(alloc, members.len())?;
@@ -89,10 +95,14 @@ pub fn fields_in(
     type_name: &str,
     schema: &Schema,
 ) -> Result<Vec<SharedField>, DocumentFault>
-    ensures read { IfOk result (λ list. (name_fault (is_wrong (kinds_of schema.now type_name.now)) (kinds_of schema.now type_name.now) (members_view members.now.entries) ≡ None)
-        × (pairs list.items ≡ values_in (kinds_of schema.now type_name.now) (members_view members.now.entries))) }
+    ensures read { IfOk result (λ list.
+        (name_fault (is_wrong (kinds_of schema.now type_name.now)) (kinds_of schema.now type_name.now)
+        (members_view members.now.entries) ≡ None)
+        × (pairs list.items ≡ values_in (kinds_of schema.now type_name.now)
+        (members_view members.now.entries))) }
     ensures refused { IfErr result (λ fault. (fault ≢ reason.NoMemory)
-        → (name_fault (is_wrong (kinds_of schema.now type_name.now)) (kinds_of schema.now type_name.now) (members_view members.now.entries) ≡ Some fault)) }
+        → (name_fault (is_wrong (kinds_of schema.now type_name.now)) (kinds_of schema.now type_name.now)
+        (members_view members.now.entries) ≡ Some fault)) }
     ensures sorted { IfOk result (λ list. T (fin.is_sorted name_cmp (pairs list.items))) }
 {
     if let Some(name) = unknown_in(members, type_name, schema) {

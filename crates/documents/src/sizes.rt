@@ -1,4 +1,4 @@
-ghost use Rattle.std.specs.Prelude.{◌≡◌, ◌+◌, ◌*◌, map, sum, length};
+ghost use Rattle.std.specs.Prelude.{◌≡◌, ◌+◌, ◌*◌, map, sum};
 ghost use Rattle.documents.specs.Fields.{pairs};
 ghost use Rattle.documents.specs.Sizes.{text_size, value_size, field_size, capped};
 

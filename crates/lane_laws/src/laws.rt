@@ -15,8 +15,10 @@ ghost use Rattle.messages.specs.declared.outcome.Outcome.TheVariants as outcome;
 /// it, or a newer entry of its document. A stamp belongs to the write of one line.
 pub fn legal_journals()
     ensures in_order { (J : Journal) (line : ℕ) → IsLegal J → IsInOrder (events_of line J) }
-    ensures newest_kept { (J : Journal) (id : List ℕ) → HoldsNewest (fin.get (store_of J) id) (written_of id J) }
-    ensures acknowledged_kept { (J : Journal) (line : ℕ) (stamp : Stamp) → IsLegal J → closed_in line J ≡ Some (outcome.Acked stamp) → IsWritten J line stamp }
+    ensures newest_kept { (J : Journal) (id : List ℕ)
+        → HoldsNewest (fin.get (store_of J) id) (written_of id J) }
+    ensures acknowledged_kept { (J : Journal) (line : ℕ) (stamp : Stamp) → IsLegal J
+        → closed_in line J ≡ Some (outcome.Acked stamp) → IsWritten J line stamp }
     ensures one_write_a_stamp { (J : Journal) (j k : ℕ) (a b : Entry) → IsLegal J
         → wrote_in j J ≡ Some a → wrote_in k J ≡ Some b → a.stamp ≡ b.stamp → j ≡ k }
 {}

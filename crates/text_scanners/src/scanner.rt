@@ -16,12 +16,17 @@ pub trait Scanner: Sized {
 
     /// The state after one letter more; none where no text goes on so. Takes no memory.
     fn step(self, letter: Self::Letter) -> Option<Self>
-        ensures steps { IfSome result (λ next. (letters : List Self.Letter) → reached self letters → reached next (letters ++ letter ∷ [])) }
-        ensures goes_on { IfSome result (λ next. (letters : List Self.Letter) → reached next letters → Begins language letters) }
-        ensures stops { IfNone result ((letters : List Self.Letter) → reached self letters → Begins language (letters ++ letter ∷ []) → ⊥) };
+        ensures steps { IfSome result (λ next. (letters : List Self.Letter) → reached self letters
+            → reached next (letters ++ letter ∷ [])) }
+        ensures goes_on { IfSome result (λ next. (letters : List Self.Letter) → reached next letters
+            → Begins language letters) }
+        ensures stops { IfNone result ((letters : List Self.Letter) → reached self letters
+            → Begins language (letters ++ letter ∷ []) → ⊥) };
 
     /// What the letters that were read say, where they are a text. Takes no memory.
     fn value(self) -> Option<Self::Value>
-        ensures read { IfSome result (λ value. (letters : List Self.Letter) → reached self letters → language letters value) }
-        ensures none { IfNone result ((letters : List Self.Letter) (value : Self.Value) → reached self letters → language letters value → ⊥) };
+        ensures read { IfSome result (λ value. (letters : List Self.Letter) → reached self letters
+            → language letters value) }
+        ensures none { IfNone result ((letters : List Self.Letter) (value : Self.Value) → reached self letters
+            → language letters value → ⊥) };
 }

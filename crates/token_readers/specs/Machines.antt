@@ -1,5 +1,5 @@
 -- Machines that read one token after the other.
-use Rattle.std.specs.Prelude.{◌≡◌, List, [], ◌∷◌, ◌++◌, Option, Some, None, option_and_then}
+use Rattle.std.specs.Prelude.{◌≡◌, List, [], ◌∷◌, ◌++◌, Option, Some, option_and_then}
 use Rattle.doc_types.specs.Tokens.{Token}
 use Rattle.token_readers.specs.Readings.{Begins}
 

@@ -1,5 +1,5 @@
 -- Texts as tokens, and where a text is refused.
-use Rattle.std.specs.Prelude.{◌≡◌, ◌≢◌, ℕ, ◌+◌, ◌-◌, min, List, [], ◌∷◌, ◌++◌, length, Option, Some, None, Result, Ok, Err}
+use Rattle.std.specs.Prelude.{◌≡◌, ◌≢◌, ℕ, ◌+◌, ◌-◌, min, List, [], ◌∷◌, ◌++◌, length, Some, None, Result, Ok, Err}
 use Rattle.doc_types.specs.declared.symbols.Language.{Language}
 use Rattle.doc_types.specs.Tokens.{Token, skip_blanks, token_at}
 use Rattle.token_readers.specs.declared.reader.Stop.{Stop}

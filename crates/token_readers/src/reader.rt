@@ -57,12 +57,17 @@ pub trait TokenReader: Sized {
 
     /// The state after one token more; refused where no text goes on so.
     fn take(self, alloc: Global, schema: &Schema, token: Lexeme<'_>) -> Result<Self, Stop>
-        ensures takes { IfOk result (λ next. (tokens : List Token) → reached schema.now self tokens → reached schema.now next (tokens ++ token_of token.entry ∷ [])) }
-        ensures begins { IfOk result (λ next. (tokens : List Token) → reached schema.now self tokens → Begins (language schema.now) (tokens ++ token_of token.entry ∷ [])) }
-        ensures stops { IfRefused result ((tokens : List Token) → reached schema.now self tokens → Begins (language schema.now) (tokens ++ token_of token.entry ∷ []) → ⊥) };
+        ensures takes { IfOk result (λ next. (tokens : List Token) → reached schema.now self tokens
+            → reached schema.now next (tokens ++ token_of token.entry ∷ [])) }
+        ensures begins { IfOk result (λ next. (tokens : List Token) → reached schema.now self tokens
+            → Begins (language schema.now) (tokens ++ token_of token.entry ∷ [])) }
+        ensures stops { IfRefused result ((tokens : List Token) → reached schema.now self tokens
+            → Begins (language schema.now) (tokens ++ token_of token.entry ∷ []) → ⊥) };
 
     /// What the tokens that were read say; refused where they are no text.
     fn value(self, alloc: Global, schema: &Schema) -> Result<Self::Value, Stop>
-        ensures read { IfOk result (λ value. (tokens : List Token) → reached schema.now self tokens → language schema.now tokens value) }
-        ensures none { IfRefused result ((tokens : List Token) (value : Self.Value) → reached schema.now self tokens → language schema.now tokens value → ⊥) };
+        ensures read { IfOk result (λ value. (tokens : List Token) → reached schema.now self tokens
+            → language schema.now tokens value) }
+        ensures none { IfRefused result ((tokens : List Token) (value : Self.Value)
+            → reached schema.now self tokens → language schema.now tokens value → ⊥) };
 }

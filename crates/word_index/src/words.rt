@@ -1,8 +1,6 @@
-ghost use Rattle.std.specs.Prelude.{◌≡◌, ◌++◌, ◌∷◌, [], List, map, IfOk};
-ghost use Rattle.std.specs.String.{string_bytes};
-ghost use Rattle.std.specs.List.{filter};
-ghost use Rattle.word_index.specs.Tokens.{has_bytes, tokens_of};
-ghost use Rattle.word_index.specs.Runs.{Run, run_of, run_with, closed};
+ghost use Rattle.std.specs.Prelude.{◌≡◌, ◌++◌, ◌∷◌, [], IfOk};
+ghost use Rattle.word_index.specs.Tokens.{tokens_of};
+ghost use Rattle.word_index.specs.Runs.{run_of, run_with, closed};
 
 use doc_types::TextList;
 use std::alloc::Global;

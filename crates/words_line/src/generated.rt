@@ -42,7 +42,8 @@ pub fn generated_options(
     requires seed { given (rows_of (found_of matches.now)) (codes "generate") ≡ Some seed.now }
     requires count { given (rows_of (found_of matches.now)) (codes "count") ≡ Some count.now }
     ensures said { IfOk result (SaysGenerated (rows_of (found_of matches.now))) }
-    ensures usage { (result ≡ Err WordsFault.Usage) → (options : Options) → SaysGenerated (rows_of (found_of matches.now)) options → ⊥ }
+    ensures usage { (result ≡ Err WordsFault.Usage) → (options : Options)
+        → SaysGenerated (rows_of (found_of matches.now)) options → ⊥ }
 {
     if !stands_alone(matches) {
         return Err(WordsFault::Usage);

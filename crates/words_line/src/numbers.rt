@@ -9,8 +9,10 @@ use clap::ArgMatches;
 
 /// Whether these bytes have neither a plus sign nor a leading zero in front.
 fn has_plain_front(bytes: &[u8]) -> bool
-    ensures plain { IsTrue result → (slice_index bytes.now 0 ≢ 43) × (slice_index bytes.now 0 ≡ 48 → length bytes.now ≡ 1) }
-    ensures odd { IsFalse result → (slice_index bytes.now 0 ≡ 43) ⊎ ((slice_index bytes.now 0 ≡ 48) × (length bytes.now ≢ 1)) }
+    ensures plain { IsTrue result → (slice_index bytes.now 0 ≢ 43)
+        × (slice_index bytes.now 0 ≡ 48 → length bytes.now ≡ 1) }
+    ensures odd { IsFalse result → (slice_index bytes.now 0 ≡ 43)
+        ⊎ ((slice_index bytes.now 0 ≡ 48) × (length bytes.now ≢ 1)) }
 {
     match bytes {
         [b'+', ..] => false,
@@ -21,7 +23,8 @@ fn has_plain_front(bytes: &[u8]) -> bool
 
 /// The number of a plain decimal.
 fn plain_number(text: &str) -> Option<u32>
-    ensures { MatchOption result ((n : ℕ) → n < 2 ^ 32 → text.now ≢ decimal n) (λ n. (text.now ≡ decimal n) × (n < 2 ^ 32)) }
+    ensures { MatchOption result ((n : ℕ) → n < 2 ^ 32 → text.now ≢ decimal n)
+        (λ n. (text.now ≡ decimal n) × (n < 2 ^ 32)) }
 {
     if !has_plain_front(text.as_bytes()) {
         return None;
@@ -31,7 +34,8 @@ fn plain_number(text: &str) -> Option<u32>
 
 /// The number that a text says, which must lie in the range.
 pub fn number_in(text: &str, least: u32, most: u32) -> Result<u32, WordsFault>
-    ensures { MatchResult result (IsNumber least most text.now) (λ _. (n : ℕ) → IsNumber least most text.now n → ⊥) }
+    ensures { MatchResult result (IsNumber least most text.now)
+        (λ _. (n : ℕ) → IsNumber least most text.now n → ⊥) }
 {
     let Some(number) = plain_number(text) else {
         return Err(WordsFault::Usage);

@@ -64,7 +64,8 @@ impl From<NoMemory> for WordsFault {
 /// The options of these matches.
 fn options_said(alloc: Global, matches: &ArgMatches) -> Result<Options, WordsFault>
     ensures said { IfOk result (MatchesSay (rows_of (found_of matches.now))) }
-    ensures usage { (result ≡ Err WordsFault.Usage) → (options : Options) → MatchesSay (rows_of (found_of matches.now)) options → ⊥ }
+    ensures usage { (result ≡ Err WordsFault.Usage) → (options : Options)
+        → MatchesSay (rows_of (found_of matches.now)) options → ⊥ }
 {
     match (given(matches, "generate"), given(matches, "count")) {
         (None, None) => plain_options(alloc, matches),
@@ -77,7 +78,8 @@ fn options_said(alloc: Global, matches: &ArgMatches) -> Result<Options, WordsFau
 /// right is not judged here.
 pub fn read_words(alloc: Global, words: &[String]) -> Result<Options, WordsFault>
     ensures said { IfOk result (λ options. Says (map string_bytes words.now) options) }
-    ensures usage { (result ≡ Err WordsFault.Usage) → (options : Options) → Says (map string_bytes words.now) options → ⊥ }
+    ensures usage { (result ≡ Err WordsFault.Usage) → (options : Options)
+        → Says (map string_bytes words.now) options → ⊥ }
 {
     let matches = parsed(alloc, words)?;
     options_said(alloc, &matches)

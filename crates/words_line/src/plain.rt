@@ -31,7 +31,8 @@ pub fn plain_options(alloc: Global, matches: &ArgMatches) -> Result<Options, Wor
     requires no_seed { given (rows_of (found_of matches.now)) (codes "generate") ≡ None }
     requires no_count { given (rows_of (found_of matches.now)) (codes "count") ≡ None }
     ensures said { IfOk result (SaysPlain (rows_of (found_of matches.now))) }
-    ensures usage { (result ≡ Err WordsFault.Usage) → (options : Options) → SaysPlain (rows_of (found_of matches.now)) options → ⊥ }
+    ensures usage { (result ≡ Err WordsFault.Usage) → (options : Options)
+        → SaysPlain (rows_of (found_of matches.now)) options → ⊥ }
 {
     let feeders = number(matches, "feeders", "0", 0, 8)?;
     let bits = number(matches, "bits", "4", 1, 6)?;

@@ -4,7 +4,6 @@ use Rattle.doc_types.specs.Known.{some_fields}
 use Rattle.doc_types.specs.SchemaCodes.{name_cmp, Fields}
 use Rattle.doc_types.specs.SchemaMaps.{type_pair, field_pair}
 use Rattle.doc_types.proofs.Finding.{got}
-use Rattle.doc_types.proofs.Known.{some_entries}
 use Rattle.doc_types.proofs.schema.Schema.has_fields.Goals as goal
 
 pub returns-in-Some : goal.returns-in-Some
