@@ -48,8 +48,10 @@ impl Chunks {
         requires some { AreSome self.now }
         requires rising { IsStrictlySortedBy slot_cmp (flat self.now) }
         ensures within { result ≤ length self.now.rows.items }
-        ensures before { AllWithin (λ r. begins (is_below path id.now) r.items ≡ true) self.now.rows.items 0 result }
-        ensures from { AllWithin (λ r. begins (is_below path id.now) r.items ≡ false) self.now.rows.items result (length self.now.rows.items) }
+        ensures before { AllWithin (λ r. begins (is_below path id.now) r.items ≡ true)
+            self.now.rows.items 0 result }
+        ensures from { AllWithin (λ r. begins (is_below path id.now) r.items ≡ false)
+            self.now.rows.items result (length self.now.rows.items) }
     {
         self.rows
             .partition_point(|row: &Vec<Slot>| begins_below(row, path, id))
@@ -62,8 +64,10 @@ impl Chunks {
         ensures stands { IsSpot self.now result }
         ensures lies { 0 < length self.now.rows.items → result.row < length self.now.rows.items }
         ensures within { place self.now result ≤ length (flat self.now) }
-        ensures before { AllWithin (λ s. is_below path id.now s ≡ true) (flat self.now) 0 (place self.now result) }
-        ensures from { AllWithin (λ s. is_below path id.now s ≡ false) (flat self.now) (place self.now result) (length (flat self.now)) }
+        ensures before { AllWithin (λ s. is_below path id.now s ≡ true)
+            (flat self.now) 0 (place self.now result) }
+        ensures from { AllWithin (λ s. is_below path id.now s ≡ false)
+            (flat self.now) (place self.now result) (length (flat self.now)) }
     {
         let below = self.rows_below(path, id);
         if below == 0 {
@@ -110,7 +114,8 @@ impl Chunks {
     /// The slot of a seat.
     pub fn slot(&self, seat: Spot) -> Option<&Slot>
         requires { IsSeat self.now seat }
-        ensures slot { IfSome result (λ slot. slot.now ≡ slice_index_or (flat self.now) (place self.now seat) slot.now) }
+        ensures slot { IfSome result (λ slot. slot.now
+            ≡ slice_index_or (flat self.now) (place self.now seat) slot.now) }
         ensures within { IfSome result (λ _. place self.now seat < length (flat self.now)) }
         ensures none { IfNone result (place self.now seat ≡ length (flat self.now)) }
     {
@@ -162,7 +167,8 @@ impl Chunks {
         requires within { goes ≡ true → place self.now seat < length (flat self.now) }
         ensures seat { IsSeat self.now result }
         ensures next { place self.now result ≡ place self.now seat + (if goes then 1 else 0) }
-        ensures within { place self.now seat ≤ length (flat self.now) → place self.now result ≤ length (flat self.now) }
+        ensures within { place self.now seat ≤ length (flat self.now)
+            → place self.now result ≤ length (flat self.now) }
     {
         if goes { self.next(seat) } else { seat }
     }
@@ -173,7 +179,8 @@ impl Chunks {
         requires seat { IsSeat self.now seat }
         requires path { path ≡ path_by id.now }
         ensures there { result ≡ true → IsSlotOf (flat self.now) id.now (place self.now seat) }
-        ensures other { result ≡ false → place self.now seat < length (flat self.now) → HoldsAt (λ s. s.entry.id ≢ id.now) (flat self.now) (place self.now seat) }
+        ensures other { result ≡ false → place self.now seat < length (flat self.now)
+            → HoldsAt (λ s. s.entry.id ≢ id.now) (flat self.now) (place self.now seat) }
     {
         match self.slot(seat) {
             Some(slot) => slot.path == path && slot.entry.entry().id.text() == id.text(),

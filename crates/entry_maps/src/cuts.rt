@@ -20,7 +20,9 @@ impl Chunks {
         requires row { row < length self.old.rows.items }
         requires rising { from ≤ to }
         requires within { HoldsAt (λ r. to ≤ length r.items) self.old.rows.items row }
-        ensures { flat self.new ≡ take (length (flat_before self.old row) + from) (flat self.old) ++ drop (length (flat_before self.old row) + to) (flat self.old) }
+        ensures { flat self.new
+            ≡ take (length (flat_before self.old row) + from) (flat self.old)
+            ++ drop (length (flat_before self.old row) + to) (flat self.old) }
     {
         cut_out(&mut self.rows[row], from, to);
     }
@@ -41,7 +43,8 @@ impl Chunks {
         requires row { to.row < length self.old.rows.items }
         requires from { HoldsAt (λ r. from.at ≤ length r.items) self.old.rows.items from.row }
         requires to { HoldsAt (λ r. to.at ≤ length r.items) self.old.rows.items to.row }
-        ensures { flat self.new ≡ take (place self.old from) (flat self.old) ++ drop (place self.old to) (flat self.old) }
+        ensures { flat self.new
+            ≡ take (place self.old from) (flat self.old) ++ drop (place self.old to) (flat self.old) }
     {
         self.rows[from.row].truncate(from.at);
         cut_out(&mut self.rows[to.row], 0, to.at);
@@ -54,7 +57,8 @@ impl Chunks {
         requires from { IsSeat self.old from }
         requires to { IsSeat self.old to }
         requires rising { place self.old from ≤ place self.old to }
-        ensures { flat self.new ≡ take (place self.old from) (flat self.old) ++ drop (place self.old to) (flat self.old) }
+        ensures { flat self.new
+            ≡ take (place self.old from) (flat self.old) ++ drop (place self.old to) (flat self.old) }
     {
         if from.row >= self.rows.len() {
             return;
@@ -83,7 +87,8 @@ impl Chunks {
         requires from { IsSeat self.old from }
         requires to { IsSeat self.old to }
         requires rising { place self.old from ≤ place self.old to }
-        ensures slots { flat self.new ≡ take (place self.old from) (flat self.old) ++ drop (place self.old to) (flat self.old) }
+        ensures slots { flat self.new
+            ≡ take (place self.old from) (flat self.old) ++ drop (place self.old to) (flat self.old) }
         ensures some { AreSome self.new }
     {
         self.cut_between(from, to);

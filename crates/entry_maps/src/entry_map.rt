@@ -105,7 +105,8 @@ impl EntryMap {
     /// Takes, of each document, the other map's entry where that is newer. The only error is want
     /// of memory.
     pub fn merge(&mut self, other: &EntryMap) -> Result<(), NoMemory>
-        ensures ok { OnOk result ((id : List ℕ) → fin.get self.new id ≡ newer_of (fin.get self.old id) (fin.get other.now id)) }
+        ensures ok { OnOk result ((id : List ℕ)
+            → fin.get self.new id ≡ newer_of (fin.get self.old id) (fin.get other.now id)) }
         ensures err { OnErr result (self.new ≡ self.old) }
     {
         self.stored.merge(self.alloc, &other.stored)

@@ -9,5 +9,6 @@ ghost use Rattle.entry_maps.specs.Stamps.{stamp_in, stamps_of, IsRising};
 /// The stamps of a map rise, and are just those of its entries; so there is one such list.
 pub fn stamps_rise()
     ensures rising { (m : Entries) → IsRising (stamps_of m) }
-    ensures members { (m : Entries) (s : Stamp) → Contains (stamps_of m) s ↔ Contains (map stamp_in (fin.values m)) s }
+    ensures members { (m : Entries) (s : Stamp)
+        → Contains (stamps_of m) s ↔ Contains (map stamp_in (fin.values m)) s }
 {}

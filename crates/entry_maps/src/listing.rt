@@ -31,7 +31,8 @@ fn push_stamps(stamps: &mut Vec<Stamp>, row: &[Slot]) -> Result<(), NoMemory>
 
 /// The stamps of the slots of some rows, in their order. The only error is want of memory.
 fn stamps_in(alloc: Global, rows: &[Vec<Slot>], many: usize) -> Result<Vec<Stamp>, NoMemory>
-    ensures { IfOk result (λ stamps. stamps.items ≡ map (λ s. s.entry.stamp) (flat_map (λ r. r.items) rows.now)) }
+    ensures { IfOk result (λ stamps. stamps.items
+        ≡ map (λ s. s.entry.stamp) (flat_map (λ r. r.items) rows.now)) }
 {
     let mut stamps = Vec::with_capacity(alloc, many)?;
     for row in rows {

@@ -56,7 +56,8 @@ fn lower_of<'a>(one: &'a Slot, two: &'a Slot) -> Taken<'a>
 
 /// Which of the next slots of two lists a merge takes.
 fn next_of<'a>(one: Option<&'a Slot>, two: Option<&'a Slot>) -> Option<Taken<'a>>
-    ensures { option_map (λ taken. (taken.slot.now, (taken.own, taken.other))) result ≡ next_of (option_map (λ s. s.now) one.entry) (option_map (λ s. s.now) two.entry) }
+    ensures { option_map (λ taken. (taken.slot.now, (taken.own, taken.other))) result
+        ≡ next_of (option_map (λ s. s.now) one.entry) (option_map (λ s. s.now) two.entry) }
 {
     match (one, two) {
         (Some(one), Some(two)) => Some(lower_of(one, two)),
@@ -98,7 +99,8 @@ impl Stored {
         requires stored { IsStored self.old }
         requires other { IsStored other.now }
         ensures ok { OnOk result ((id : List ℕ) → fin.get (entries_of (slots_in self.new)) id
-            ≡ newer_of (fin.get (entries_of (slots_in self.old)) id) (fin.get (entries_of (slots_in other.now)) id)) }
+            ≡ newer_of (fin.get (entries_of (slots_in self.old)) id)
+            (fin.get (entries_of (slots_in other.now)) id)) }
         ensures err { OnErr result (entries_of (slots_in self.new) ≡ entries_of (slots_in self.old)) }
         ensures stored { IsStored self.new }
     {

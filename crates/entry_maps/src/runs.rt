@@ -52,7 +52,8 @@ impl Stored {
     pub fn copied(&self, alloc: Global, run: Run) -> Result<Stored, NoMemory>
         requires stored { IsStored self.now }
         requires run { IsWhole self.now.list run }
-        ensures slots { IfOk result (λ part. slots_in part ≡ take run.entries (drop (place self.now.list run.from) (slots_in self.now))) }
+        ensures slots { IfOk result (λ part. slots_in part
+            ≡ take run.entries (drop (place self.now.list run.from) (slots_in self.now))) }
         ensures counted { IfOk result IsCounted }
     {
         let mut part = Stored::new(alloc);
@@ -68,7 +69,8 @@ impl Stored {
     pub fn within(&self, alloc: Global, bucket: Bucket) -> Result<Stored, NoMemory>
         requires stored { IsStored self.now }
         ensures stored { IfOk result IsStored }
-        ensures entries { IfOk result (λ part. entries_of (slots_in part) ≡ fin.retain_keys (entries_of (slots_in self.now)) (in_bucket bucket)) }
+        ensures entries { IfOk result (λ part. entries_of (slots_in part)
+            ≡ fin.retain_keys (entries_of (slots_in self.now)) (in_bucket bucket)) }
     {
         buckets_are_runs();
         keys_locate();
@@ -80,7 +82,8 @@ impl Stored {
     /// Removes the entries whose keys lie in a bucket.
     pub fn remove_within(&mut self, bucket: Bucket)
         requires stored { IsStored self.old }
-        ensures entries { entries_of (slots_in self.new) ≡ fin.retain_keys (entries_of (slots_in self.old)) (λ id. not (in_bucket bucket id)) }
+        ensures entries { entries_of (slots_in self.new)
+            ≡ fin.retain_keys (entries_of (slots_in self.old)) (λ id. not (in_bucket bucket id)) }
         ensures stored { IsStored self.new }
     {
         buckets_are_runs();

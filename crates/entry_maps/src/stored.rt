@@ -82,7 +82,8 @@ impl Stored {
         requires placed { IsPlaced slot }
         requires seat { IsSeat self.old.list seat }
         requires there { IsSlotOf (slots_in self.old) slot.entry.id (place self.old.list seat) }
-        ensures entries { entries_of (slots_in self.new) ≡ fin.insert (entries_of (slots_in self.old)) slot.entry.id slot.entry }
+        ensures entries { entries_of (slots_in self.new)
+            ≡ fin.insert (entries_of (slots_in self.old)) slot.entry.id slot.entry }
         ensures stored { IsStored self.new }
     {
         let before = self.list.at(seat).entry.has_document();
@@ -97,7 +98,8 @@ impl Stored {
         requires placed { IsPlaced slot }
         requires spot { IsPlaceFor self.old.list slot.path slot.entry.id spot }
         requires none { entry_in (slots_in self.old) slot.entry.id ≡ None }
-        ensures ok { OnOk result (entries_of (slots_in self.new) ≡ fin.insert (entries_of (slots_in self.old)) slot.entry.id slot.entry) }
+        ensures ok { OnOk result (entries_of (slots_in self.new)
+            ≡ fin.insert (entries_of (slots_in self.old)) slot.entry.id slot.entry) }
         ensures err { OnErr result (entries_of (slots_in self.new) ≡ entries_of (slots_in self.old)) }
         ensures stored { IsStored self.new }
     {
@@ -135,8 +137,10 @@ impl Stored {
         requires path { path ≡ path_by entry.id }
         requires seat { IsSeat self.old.list seat }
         requires there { IsSlotOf (slots_in self.old) entry.id (place self.old.list seat) }
-        ensures taken { IfOk result (λ taken. taken ≡ is_newer entry (fin.get (entries_of (slots_in self.old)) entry.id)) }
-        ensures ok { OnOk result (entries_of (slots_in self.new) ≡ with_entry (entries_of (slots_in self.old)) entry) }
+        ensures taken { IfOk result (λ taken. taken
+            ≡ is_newer entry (fin.get (entries_of (slots_in self.old)) entry.id)) }
+        ensures ok { OnOk result (entries_of (slots_in self.new)
+            ≡ with_entry (entries_of (slots_in self.old)) entry) }
         ensures err { OnErr result (entries_of (slots_in self.new) ≡ entries_of (slots_in self.old)) }
         ensures stored { IsStored self.new }
     {
@@ -153,8 +157,10 @@ impl Stored {
     pub fn put(&mut self, alloc: Global, path: u64, entry: Entry) -> Result<bool, NoMemory>
         requires stored { IsStored self.old }
         requires path { path ≡ path_by entry.id }
-        ensures taken { IfOk result (λ taken. taken ≡ is_newer entry (fin.get (entries_of (slots_in self.old)) entry.id)) }
-        ensures ok { OnOk result (entries_of (slots_in self.new) ≡ with_entry (entries_of (slots_in self.old)) entry) }
+        ensures taken { IfOk result (λ taken. taken
+            ≡ is_newer entry (fin.get (entries_of (slots_in self.old)) entry.id)) }
+        ensures ok { OnOk result (entries_of (slots_in self.new)
+            ≡ with_entry (entries_of (slots_in self.old)) entry) }
         ensures err { OnErr result (entries_of (slots_in self.new) ≡ entries_of (slots_in self.old)) }
         ensures stored { IsStored self.new }
     {

@@ -26,12 +26,15 @@ ghost use Rattle.lane_journals.specs.Legal.{Legal, OfLegal};
 /// of its keys, with their marks, and a row by key is in the list. So does the list of a node's pieces.
 pub fn rows_say_what_is_read()
     ensures row { OfLegal (λ acks P J. (v key : ℕ) → row_at v key J ≡ bucket_of (row_with key (rows v J))) }
-    ensures members { OfLegal (λ acks P J. (v n key : ℕ) → complete v n key J ≡ member_of n (row_with key (rows v J))) }
+    ensures members { OfLegal (λ acks P J. (v n key : ℕ)
+        → complete v n key J ≡ member_of n (row_with key (rows v J))) }
     ensures actives { OfLegal (λ acks P J. (v key : ℕ) → active v key J ≡ active_of (row_with key (rows v J))) }
-    ensures deletes { OfLegal (λ acks P J. (v key : ℕ) → deleting v key J ≡ delete_of (row_with key (rows v J))) }
+    ensures deletes { OfLegal (λ acks P J. (v key : ℕ)
+        → deleting v key J ≡ delete_of (row_with key (rows v J))) }
     ensures is_row { OfLegal (λ acks P J. (v : ℕ) (r : Row) → IsIn r (rows v J)
         → (key : ℕ) → contains r.bucket key ≡ true → row_with key (rows v J) ≡ Some r) }
-    ensures listed { OfLegal (λ acks P J. (v : ℕ) (r : Row) → opened v J ≡ true → (r.bucket).low < 2 ^ (r.bucket).bits
+    ensures listed { OfLegal (λ acks P J. (v : ℕ) (r : Row) → opened v J ≡ true
+        → (r.bucket).low < 2 ^ (r.bucket).bits
         → IsIn r (rows v J) → IsRow v r.bucket J) }
     ensures marks { OfLegal (λ acks P J. (v n : ℕ) (r : Row) → IsIn r (rows v J)
         → (key : ℕ) → contains r.bucket key ≡ true → complete v n key J ≡ r.members n) }
@@ -47,17 +50,21 @@ pub fn states_are_published()
     ensures states { (acks : ℕ) (J : Journal) → LegalByStates acks J → Legal acks (state_of J) J }
     ensures given { OfLegal (λ acks P J. (v n : ℕ) → published v J ≡ true → state_of J v n ≡ P v n) }
     ensures accepted { (S : Setting) (J : List LaneEvent) → IsLegal S J → 1 ≤ S.acks
-        → (s : ClusterState) → length s.nodes ≤ 32 → publish_fault (told S J) s ≡ None → IsLegalStep S J (Published s) }
-    ensures refused { (S : Setting) (J : List LaneEvent) → IsLegal S J → (s : ClusterState) → IsLegalStep S J (Published s)
+        → (s : ClusterState) → length s.nodes ≤ 32 → publish_fault (told S J) s ≡ None
+        → IsLegalStep S J (Published s) }
+    ensures refused { (S : Setting) (J : List LaneEvent) → IsLegal S J → (s : ClusterState)
+        → IsLegalStep S J (Published s)
         → publish_fault (told S J) s ≡ room_fault (published_states J) }
-    ensures serve { (S : Setting) (J : List LaneEvent) → IsLegal S J → (v n : ℕ) (s : ClusterState) → state_in v J ≡ Some s
+    ensures serve { (S : Setting) (J : List LaneEvent) → IsLegal S J → (v n : ℕ) (s : ClusterState)
+        → state_in v J ≡ Some s
         → state_of (history J) v n ≡ serves s n }
 {}
 
 /// A legal journal as it is kept, with entries named by their stamps, means a legal journal: so all laws of
 /// legal journals hold of what it means.
 pub fn kept_journals_mean_legal_ones()
-    ensures { (S : Setting) (J : List LaneEvent) → IsLegal S J → Legal S.acks (state_of (history J)) (history J) }
+    ensures { (S : Setting) (J : List LaneEvent) → IsLegal S J
+        → Legal S.acks (state_of (history J)) (history J) }
 {}
 
 /// The journal `life` is legal for each document of its lane, and there are such documents: a lane may go
@@ -79,8 +86,12 @@ pub fn a_lane_may_live()
 pub fn wrong_steps_are_refused()
     ensures opened_before_all_answered { OfDocuments (λ id. IsRefused 1 asked_one opened_early) }
     ensures state_leaves_out_too_many { OfDocuments (λ id. IsRefused 1 (life_one id) (Published state_small)) }
-    ensures condition_read_from_an_incomplete_replica { OfDocuments (λ id. IsRefused 1 (incomplete_read id) (Prepared 1 lane 3)) }
-    ensures row_activated_twice { OfDocuments (λ id. IsRefused 1 activated_twice (Decided 0 1 (ActiveOn lane 1))) }
-    ensures acknowledged_without_the_active_node { OfDocuments (λ id. IsRefused 1 (acked_without_active id) (Closed 1 (Acked stamp_one))) }
-    ensures deleting_replica_counts_as_keeper { OfDocuments (λ id. IsRefused 1 deleting_keeper (Decided 0 1 (DeleteFrom lane 0 1))) }
+    ensures condition_read_from_an_incomplete_replica { OfDocuments (λ id.
+        IsRefused 1 (incomplete_read id) (Prepared 1 lane 3)) }
+    ensures row_activated_twice { OfDocuments (λ id.
+        IsRefused 1 activated_twice (Decided 0 1 (ActiveOn lane 1))) }
+    ensures acknowledged_without_the_active_node { OfDocuments (λ id.
+        IsRefused 1 (acked_without_active id) (Closed 1 (Acked stamp_one))) }
+    ensures deleting_replica_counts_as_keeper { OfDocuments (λ id.
+        IsRefused 1 deleting_keeper (Decided 0 1 (DeleteFrom lane 0 1))) }
 {}
