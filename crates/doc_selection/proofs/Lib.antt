@@ -1,3 +1,4 @@
 pub mod Maps
 pub mod TermReading
 pub mod Reading
+pub mod Saying

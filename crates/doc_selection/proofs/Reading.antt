@@ -19,7 +19,7 @@ use Rattle.doc_selection.specs.Grammar.{IsSelection}
 use Rattle.doc_selection.specs.Parts.{terms, endings, selection_step, state_of}
 use Rattle.doc_selection.proofs.TermReading.{terms_read}
 
-reads : (types : Types) → Reads (selection_step types) (whole (terms types)) start (IsSelection types)
+pub reads : (types : Types) → Reads (selection_step types) (whole (terms types)) start (IsSelection types)
 reads types = conditions_read negation.Word (terms types) (IsTerm types) (terms_read types)
 
 pub takes_by : (types : Types) (x : Reader) (t : Token) (r : Result Reader Stop) → Goes state_of r (selection_step types (state_of x) t)

@@ -17,6 +17,7 @@
 //! ```
 #![tactic(auto)]
 
+pub mod laws;
 mod parts;
 mod reader;
 pub mod selection;

@@ -186,7 +186,7 @@ fn whole(reader: Reader, alloc: Global) -> Result<Selection, Stop>
     match operand(part, place) {
         Some(tree) => {
             let tree = whole_tree(alloc, frames, tree)?;
-            Ok(Selection::of(tree))
+            Ok(Selection::of(alloc, tree)?)
         }
         None => Err(Stop::Refused),
     }

@@ -1,13 +1,13 @@
 //! Operations on one document, and what nodes and distributors say to each other.
 //!
-//! A contract sees an `Operation` as a record of its id and its kind; `specs/Meaning.antt` says when an
-//! operation goes ahead (`goes_ahead`) and which document it leaves (`effect`). A `Message` is a record
-//! whose body is one of nine requests; `specs/Noting.antt` says how a journal names what it carries.
-//! Entries are shared by copies.
+//! A contract sees an `Operation` as a record of its id, its kind, its condition and whether it creates;
+//! `specs/Meaning.antt` says whether an operation goes ahead (`decide`) and which document it leaves
+//! (`effect`). A `Message` is a record whose body is one of nine requests; `specs/Noting.antt` says how a
+//! journal names what it carries. Entries are shared by copies.
 //!
 //! ```text
-//! let operation = Operation { id, kind: OpKind::Update(update) };
-//! operation.goes_ahead(None)                    // false: an update sees no document
+//! let operation = Operation { id, kind: OpKind::Update(update), condition: None, create: false };
+//! operation.decide(None)                        // Decided::DoesNothing: an update sees no document
 //! operation.effect(alloc, Some(&document))?     // the document with the update, or its fault
 //!
 //! let origin = Origin { version: 1, lane: 0, sender: 0 };
@@ -31,7 +31,7 @@ pub use decision::Decision;
 pub use lists::{BucketList, StampList};
 pub use message::{Message, Origin};
 pub use noted::{NotedBody, NotedReply};
-pub use operation::{OpKind, Operation};
+pub use operation::{Decided, OpKind, Operation};
 pub use outcome::Outcome;
 pub use reply::Reply;
 pub use step::{Job, NodePieces, Step};

@@ -1,7 +1,8 @@
 ghost use Rattle.std.specs.Prelude.{◌≡◌, ◌≢◌, Ok, Err, IfOk, IfErr, option_map};
 ghost use Rattle.doc_updates.specs.declared.fault.UpdateFault.TheVariants as reason;
-ghost use Rattle.messages.specs.Meaning.{or_empty, goes_ahead, updated_of, effect};
+ghost use Rattle.messages.specs.Meaning.{makes_one, is_met, decide_plain, decide_by, decide, or_empty, updated_of, effect};
 
+use doc_selection::Selection;
 use doc_updates::{Update, UpdateFault};
 use document_ids::DocId;
 use documents::Document;
@@ -37,6 +38,35 @@ impl TryCopy for OpKind {
 pub struct Operation {
     pub id: DocId,
     pub kind: OpKind,
+    /// Where it is there, the operation goes ahead only on a document of which it is true.
+    pub condition: Option<Selection>,
+    /// Whether a put or an update makes its document where there is none. A put without a condition
+    /// does so in any case.
+    pub create: bool,
+}
+
+/// What becomes of an operation, by the document that it sees.
+#[derive(Clone, Copy, Debug, PartialEq, Eq)]
+pub enum Decided {
+    /// It has its effect.
+    GoesAhead,
+    /// Its condition isn't true of the document, or there is no document for it.
+    ConditionFails,
+    /// It is an update without a document to change.
+    DoesNothing,
+}
+
+/// A copy of what may be a condition.
+fn copy_condition(
+    alloc: Global,
+    condition: &Option<Selection>,
+) -> Result<Option<Selection>, NoMemory>
+    ensures { IfOk result (λ copy. copy ≡ condition.now) }
+{
+    match condition {
+        Some(condition) => Ok(Some(condition.copy(alloc)?)),
+        None => Ok(None),
+    }
 }
 
 impl TryCopy for Operation {
@@ -44,6 +74,8 @@ impl TryCopy for Operation {
         Ok(Operation {
             id: self.id.copy(alloc)?,
             kind: self.kind.copy(alloc)?,
+            condition: copy_condition(alloc, &self.condition)?,
+            create: self.create,
         })
     }
 }
@@ -72,15 +104,50 @@ fn updated_of(
     Ok(Some(update.apply(alloc, &document)?))
 }
 
+/// Whether an operation makes a document where there is none.
+fn makes_one(kind: &OpKind, create: bool) -> bool
+    ensures { result ≡ makes_one kind.now create }
+{
+    match kind {
+        OpKind::Put(_) | OpKind::Update(_) => create,
+        OpKind::Remove | OpKind::Get => false,
+    }
+}
+
+/// Whether an operation meets its condition.
+fn is_met(condition: &Selection, kind: &OpKind, create: bool, seen: Option<&Document>) -> bool
+    ensures { result ≡ is_met condition.now kind.now create (option_map (λ d. d.now) seen.entry) }
+{
+    match seen {
+        Some(document) => condition.holds(document),
+        None => makes_one(kind, create),
+    }
+}
+
+/// What becomes of an operation without a condition.
+fn decide_plain(kind: &OpKind, create: bool, seen: Option<&Document>) -> Decided
+    ensures { result ≡ decide_plain kind.now create (option_map (λ d. d.now) seen.entry) }
+{
+    match (kind, seen) {
+        (OpKind::Update(_), None) if !create => Decided::DoesNothing,
+        _ => Decided::GoesAhead,
+    }
+}
+
 impl Operation {
-    /// Whether the operation does anything where it sees this document, or none: all do but an update
-    /// that sees none. Takes no memory.
-    pub fn goes_ahead(&self, seen: Option<&Document>) -> bool
-        ensures { result ≡ goes_ahead self.now.kind (option_map (λ d. d.now) seen.entry) }
+    /// What becomes of the operation where it sees this document, or none; takes no memory.
+    pub fn decide(&self, seen: Option<&Document>) -> Decided
+        ensures { result ≡ decide self.now (option_map (λ d. d.now) seen.entry) }
     {
-        match (&self.kind, seen) {
-            (OpKind::Update(_), None) => false,
-            _ => true,
+        match &self.condition {
+            None => decide_plain(&self.kind, self.create, seen),
+            Some(condition) => {
+                if is_met(condition, &self.kind, self.create, seen) {
+                    Decided::GoesAhead
+                } else {
+                    Decided::ConditionFails
+                }
+            }
         }
     }
 

@@ -14,6 +14,9 @@ pub enum Outcome {
     Found { stamp: Stamp },
     /// There is no document; what was seen instead, if anything, is the remove of this stamp.
     Missing { seen: Option<Stamp> },
+    /// The condition isn't true of the document that was seen, or no document was; the newest entry that
+    /// was seen, if any, has this stamp.
+    ConditionFailed { seen: Option<Stamp> },
     /// The document that was seen can't have the update, for this fault.
     BadUpdate { fault: UpdateFault },
 }
@@ -25,6 +28,7 @@ impl TryCopy for Outcome {
             Outcome::Nothing { seen } => Ok(Outcome::Nothing { seen: *seen }),
             Outcome::Found { stamp } => Ok(Outcome::Found { stamp: *stamp }),
             Outcome::Missing { seen } => Ok(Outcome::Missing { seen: *seen }),
+            Outcome::ConditionFailed { seen } => Ok(Outcome::ConditionFailed { seen: *seen }),
             Outcome::BadUpdate { fault } => Ok(Outcome::BadUpdate {
                 fault: fault.copy(alloc)?,
             }),
