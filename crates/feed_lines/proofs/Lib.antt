@@ -1,3 +1,4 @@
 pub mod TextLaws
 pub mod LineTests
 pub mod LineLaws
+pub mod CauseOrder

@@ -1,5 +1,5 @@
 -- What lines are puts, updates, removes and gets.
-use Rattle.std.proofs.Common.{◌≡◌, ℕ, ◌≤◌, ◌&&◌, true, false, not, List, Option, Some, is_some, Ok, refl, sym, ap, subst, ◌∙◌, nat_lt, arith}
+use Rattle.std.proofs.Common.{◌≡◌, ℕ, ◌≤◌, ◌&&◌, Bool, true, false, not, List, Option, Some, is_some, Ok, refl, sym, ap, subst, ◌∙◌, nat_lt, arith}
 use Rattle.std.proofs.lemmas.Bool.Decides.{nat_tests}
 use Rattle.serde_json.specs.Data.{Data, object}
 use Rattle.doc_types.specs.SchemaCodes.{Types}
@@ -8,15 +8,18 @@ use Rattle.documents.specs.Fields.{Contents}
 use Rattle.documents.specs.Json.{fields_in}
 use Rattle.documents.specs.Sizes.{largest, size_of}
 use Rattle.doc_updates.specs.Updates as update
+use Rattle.conditions.specs.Formulas.{Formula}
+use Rattle.doc_selection.specs.declared.terms.Term.{Term}
+use Rattle.messages.specs.declared.operation.Operation.{Operation}
 use Rattle.messages.specs.declared.operation.OpKind.{OpKind}
 use Rattle.messages.specs.declared.operation.OpKind.TheVariants as kind
 use Rattle.feed_lines.specs.Lines.{IsLine, IsPut, IsUpdate}
-use Rattle.feed_lines.specs.Meaning.{kind_in, command_in, data_said}
-use Rattle.feed_lines.specs.Tests.{fields_of, said_in, kinds_for}
+use Rattle.feed_lines.specs.Meaning.{kind_in, create_in, operation_in, data_said}
+use Rattle.feed_lines.specs.Tests.{Beside, beside_of, condition_in, said_in, kinds_for}
 use Rattle.feed_lines.specs.declared.command.Command.TheVariants as command
 use Rattle.feed_lines.specs.declared.keys.Verb.{Verb}
 use Rattle.feed_lines.specs.declared.keys.Verb.TheVariants as verb
-use Rattle.feed_lines.proofs.LineTests.{Meets, means, said, object_from, left, right, off, none}
+use Rattle.feed_lines.proofs.LineTests.{Meets, means, said, condition_is, create_is, object_from, left, right, off, none}
 
 not_over : (k : ℕ) → nat_lt largest k ≡ false → k ≤ largest
 not_over k h = grind (arith, nat_tests)
@@ -24,58 +27,75 @@ not_over k h = grind (arith, nat_tests)
 not_more : (k : ℕ) → k ≤ largest → nat_lt largest k ≡ false
 not_more k le = grind (arith, nat_tests)
 
--- a command's id and kind
-same_id : (types : Types) (v : Verb) (i id : List ℕ) (f : Option Data) (k : OpKind) → command_in types v i f ≡ command.Feed (record { id = id; kind = k }) → i ≡ id
-same_id types v i id f k h = ap (λ o. o.id) (operation _ _ h)
-  where
-    operation : (a b : Rattle.messages.specs.declared.operation.Operation.Operation) → command.Feed a ≡ command.Feed b → a ≡ b
-    operation a b e = cc
+-- a command's operation
+abbrev operation : List ℕ → OpKind → Option (Formula Term) → Bool → Operation
+operation id k c e = record { id = id; kind = k; condition = c; create = e }
 
-same_kind : (types : Types) (v : Verb) (i id : List ℕ) (f : Option Data) (k : OpKind) → command_in types v i f ≡ command.Feed (record { id = id; kind = k }) → kind_in types v i f ≡ k
-same_kind types v i id f k h = ap (λ o. o.kind) (operation _ _ h)
-  where
-    operation : (a b : Rattle.messages.specs.declared.operation.Operation.Operation) → command.Feed a ≡ command.Feed b → a ≡ b
-    operation a b e = cc
+one_operation : (a b : Operation) → command.Feed a ≡ command.Feed b → a ≡ b
+one_operation a b e = cc
 
-pub means_put : (types : Types) (d : Data) (id : List ℕ) (document : Contents) → IsPut types d id document → data_said types d ≡ Ok (command.Feed (record { id = id; kind = kind.Put document }))
-means_put types d id document p =
-    means types verb.Put d id (Some (object p.said)) (record {
+-- a line that meets all tests says this operation
+says : (types : Types) (v : Verb) (d : Data) (id : List ℕ) (b : Beside) (k : OpKind) (c : Option (Formula Term)) (e : Bool) → IsLine types v d id c e → Meets types v d id b
+    → b.condition ≡ (beside_of d).condition → b.create ≡ (beside_of d).create → kind_in types v id b.fields ≡ k → data_said types d ≡ Ok (command.Feed (operation id k c e))
+says types v d id b k c e line m same_condition same_create is =
+    means types v d id b m ∙ ap (λ o. Ok (command.Feed o)) (same _ _ _ _ _ _ is (ap (condition_in types) same_condition ∙ condition_is types v d id c e line) (ap create_in same_create ∙ create_is types v d id c e line))
+  where
+    same : (k l : OpKind) (c f : Option (Formula Term)) (e g : Bool) → k ≡ l → c ≡ f → e ≡ g → operation id k c e ≡ operation id l f g
+    same k l c f e g p q r = rw (p, q, r) refl
+
+with_same : (types : Types) (v : Verb) (d : Data) (id : List ℕ) (c : Option (Formula Term)) (e : Bool) → IsLine types v d id c e
+    → IsLine types v d id (condition_in types (beside_of d).condition) (create_in (beside_of d).create)
+with_same types v d id c e line =
+    subst (λ x. IsLine types v d id x (create_in (beside_of d).create)) (sym (condition_is types v d id c e line))
+    (subst (λ y. IsLine types v d id c y) (sym (create_is types v d id c e line)) line)
+
+abbrev with_fields : Data → Option Data → Beside
+with_fields d f = record { fields = f; condition = (beside_of d).condition; create = (beside_of d).create }
+
+pub means_put : (types : Types) (d : Data) (id : List ℕ) (document : Contents) (c : Option (Formula Term)) (e : Bool) → IsPut types d id document c e
+    → data_said types d ≡ Ok (command.Feed (record { id = id; kind = kind.Put document; condition = c; create = e }))
+means_put types d id document c e p =
+    says types verb.Put d id (with_fields d (Some (object p.said))) (kind.Put document) c e p.line (record {
       verb_built = refl;
       wanted = refl;
-      line = p.line;
-      there = p.fields;
+      line = with_same types verb.Put d id c e p.line;
+      there = ap (with_fields d) p.fields;
       known = ap (λ o. not (is_some o)) p.known;
       values = ap (λ o. true && not (is_some o)) p.right;
       size = ap not (not_more _ p.small);
-    })
-    ∙ ap (λ x. Ok (command.Feed (record { id = id; kind = kind.Put x }))) (sym p.content)
+    }) refl refl (ap kind.Put (sym p.content))
 
-pub means_update : (types : Types) (d : Data) (id : List ℕ) (changes : update.Changes) → IsUpdate types d id changes → data_said types d ≡ Ok (command.Feed (record { id = id; kind = kind.Update changes }))
-means_update types d id changes p =
-    means types verb.Update d id (Some (object p.said)) (record {
+pub means_update : (types : Types) (d : Data) (id : List ℕ) (changes : update.Changes) (c : Option (Formula Term)) (e : Bool) → IsUpdate types d id changes c e
+    → data_said types d ≡ Ok (command.Feed (record { id = id; kind = kind.Update changes; condition = c; create = e }))
+means_update types d id changes c e p =
+    says types verb.Update d id (with_fields d (Some (object p.said))) (kind.Update changes) c e p.line (record {
       verb_built = refl;
       wanted = refl;
-      line = p.line;
-      there = p.fields;
+      line = with_same types verb.Update d id c e p.line;
+      there = ap (with_fields d) p.fields;
       known = ap (λ o. not (is_some o)) p.known;
       values = ap (λ o. true && not (is_some o)) p.right;
       size = refl;
-    })
-    ∙ ap (λ x. Ok (command.Feed (record { id = id; kind = kind.Update x }))) (sym p.content)
+    }) refl refl (ap kind.Update (sym p.content))
 
-pub means_remove : (types : Types) (d : Data) (id : List ℕ) → IsLine types verb.Remove d id → data_said types d ≡ Ok (command.Feed (record { id = id; kind = kind.Remove }))
-means_remove types d id p = means types verb.Remove d id (fields_of d) (record { verb_built = refl; wanted = refl; line = p; there = refl; known = refl; values = refl; size = refl })
+pub means_remove : (types : Types) (d : Data) (id : List ℕ) (c : Option (Formula Term)) (e : Bool) → IsLine types verb.Remove d id c e
+    → data_said types d ≡ Ok (command.Feed (record { id = id; kind = kind.Remove; condition = c; create = e }))
+means_remove types d id c e p = says types verb.Remove d id (beside_of d) kind.Remove c e p
+    (record { verb_built = refl; wanted = refl; line = with_same types verb.Remove d id c e p; there = refl; known = refl; values = refl; size = refl }) refl refl refl
 
-pub means_get : (types : Types) (d : Data) (id : List ℕ) → IsLine types verb.Get d id → data_said types d ≡ Ok (command.Feed (record { id = id; kind = kind.Get }))
-means_get types d id p = means types verb.Get d id (fields_of d) (record { verb_built = refl; wanted = refl; line = p; there = refl; known = refl; values = refl; size = refl })
+pub means_get : (types : Types) (d : Data) (id : List ℕ) (c : Option (Formula Term)) (e : Bool) → IsLine types verb.Get d id c e
+    → data_said types d ≡ Ok (command.Feed (record { id = id; kind = kind.Get; condition = c; create = e }))
+means_get types d id c e p = says types verb.Get d id (beside_of d) kind.Get c e p
+    (record { verb_built = refl; wanted = refl; line = with_same types verb.Get d id c e p; there = refl; known = refl; values = refl; size = refl }) refl refl refl
 
-put_from : (types : Types) (d : Data) (i : List ℕ) (f : Option Data) (document : Contents) → Meets types verb.Put d i f → kind_in types verb.Put i f ≡ kind.Put document → IsPut types d i document
-put_from types d i f document m k =
-    let found = object_from f (left _ _ m.values) in
+put_from : (types : Types) (d : Data) (i : List ℕ) (b : Beside) (document : Contents) → Meets types verb.Put d i b → kind_in types verb.Put i b.fields ≡ kind.Put document
+    → IsPut types d i document (condition_in types b.condition) (create_in b.create)
+put_from types d i b document m k =
+    let found = object_from b.fields (left _ _ m.values) in
     record {
       line = m.line;
       said = found.0;
-      fields = m.there ∙ found.1;
+      fields = ap (λ x. x.fields) m.there ∙ found.1;
       known = none _ (subst (λ f. not (is_some (first_name (is_unknown (kinds_for types i)) (said_in f))) ≡ true) found.1 m.known);
       right = none _ (subst (λ f. not (is_some (first_name (is_wrong (kinds_for types i)) (said_in f))) ≡ true) found.1 (right _ _ m.values));
       small = not_over _ (off _ (subst (λ f. not (nat_lt largest (size_of (fields_in (kinds_for types i) (said_in f)))) ≡ true) found.1 m.size));
@@ -85,13 +105,14 @@ put_from types d i f document m k =
     content : (a b : Contents) → kind.Put b ≡ kind.Put a → a ≡ b
     content a b e = cc
 
-update_from : (types : Types) (d : Data) (i : List ℕ) (f : Option Data) (changes : update.Changes) → Meets types verb.Update d i f → kind_in types verb.Update i f ≡ kind.Update changes → IsUpdate types d i changes
-update_from types d i f changes m k =
-    let found = object_from f (left _ _ m.values) in
+update_from : (types : Types) (d : Data) (i : List ℕ) (b : Beside) (changes : update.Changes) → Meets types verb.Update d i b → kind_in types verb.Update i b.fields ≡ kind.Update changes
+    → IsUpdate types d i changes (condition_in types b.condition) (create_in b.create)
+update_from types d i b changes m k =
+    let found = object_from b.fields (left _ _ m.values) in
     record {
       line = m.line;
       said = found.0;
-      fields = m.there ∙ found.1;
+      fields = ap (λ x. x.fields) m.there ∙ found.1;
       known = none _ (subst (λ f. not (is_some (first_name (is_unknown (kinds_for types i)) (said_in f))) ≡ true) found.1 m.known);
       right = none _ (subst (λ f. not (is_some (first_name (update.is_wrong (kinds_for types i)) (said_in f))) ≡ true) found.1 (right _ _ m.values));
       content = content changes _ k ∙ ap (λ f. update.changes_in (kinds_for types i) (said_in f)) found.1;
@@ -100,50 +121,62 @@ update_from types d i f changes m k =
     content : (a b : update.Changes) → kind.Update b ≡ kind.Update a → a ≡ b
     content a b e = cc
 
-put_by : (types : Types) (d : Data) (v : Verb) (i : List ℕ) (f : Option Data) (document : Contents) → Meets types v d i f → kind_in types v i f ≡ kind.Put document → IsPut types d i document
-put_by types d verb.Put i f document m k = put_from types d i f document m k
-put_by types d verb.Update i f document m k = cc
-put_by types d verb.Remove i f document m k = cc
-put_by types d verb.Get i f document m k = cc
-put_by types d verb.Later i f document m k = cc
+put_by : (types : Types) (d : Data) (v : Verb) (i : List ℕ) (b : Beside) (document : Contents) → Meets types v d i b → kind_in types v i b.fields ≡ kind.Put document
+    → IsPut types d i document (condition_in types b.condition) (create_in b.create)
+put_by types d verb.Put i b document m k = put_from types d i b document m k
+put_by types d verb.Update i b document m k = cc
+put_by types d verb.Remove i b document m k = cc
+put_by types d verb.Get i b document m k = cc
+put_by types d verb.Later i b document m k = cc
 
-update_by : (types : Types) (d : Data) (v : Verb) (i : List ℕ) (f : Option Data) (changes : update.Changes) → Meets types v d i f → kind_in types v i f ≡ kind.Update changes → IsUpdate types d i changes
-update_by types d verb.Put i f changes m k = cc
-update_by types d verb.Update i f changes m k = update_from types d i f changes m k
-update_by types d verb.Remove i f changes m k = cc
-update_by types d verb.Get i f changes m k = cc
-update_by types d verb.Later i f changes m k = cc
+update_by : (types : Types) (d : Data) (v : Verb) (i : List ℕ) (b : Beside) (changes : update.Changes) → Meets types v d i b → kind_in types v i b.fields ≡ kind.Update changes
+    → IsUpdate types d i changes (condition_in types b.condition) (create_in b.create)
+update_by types d verb.Put i b changes m k = cc
+update_by types d verb.Update i b changes m k = update_from types d i b changes m k
+update_by types d verb.Remove i b changes m k = cc
+update_by types d verb.Get i b changes m k = cc
+update_by types d verb.Later i b changes m k = cc
 
-remove_by : (types : Types) (d : Data) (v : Verb) (i : List ℕ) (f : Option Data) → Meets types v d i f → kind_in types v i f ≡ kind.Remove → IsLine types verb.Remove d i
-remove_by types d verb.Put i f m k = cc
-remove_by types d verb.Update i f m k = cc
-remove_by types d verb.Remove i f m k = m.line
-remove_by types d verb.Get i f m k = cc
-remove_by types d verb.Later i f m k = cc
+remove_by : (types : Types) (d : Data) (v : Verb) (i : List ℕ) (b : Beside) → Meets types v d i b → kind_in types v i b.fields ≡ kind.Remove
+    → IsLine types verb.Remove d i (condition_in types b.condition) (create_in b.create)
+remove_by types d verb.Put i b m k = cc
+remove_by types d verb.Update i b m k = cc
+remove_by types d verb.Remove i b m k = m.line
+remove_by types d verb.Get i b m k = cc
+remove_by types d verb.Later i b m k = cc
 
-get_by : (types : Types) (d : Data) (v : Verb) (i : List ℕ) (f : Option Data) → Meets types v d i f → kind_in types v i f ≡ kind.Get → IsLine types verb.Get d i
-get_by types d verb.Put i f m k = cc
-get_by types d verb.Update i f m k = cc
-get_by types d verb.Remove i f m k = cc
-get_by types d verb.Get i f m k = m.line
-get_by types d verb.Later i f m k = let b = m.verb_built in cc
+get_by : (types : Types) (d : Data) (v : Verb) (i : List ℕ) (b : Beside) → Meets types v d i b → kind_in types v i b.fields ≡ kind.Get
+    → IsLine types verb.Get d i (condition_in types b.condition) (create_in b.create)
+get_by types d verb.Put i b m k = cc
+get_by types d verb.Update i b m k = cc
+get_by types d verb.Remove i b m k = cc
+get_by types d verb.Get i b m k = m.line
+get_by types d verb.Later i b m k = let h = m.verb_built in cc
 
-pub put_means : (types : Types) (d : Data) (id : List ℕ) (document : Contents) → data_said types d ≡ Ok (command.Feed (record { id = id; kind = kind.Put document })) → IsPut types d id document
-put_means types d id document h =
+pub put_means : (types : Types) (d : Data) (id : List ℕ) (document : Contents) (c : Option (Formula Term)) (e : Bool)
+    → data_said types d ≡ Ok (command.Feed (record { id = id; kind = kind.Put document; condition = c; create = e })) → IsPut types d id document c e
+put_means types d id document c e h =
     let s = said types d _ h in
-    subst (λ i. IsPut types d i document) (same_id types s.v s.id id s.fields _ s.command) (put_by types d s.v s.id s.fields document s.holds (same_kind types s.v s.id id s.fields _ s.command))
+    let same = one_operation (operation_in types s.v s.id s.beside) (operation id (kind.Put document) c e) s.command in
+    subst (λ o. IsPut types d o.id document o.condition o.create) same (put_by types d s.v s.id s.beside document s.holds (ap (λ o. o.kind) same))
 
-pub update_means : (types : Types) (d : Data) (id : List ℕ) (changes : update.Changes) → data_said types d ≡ Ok (command.Feed (record { id = id; kind = kind.Update changes })) → IsUpdate types d id changes
-update_means types d id changes h =
+pub update_means : (types : Types) (d : Data) (id : List ℕ) (changes : update.Changes) (c : Option (Formula Term)) (e : Bool)
+    → data_said types d ≡ Ok (command.Feed (record { id = id; kind = kind.Update changes; condition = c; create = e })) → IsUpdate types d id changes c e
+update_means types d id changes c e h =
     let s = said types d _ h in
-    subst (λ i. IsUpdate types d i changes) (same_id types s.v s.id id s.fields _ s.command) (update_by types d s.v s.id s.fields changes s.holds (same_kind types s.v s.id id s.fields _ s.command))
+    let same = one_operation (operation_in types s.v s.id s.beside) (operation id (kind.Update changes) c e) s.command in
+    subst (λ o. IsUpdate types d o.id changes o.condition o.create) same (update_by types d s.v s.id s.beside changes s.holds (ap (λ o. o.kind) same))
 
-pub remove_means : (types : Types) (d : Data) (id : List ℕ) → data_said types d ≡ Ok (command.Feed (record { id = id; kind = kind.Remove })) → IsLine types verb.Remove d id
-remove_means types d id h =
+pub remove_means : (types : Types) (d : Data) (id : List ℕ) (c : Option (Formula Term)) (e : Bool)
+    → data_said types d ≡ Ok (command.Feed (record { id = id; kind = kind.Remove; condition = c; create = e })) → IsLine types verb.Remove d id c e
+remove_means types d id c e h =
     let s = said types d _ h in
-    subst (λ i. IsLine types verb.Remove d i) (same_id types s.v s.id id s.fields _ s.command) (remove_by types d s.v s.id s.fields s.holds (same_kind types s.v s.id id s.fields _ s.command))
+    let same = one_operation (operation_in types s.v s.id s.beside) (operation id kind.Remove c e) s.command in
+    subst (λ o. IsLine types verb.Remove d o.id o.condition o.create) same (remove_by types d s.v s.id s.beside s.holds (ap (λ o. o.kind) same))
 
-pub get_means : (types : Types) (d : Data) (id : List ℕ) → data_said types d ≡ Ok (command.Feed (record { id = id; kind = kind.Get })) → IsLine types verb.Get d id
-get_means types d id h =
+pub get_means : (types : Types) (d : Data) (id : List ℕ) (c : Option (Formula Term)) (e : Bool)
+    → data_said types d ≡ Ok (command.Feed (record { id = id; kind = kind.Get; condition = c; create = e })) → IsLine types verb.Get d id c e
+get_means types d id c e h =
     let s = said types d _ h in
-    subst (λ i. IsLine types verb.Get d i) (same_id types s.v s.id id s.fields _ s.command) (get_by types d s.v s.id s.fields s.holds (same_kind types s.v s.id id s.fields _ s.command))
+    let same = one_operation (operation_in types s.v s.id s.beside) (operation id kind.Get c e) s.command in
+    subst (λ o. IsLine types verb.Get d o.id o.condition o.create) same (get_by types d s.v s.id s.beside s.holds (ap (λ o. o.kind) same))

@@ -1,13 +1,16 @@
 -- A line's tests, one by one.
-use Rattle.std.proofs.Common.{◌≡◌, ℕ, ◌&&◌, Bool, true, false, not, cond, List, [], ◌∷◌, Option, Some, None, is_some, is_ok, option_and_then, Ok, refl, sym, ap, ap₂, ◌∙◌}
+use Rattle.std.proofs.Common.{◌≡◌, ℕ, ◌&&◌, Bool, true, false, not, cond, List, [], ◌∷◌, Option, Some, None, is_some, is_ok, option_and_then, Ok, refl, sym, ap, ap₂, subst, ◌∙◌}
 use Rattle.serde_json.specs.Data.{Data, null, boolean, number, string, array, object, Members}
-use Rattle.serde_json.specs.Find.{get, as_str}
+use Rattle.serde_json.specs.Find.{get, as_str, as_bool}
 use Rattle.doc_types.specs.SchemaCodes.{Types}
 use Rattle.document_ids.specs.Parts.{parts_of}
 use Rattle.feed_lines.specs.Keys.{name_of}
-use Rattle.feed_lines.specs.Lines.{IsLine}
-use Rattle.feed_lines.specs.Meaning.{command_in, answer_by, verb_said, data_said}
-use Rattle.feed_lines.specs.Tests.{first_cause, verb_of, is_built_verb, is_built, fields_of, has_wanted, has_right_keys, as_id, id_in, has_type, is_object_in, has_fields, has_values, has_size, text_of, tests}
+use Rattle.conditions.specs.Formulas.{Formula}
+use Rattle.doc_selection.specs.Saying.{selection_in}
+use Rattle.doc_selection.specs.declared.terms.Term.{Term}
+use Rattle.feed_lines.specs.Lines.{SaysCondition, SaysCreate, IsLine}
+use Rattle.feed_lines.specs.Meaning.{command_in, create_in, or_false, answer_by, verb_said, data_said}
+use Rattle.feed_lines.specs.Tests.{first_cause, verb_of, is_built_verb, is_built, Beside, beside_of, has_wanted, has_right_keys, as_id, id_in, has_type, is_object_in, has_fields, has_values, has_size, is_text_if, is_truth_if, has_options, condition_in, has_condition, text_of, tests}
 use Rattle.feed_lines.specs.declared.command.Cause.{Cause}
 use Rattle.feed_lines.specs.declared.command.Cause.TheVariants as cause
 use Rattle.feed_lines.specs.declared.command.Command.{Command}
@@ -37,15 +40,59 @@ others_hold : (b : Bool) (c : Cause) (ts : List (Bool × Cause)) → first_cause
 others_hold true c ts h = h
 others_hold false c ts h = cc
 
--- what all tests of a line say, and the fields that stand there
-pub record Meets (types : Types) (v : Verb) (d : Data) (id : List ℕ) (fields : Option Data) : Type 0 where
+-- what all tests of a line say, and what stands beside its verb
+pub record Meets (types : Types) (v : Verb) (d : Data) (id : List ℕ) (b : Beside) : Type 0 where
   pub verb_built : is_built_verb v ≡ true
-  pub wanted : has_wanted v fields ≡ true
-  pub line : IsLine types v d id
-  pub there : fields_of d ≡ fields
-  pub known : has_fields types v id fields ≡ true
-  pub values : has_values types v id fields ≡ true
-  pub size : has_size types v id fields ≡ true
+  pub wanted : has_wanted v b.fields ≡ true
+  pub line : IsLine types v d id (condition_in types b.condition) (create_in b.create)
+  pub there : beside_of d ≡ b
+  pub known : has_fields types v id b.fields ≡ true
+  pub values : has_values types v id b.fields ≡ true
+  pub size : has_size types v id b.fields ≡ true
+
+-- what `condition` and `create` say
+says_text : (types : Types) (text : List ℕ) (o : Option (Formula Term)) → selection_in types text ≡ o → is_some o ≡ true → SaysCondition types (Some (string text)) o
+says_text types text None e h = cc
+says_text types text (Some f) e h = (text, (refl, e))
+
+says_condition : (types : Types) (o : Option Data) → is_text_if o ≡ true → has_condition types o ≡ true → SaysCondition types o (condition_in types o)
+says_condition types None t h = refl
+says_condition types (Some null) t h = cc
+says_condition types (Some (boolean b)) t h = cc
+says_condition types (Some (number n)) t h = cc
+says_condition types (Some (string text)) t h = says_text types text (selection_in types text) refl h
+says_condition types (Some (array ds)) t h = cc
+says_condition types (Some (object ms)) t h = cc
+
+-- and back
+record CanSay (types : Types) (o : Option Data) (condition : Option (Formula Term)) : Type 0 where
+  pub text : is_text_if o ≡ true
+  pub selection : has_condition types o ≡ true
+  pub same : condition_in types o ≡ condition
+
+can_say : (types : Types) (o : Option Data) (c : Option (Formula Term)) → SaysCondition types o c → CanSay types o c
+can_say types o None h = subst (λ x. CanSay types x None) (sym h) (record { text = refl; selection = refl; same = refl })
+can_say types o (Some f) h = subst (λ x. CanSay types x (Some f)) (sym h.1.0) (record { text = refl; selection = ap is_some h.1.1; same = h.1.1 })
+
+says_create : (o : Option Data) → is_truth_if o ≡ true → SaysCreate o (create_in o)
+says_create None h = refl
+says_create (Some null) h = cc
+says_create (Some (boolean b)) h = refl
+says_create (Some (number n)) h = cc
+says_create (Some (string s)) h = cc
+says_create (Some (array ds)) h = cc
+says_create (Some (object ms)) h = cc
+
+can_create : (o : Option Data) (create : Bool) → SaysCreate o create → (is_truth_if o ≡ true) × (create_in o ≡ create)
+can_create None create h = (refl, sym h)
+can_create (Some d) create h = (ap (λ x. is_some (as_bool x)) h, ap (λ x. or_false (as_bool x)) h)
+
+-- what a line's condition and `create` are
+pub condition_is : (types : Types) (v : Verb) (d : Data) (id : List ℕ) (c : Option (Formula Term)) (e : Bool) → IsLine types v d id c e → condition_in types (beside_of d).condition ≡ c
+condition_is types v d id c e line = (can_say types (beside_of d).condition c line.says_condition).same
+
+pub create_is : (types : Types) (v : Verb) (d : Data) (id : List ℕ) (c : Option (Formula Term)) (e : Bool) → IsLine types v d id c e → create_in (beside_of d).create ≡ e
+create_is types v d id c e line = (can_create (beside_of d).create e line.says_create).1
 
 id_back : (o : Option Data) (id : List ℕ) → as_id (option_and_then as_str o) ≡ Some id → (o ≡ Some (string id)) × (is_ok (parts_of id) ≡ true)
 id_back None id h = cc
@@ -72,73 +119,80 @@ some_from : {X : Type 0} (o : Option X) → is_some o ≡ true → (x : X) × (o
 some_from None h = cc
 some_from (Some x) h = (x, refl)
 
-each_holds : (a b c e f g h : Bool) (p q r s t u w : Cause) → first_cause ((a, p) ∷ (b, q) ∷ (c, r) ∷ (e, s) ∷ (f, t) ∷ (g, u) ∷ (h, w) ∷ []) ≡ None
-    → (a ≡ true) × (b ≡ true) × (c ≡ true) × (e ≡ true) × (f ≡ true) × (g ≡ true) × (h ≡ true)
-each_holds a b c e f g h p q r s t u w all =
-    let h1 = others_hold a p ((b, q) ∷ (c, r) ∷ (e, s) ∷ (f, t) ∷ (g, u) ∷ (h, w) ∷ []) all in
-    let h2 = others_hold b q ((c, r) ∷ (e, s) ∷ (f, t) ∷ (g, u) ∷ (h, w) ∷ []) h1 in
-    let h3 = others_hold c r ((e, s) ∷ (f, t) ∷ (g, u) ∷ (h, w) ∷ []) h2 in
-    let h4 = others_hold e s ((f, t) ∷ (g, u) ∷ (h, w) ∷ []) h3 in
-    let h5 = others_hold f t ((g, u) ∷ (h, w) ∷ []) h4 in
-    let h6 = others_hold g u ((h, w) ∷ []) h5 in (
-      first_holds a p ((b, q) ∷ (c, r) ∷ (e, s) ∷ (f, t) ∷ (g, u) ∷ (h, w) ∷ []) all,
-      first_holds b q ((c, r) ∷ (e, s) ∷ (f, t) ∷ (g, u) ∷ (h, w) ∷ []) h1,
-      first_holds c r ((e, s) ∷ (f, t) ∷ (g, u) ∷ (h, w) ∷ []) h2,
-      first_holds e s ((f, t) ∷ (g, u) ∷ (h, w) ∷ []) h3,
-      first_holds f t ((g, u) ∷ (h, w) ∷ []) h4,
-      first_holds g u ((h, w) ∷ []) h5,
-      first_holds h w ([]) h6,
+each_holds : (a b c e f g h i : Bool) (p q r s t u w x : Cause) → first_cause ((a, p) ∷ (b, q) ∷ (c, r) ∷ (e, s) ∷ (f, t) ∷ (g, u) ∷ (h, w) ∷ (i, x) ∷ []) ≡ None
+    → (a ≡ true) × (b ≡ true) × (c ≡ true) × (e ≡ true) × (f ≡ true) × (g ≡ true) × (h ≡ true) × (i ≡ true)
+each_holds a b c e f g h i p q r s t u w x all =
+    let h1 = others_hold a p ((b, q) ∷ (c, r) ∷ (e, s) ∷ (f, t) ∷ (g, u) ∷ (h, w) ∷ (i, x) ∷ []) all in
+    let h2 = others_hold b q ((c, r) ∷ (e, s) ∷ (f, t) ∷ (g, u) ∷ (h, w) ∷ (i, x) ∷ []) h1 in
+    let h3 = others_hold c r ((e, s) ∷ (f, t) ∷ (g, u) ∷ (h, w) ∷ (i, x) ∷ []) h2 in
+    let h4 = others_hold e s ((f, t) ∷ (g, u) ∷ (h, w) ∷ (i, x) ∷ []) h3 in
+    let h5 = others_hold f t ((g, u) ∷ (h, w) ∷ (i, x) ∷ []) h4 in
+    let h6 = others_hold g u ((h, w) ∷ (i, x) ∷ []) h5 in
+    let h7 = others_hold h w ((i, x) ∷ []) h6 in (
+      first_holds a p ((b, q) ∷ (c, r) ∷ (e, s) ∷ (f, t) ∷ (g, u) ∷ (h, w) ∷ (i, x) ∷ []) all,
+      first_holds b q ((c, r) ∷ (e, s) ∷ (f, t) ∷ (g, u) ∷ (h, w) ∷ (i, x) ∷ []) h1,
+      first_holds c r ((e, s) ∷ (f, t) ∷ (g, u) ∷ (h, w) ∷ (i, x) ∷ []) h2,
+      first_holds e s ((f, t) ∷ (g, u) ∷ (h, w) ∷ (i, x) ∷ []) h3,
+      first_holds f t ((g, u) ∷ (h, w) ∷ (i, x) ∷ []) h4,
+      first_holds g u ((h, w) ∷ (i, x) ∷ []) h5,
+      first_holds h w ((i, x) ∷ []) h6,
+      first_holds i x ([]) h7,
     )
 
 -- the tests all hold, so each does
-pub meets : (types : Types) (v : Verb) (d : Data) → verb_of d ≡ Some v → first_cause (tests types v d) ≡ None → Meets types v d (text_of (id_in v d)) (fields_of d)
+pub meets : (types : Types) (v : Verb) (d : Data) → verb_of d ≡ Some v → first_cause (tests types v d) ≡ None → Meets types v d (text_of (id_in v d)) (beside_of d)
 meets types v d verb h =
-    let each = each_holds (is_built v d) (has_right_keys v d) (is_some (id_in v d)) (has_type types (text_of (id_in v d))) (has_fields types v (text_of (id_in v d)) (fields_of d))
-    (has_values types v (text_of (id_in v d)) (fields_of d)) (has_size types v (text_of (id_in v d)) (fields_of d)) cause.Unbuilt cause.Key cause.Id cause.Type cause.Field cause.Value cause.Size h in
-    let built = each.0 in
-    let keys = each.1 in
+    let b = beside_of d in
+    let id = text_of (id_in v d) in
+    let each = each_holds (is_built v d) (has_right_keys v d) (is_some (id_in v d)) (has_type types id) (has_fields types v id b.fields)
+    (has_values types v id b.fields && has_options b) (has_size types v id b.fields) (has_condition types b.condition)
+    cause.Unbuilt cause.Key cause.Id cause.Type cause.Field cause.Value cause.Size cause.Condition h in
     let some = some_from (id_in v d) each.2 in
-    let typed = each.3 in
-    let known = each.4 in
-    let values = each.5 in
-    let size = each.6 in
     let text = ap text_of some.1 in
-    let id = id_from v d some.0 some.1 in
+    let from = id_from v d some.0 some.1 in
+    let options = right _ _ each.5 in
     record {
-      verb_built = left _ _ built;
-      wanted = right _ _ keys;
+      verb_built = left _ _ each.0;
+      wanted = right _ _ each.1;
       line = record {
         verb = verb;
-        built = off _ (right _ _ built);
-        keys = left _ _ keys;
-        text = id.0 ∙ ap (λ t. Some (string t)) (sym text);
-        is_id = ap (λ t. is_ok (parts_of t)) text ∙ id.1;
-        typed = typed;
+        built = off _ (right _ _ each.0);
+        keys = left _ _ each.1;
+        text = from.0 ∙ ap (λ t. Some (string t)) (sym text);
+        is_id = ap (λ t. is_ok (parts_of t)) text ∙ from.1;
+        typed = each.3;
+        says_condition = says_condition types b.condition (left _ _ options) each.7;
+        says_create = says_create b.create (right _ _ options);
       };
       there = refl;
-      known = known;
-      values = values;
-      size = size;
+      known = each.4;
+      values = left _ _ each.5;
+      size = each.6;
     }
 
-all_hold : (a b c e f g h : Bool) (p q r s t u w : Cause) → a ≡ true → b ≡ true → c ≡ true → e ≡ true → f ≡ true → g ≡ true → h ≡ true
-    → first_cause ((a, p) ∷ (b, q) ∷ (c, r) ∷ (e, s) ∷ (f, t) ∷ (g, u) ∷ (h, w) ∷ []) ≡ None
-all_hold a b c e f g h p q r s t u w ha hb hc he hf hg hh = rw (ha, hb, hc, he, hf, hg, hh) refl
+all_hold : (a b c e f g h i : Bool) (p q r s t u w x : Cause) → a ≡ true → b ≡ true → c ≡ true → e ≡ true → f ≡ true → g ≡ true → h ≡ true → i ≡ true
+    → first_cause ((a, p) ∷ (b, q) ∷ (c, r) ∷ (e, s) ∷ (f, t) ∷ (g, u) ∷ (h, w) ∷ (i, x) ∷ []) ≡ None
+all_hold a b c e f g h i p q r s t u w x ha hb hc he hf hg hh hi = rw (ha, hb, hc, he, hf, hg, hh, hi) refl
 
 -- each test holds, so the line says its command
-pub means : (types : Types) (v : Verb) (d : Data) (id : List ℕ) (fields : Option Data) → Meets types v d id fields → data_said types d ≡ Ok (command_in types v id fields)
-means types v d id fields m =
+pub means : (types : Types) (v : Verb) (d : Data) (id : List ℕ) (b : Beside) → Meets types v d id b → data_said types d ≡ Ok (command_in types v id b)
+means types v d id b m =
     let i = id_is v d id m.line.text m.line.is_id in
-    let all = all_hold (is_built v d) (has_right_keys v d) (is_some (id_in v d)) (has_type types (text_of (id_in v d))) (has_fields types v (text_of (id_in v d)) (fields_of d))
-    (has_values types v (text_of (id_in v d)) (fields_of d)) (has_size types v (text_of (id_in v d)) (fields_of d)) _ _ _ _ _ _ _
+    let own = beside_of d in
+    let said = can_say types own.condition (condition_in types b.condition) m.line.says_condition in
+    let made = can_create own.create (create_in b.create) m.line.says_create in
+    let all = all_hold (is_built v d) (has_right_keys v d) (is_some (id_in v d)) (has_type types (text_of (id_in v d))) (has_fields types v (text_of (id_in v d)) own.fields)
+    (has_values types v (text_of (id_in v d)) own.fields && has_options own) (has_size types v (text_of (id_in v d)) own.fields) (has_condition types own.condition)
+    _ _ _ _ _ _ _ _
     (ap₂ (λ a b. a && not b) m.verb_built m.line.built)
-    (ap₂ (λ a f. a && has_wanted v f) m.line.keys m.there ∙ m.wanted)
+    (ap₂ (λ a f. a && has_wanted v f.fields) m.line.keys m.there ∙ m.wanted)
     (ap is_some i)
     (ap (λ o. has_type types (text_of o)) i ∙ m.line.typed)
-    (ap₂ (λ o f. has_fields types v (text_of o) f) i m.there ∙ m.known)
-    (ap₂ (λ o f. has_values types v (text_of o) f) i m.there ∙ m.values)
-    (ap₂ (λ o f. has_size types v (text_of o) f) i m.there ∙ m.size) in
-    ap (verb_said types d) m.line.verb ∙ ap (λ c. answer_by c (command_in types v (text_of (id_in v d)) (fields_of d))) all
+    (ap₂ (λ o f. has_fields types v (text_of o) f.fields) i m.there ∙ m.known)
+    (ap₂ (λ x y. x && y) (ap₂ (λ o f. has_values types v (text_of o) f.fields) i m.there ∙ m.values) (ap₂ (λ x y. x && y) said.text made.0))
+    (ap₂ (λ o f. has_size types v (text_of o) f.fields) i m.there ∙ m.size)
+    said.selection in
+    ap (verb_said types d) m.line.verb ∙ ap (λ c. answer_by c (command_in types v (text_of (id_in v d)) own)) all
     ∙ ap₂ (λ o f. Ok (command_in types v (text_of o) f)) i m.there
 
 no_cause : (o : Option Cause) (x c : Command) → answer_by o x ≡ Ok c → (o ≡ None) × (x ≡ c)
@@ -149,15 +203,15 @@ no_cause (Some why) x c h = cc
 pub record Said (types : Types) (d : Data) (c : Command) : Type 0 where
   pub v : Verb
   pub id : List ℕ
-  pub fields : Option Data
-  pub holds : Meets types v d id fields
-  pub command : command_in types v id fields ≡ c
+  pub beside : Beside
+  pub holds : Meets types v d id beside
+  pub command : command_in types v id beside ≡ c
 
 said_by : (types : Types) (d : Data) (c : Command) (o : Option Verb) → verb_of d ≡ o → verb_said types d o ≡ Ok c → Said types d c
 said_by types d c None verb h = cc
 said_by types d c (Some v) verb h =
     let found = no_cause (first_cause (tests types v d)) _ c h in
-    record { v = v; id = text_of (id_in v d); fields = fields_of d; holds = meets types v d verb found.0; command = found.1 }
+    record { v = v; id = text_of (id_in v d); beside = beside_of d; holds = meets types v d verb found.0; command = found.1 }
 
 pub said : (types : Types) (d : Data) (c : Command) → data_said types d ≡ Ok c → Said types d c
 said types d c h = said_by types d c (verb_of d) refl h

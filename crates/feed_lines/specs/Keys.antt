@@ -35,7 +35,7 @@ only_verb ms = alone (verbs_in ms)
 
 -- the keys that aren't built yet
 unfoldable pub is_later_key : List ℕ → Bool
-is_later_key key = bytes_eq key (codes "condition") || bytes_eq key (codes "create") || bytes_eq key (codes "via") || bytes_eq key (codes "deaf")
+is_later_key key = bytes_eq key (codes "via") || bytes_eq key (codes "deaf")
 
 abbrev pub has_later_key : Members → Bool
 has_later_key no_members = false
@@ -49,11 +49,15 @@ name_of verb.Remove = codes "remove"
 name_of verb.Get = codes "get"
 name_of verb.Later = []
 
--- a put and an update have `fields` beside the verb, a remove and a get the verb alone
+abbrev pub stands_beside_fields : List ℕ → Bool
+stands_beside_fields key = bytes_eq key (codes "fields") || bytes_eq key (codes "condition") || bytes_eq key (codes "create")
+
+-- a put and an update have `fields` beside the verb and may have `condition` and `create`, a remove may have
+-- `condition`, and a get has the verb alone
 unfoldable pub may_stand : Verb → List ℕ → Bool
-may_stand verb.Put key = bytes_eq key (codes "put") || bytes_eq key (codes "fields")
-may_stand verb.Update key = bytes_eq key (codes "update") || bytes_eq key (codes "fields")
-may_stand verb.Remove key = bytes_eq key (codes "remove")
+may_stand verb.Put key = bytes_eq key (codes "put") || stands_beside_fields key
+may_stand verb.Update key = bytes_eq key (codes "update") || stands_beside_fields key
+may_stand verb.Remove key = bytes_eq key (codes "remove") || bytes_eq key (codes "condition")
 may_stand verb.Get key = bytes_eq key (codes "get")
 may_stand verb.Later key = true
 

@@ -1,6 +1,6 @@
 -- What lines are puts, updates, removes and gets, each in one record.
-use Rattle.std.specs.Prelude.{◌≡◌, ◌≤◌, ℕ, true, false, List, codes, Some, None, is_ok}
-use Rattle.serde_json.specs.Data.{Data, Members, string, object}
+use Rattle.std.specs.Prelude.{◌≡◌, ◌≤◌, ℕ, Bool, true, false, List, codes, Option, Some, None, is_ok}
+use Rattle.serde_json.specs.Data.{Data, Members, boolean, string, object}
 use Rattle.serde_json.specs.Find.{get}
 use Rattle.doc_types.specs.SchemaCodes.{Types}
 use Rattle.document_ids.specs.Parts.{parts_of}
@@ -9,24 +9,39 @@ use Rattle.documents.specs.Fields.{Contents}
 use Rattle.documents.specs.Json.{fields_in}
 use Rattle.documents.specs.Sizes.{largest, size_of}
 use Rattle.doc_updates.specs.Updates as update
+use Rattle.conditions.specs.Formulas.{Formula}
+use Rattle.doc_selection.specs.Saying.{selection_in}
+use Rattle.doc_selection.specs.declared.terms.Term.{Term}
 use Rattle.feed_lines.specs.Keys.{has_later_key, name_of, all_stand}
 use Rattle.feed_lines.specs.Tests.{members_of, verb_of, has_type, kinds_for}
 use Rattle.feed_lines.specs.declared.keys.Verb.{Verb}
 use Rattle.feed_lines.specs.declared.keys.Verb.TheVariants as verb
 
--- an object with this verb alone, no key that isn't built or isn't the verb's, and as the verb's value the text of
--- a document id whose type the schema has
-pub record IsLine (types : Types) (v : Verb) (d : Data) (id : List ℕ) : Type 0 where
+-- the value of `condition`, if it is there, is a text that says this selection
+abbrev pub SaysCondition : Types → Option Data → Option (Formula Term) → Type 0
+SaysCondition types said None = said ≡ None
+SaysCondition types said (Some condition) = (text : List ℕ) × ((said ≡ Some (string text)) × (selection_in types text ≡ Some condition))
+
+-- the value of `create`, if it is there, is this truth value; where it isn't there, it is false
+abbrev pub SaysCreate : Option Data → Bool → Type 0
+SaysCreate None create = create ≡ false
+SaysCreate (Some d) create = d ≡ boolean create
+
+-- an object with this verb alone, no key that isn't built or isn't the verb's, as the verb's value the text of
+-- a document id whose type the schema has, and a condition and a truth value that are right where they are there
+pub record IsLine (types : Types) (v : Verb) (d : Data) (id : List ℕ) (condition : Option (Formula Term)) (create : Bool) : Type 0 where
   pub verb : verb_of d ≡ Some v
   pub built : has_later_key (members_of d) ≡ false
   pub keys : all_stand v (members_of d) ≡ true
   pub text : get (name_of v) d ≡ Some (string id)
   pub is_id : is_ok (parts_of id) ≡ true
   pub typed : has_type types id ≡ true
+  pub says_condition : SaysCondition types (get (codes "condition") d) condition
+  pub says_create : SaysCreate (get (codes "create") d) create
 
 -- such a line with the fields of a document, each known and right, which together aren't too large
-pub record IsPut (types : Types) (d : Data) (id : List ℕ) (document : Contents) : Type 0 where
-  pub line : IsLine types verb.Put d id
+pub record IsPut (types : Types) (d : Data) (id : List ℕ) (document : Contents) (condition : Option (Formula Term)) (create : Bool) : Type 0 where
+  pub line : IsLine types verb.Put d id condition create
   pub said : Members
   pub fields : get (codes "fields") d ≡ Some (object said)
   pub known : first_name (is_unknown (kinds_for types id)) said ≡ None
@@ -35,8 +50,8 @@ pub record IsPut (types : Types) (d : Data) (id : List ℕ) (document : Contents
   pub content : document ≡ record { id = id; fields = fields_in (kinds_for types id) said }
 
 -- such a line with changes of fields, each known and right
-pub record IsUpdate (types : Types) (d : Data) (id : List ℕ) (changes : update.Changes) : Type 0 where
-  pub line : IsLine types verb.Update d id
+pub record IsUpdate (types : Types) (d : Data) (id : List ℕ) (changes : update.Changes) (condition : Option (Formula Term)) (create : Bool) : Type 0 where
+  pub line : IsLine types verb.Update d id condition create
   pub said : Members
   pub fields : get (codes "fields") d ≡ Some (object said)
   pub known : first_name (is_unknown (kinds_for types id)) said ≡ None

@@ -1,17 +1,22 @@
 -- What a line asks for, or its cause.
-use Rattle.std.specs.Prelude.{◌==◌, ◌&&◌, ◌||◌, ◌≡◌, ℕ, Bool, List, length, Option, Some, None, Result, Ok, Err, nat_le, if◌then◌else◌}
+use Rattle.std.specs.Prelude.{◌==◌, ◌&&◌, ◌||◌, ◌≡◌, ℕ, Bool, true, false, List, length, Option, Some, None, Result, Ok, Err, nat_le, if◌then◌else◌}
 use Rattle.std.specs.List.{list_all}
 use Rattle.std.specs.Str.{is_utf8}
 use Rattle.serde_json.specs.Data.{Data}
+use Rattle.serde_json.specs.Find.{as_str, as_bool}
 use Rattle.serde_json.specs.Read.{read}
 use Rattle.doc_types.specs.SchemaCodes.{Types}
 use Rattle.documents.specs.Json.{fields_in}
 use Rattle.documents.specs.declared.fault.DocumentFault.{DocumentFault}
 use Rattle.documents.specs.declared.fault.DocumentFault.TheVariants as reason
 use Rattle.doc_updates.specs.Updates.{changes_in}
+use Rattle.conditions.specs.Formulas.{Formula}
+use Rattle.doc_selection.specs.Saying.{selection_in}
+use Rattle.doc_selection.specs.declared.terms.Term.{Term}
+use Rattle.messages.specs.declared.operation.Operation.{Operation}
 use Rattle.messages.specs.declared.operation.OpKind.{OpKind}
 use Rattle.messages.specs.declared.operation.OpKind.TheVariants as kind
-use Rattle.feed_lines.specs.Tests.{first_cause, verb_of, id_in, fields_of, said_in, kinds_for, id_tests, text_of, tests}
+use Rattle.feed_lines.specs.Tests.{first_cause, verb_of, id_in, Beside, beside_of, said_in, kinds_for, condition_in, kind_tests, id_tests, text_of, tests}
 use Rattle.feed_lines.specs.declared.command.Cause.{Cause}
 use Rattle.feed_lines.specs.declared.command.Cause.TheVariants as cause
 use Rattle.feed_lines.specs.declared.command.Command.{Command}
@@ -40,19 +45,60 @@ kind_in types verb.Remove id fields = kind.Remove
 kind_in types verb.Get id fields = kind.Get
 kind_in types verb.Later id fields = kind.Get
 
-abbrev pub command_in : Types → Verb → List ℕ → Option Data → Command
-command_in types v id fields = command.Feed (record { id = id; kind = kind_in types v id fields })
+abbrev pub or_false : Option Bool → Bool
+or_false None = false
+or_false (Some b) = b
 
-abbrev pub answer_by : Option Cause → Command → Result Command Cause
+abbrev pub create_in : Option Data → Bool
+create_in None = false
+create_in (Some d) = or_false (as_bool d)
+
+abbrev pub operation_in : Types → Verb → List ℕ → Beside → Operation
+operation_in types v id b = record { id = id; kind = kind_in types v id b.fields; condition = condition_in types b.condition; create = create_in b.create }
+
+abbrev pub command_in : Types → Verb → List ℕ → Beside → Command
+command_in types v id b = command.Feed (operation_in types v id b)
+
+abbrev pub answer_by : {A : Type 0} → Option Cause → A → Result A Cause
 answer_by None c = Ok c
 answer_by (Some why) c = Err why
 
-abbrev pub id_said : Types → Verb → List ℕ → Option Data → Result Command Cause
-id_said types v id fields = answer_by (first_cause (id_tests types v id fields)) (command_in types v id fields)
+-- what the fields say
+abbrev pub kind_said : Types → Verb → List ℕ → Option Data → Result OpKind Cause
+kind_said types v id fields = answer_by (first_cause (kind_tests types v id fields)) (kind_in types v id fields)
+
+-- what the condition says
+abbrev pub condition_by : Option (Formula Term) → Result (Option (Formula Term)) Cause
+condition_by None = Err cause.Condition
+condition_by (Some formula) = Ok (Some formula)
+
+abbrev pub text_condition : Types → Option (List ℕ) → Result (Option (Formula Term)) Cause
+text_condition types None = Err cause.Condition
+text_condition types (Some text) = condition_by (selection_in types text)
+
+abbrev pub condition_said : Types → Option Data → Result (Option (Formula Term)) Cause
+condition_said types None = Ok None
+condition_said types (Some d) = text_condition types (as_str d)
+
+-- a wrong `condition` or `create` comes before the size
+abbrev pub before_size : Cause → Cause
+before_size cause.Size = cause.Value
+before_size why = why
+
+abbrev pub cause_by : Bool → Cause → Cause
+cause_by true why = why
+cause_by false why = before_size why
+
+abbrev pub fault_by : Bool → LineFault → LineFault
+fault_by right (fault.BadLine why) = fault.BadLine (cause_by right why)
+fault_by right fault.NoMemory = fault.NoMemory
+
+abbrev pub id_said : Types → Verb → List ℕ → Beside → Result Command Cause
+id_said types v id b = answer_by (first_cause (id_tests types v id b)) (command_in types v id b)
 
 abbrev pub verb_said : Types → Data → Option Verb → Result Command Cause
 verb_said types d None = Err cause.Object
-verb_said types d (Some v) = answer_by (first_cause (tests types v d)) (command_in types v (text_of (id_in v d)) (fields_of d))
+verb_said types d (Some v) = answer_by (first_cause (tests types v d)) (command_in types v (text_of (id_in v d)) (beside_of d))
 
 abbrev pub data_said : Types → Data → Result Command Cause
 data_said types d = verb_said types d (verb_of d)
@@ -69,7 +115,7 @@ unfoldable pub line_said : Types → List ℕ → Result Command Cause
 line_said types bytes = if is_blank_line bytes then Ok command.Blank else text_said types bytes
 
 -- an answer of a call is what is said; want of memory alone is free
-abbrev pub Gives : Result Command LineFault → Result Command Cause → Type 0
+abbrev pub Gives : {A : Type 0} → Result A LineFault → Result A Cause → Type 0
 Gives (Ok c) said = said ≡ Ok c
 Gives (Err (fault.BadLine why)) said = said ≡ Err why
 Gives (Err fault.NoMemory) said = Unit {0}

@@ -2,7 +2,7 @@
 use Rattle.std.specs.Prelude.{◌&&◌, ℕ, Bool, true, false, not, List, [], ◌∷◌, codes, Option, Some, None, is_some, is_ok, option_and_then, nat_lt, if◌then◌else◌}
 use Rattle.std.specs.FinMap as fin
 use Rattle.serde_json.specs.Data.{Data, Members, no_members}
-use Rattle.serde_json.specs.Find.{get, as_object, as_str}
+use Rattle.serde_json.specs.Find.{get, as_object, as_str, as_bool}
 use Rattle.doc_types.specs.SchemaCodes.{Types}
 use Rattle.doc_types.specs.Schemas.{members_in}
 use Rattle.document_ids.specs.Parts.{parts_of, type_of}
@@ -10,6 +10,9 @@ use Rattle.documents.specs.Faults.{first_name, is_unknown, is_wrong}
 use Rattle.documents.specs.Json.{Kinds, kinds_of, fields_in}
 use Rattle.documents.specs.Sizes.{largest, size_of}
 use Rattle.doc_updates.specs.Updates as update
+use Rattle.conditions.specs.Formulas.{Formula}
+use Rattle.doc_selection.specs.Saying.{selection_in}
+use Rattle.doc_selection.specs.declared.terms.Term.{Term}
 use Rattle.feed_lines.specs.Keys.{only_verb, has_later_key, name_of, all_stand}
 use Rattle.feed_lines.specs.declared.command.Cause.{Cause}
 use Rattle.feed_lines.specs.declared.command.Cause.TheVariants as cause
@@ -106,10 +109,47 @@ has_size types verb.Remove id fields = true
 has_size types verb.Get id fields = true
 has_size types verb.Later id fields = true
 
+-- what stands beside the verb
+pub record Beside : Type 0 where
+  pub fields : Option Data
+  pub condition : Option Data
+  pub create : Option Data
+
+abbrev pub beside_of : Data → Beside
+beside_of d = record { fields = fields_of d; condition = get (codes "condition") d; create = get (codes "create") d }
+
+abbrev pub is_text_if : Option Data → Bool
+is_text_if None = true
+is_text_if (Some d) = is_some (as_str d)
+
+abbrev pub is_truth_if : Option Data → Bool
+is_truth_if None = true
+is_truth_if (Some d) = is_some (as_bool d)
+
+-- where they are there, `condition` is a text and `create` a truth value
+abbrev pub has_options : Beside → Bool
+has_options b = is_text_if b.condition && is_truth_if b.create
+
+-- the selection that `condition` says
+abbrev pub condition_in : Types → Option Data → Option (Formula Term)
+condition_in types None = None
+condition_in types (Some d) = option_and_then (selection_in types) (as_str d)
+
+-- where it is there, the text of `condition` is a selection
+abbrev pub has_condition : Types → Option Data → Bool
+has_condition types None = true
+has_condition types (Some d) = is_some (option_and_then (selection_in types) (as_str d))
+
 -- what the id and the fields have to meet
-abbrev pub id_tests : Types → Verb → List ℕ → Option Data → List (Bool × Cause)
-id_tests types v id fields = (has_type types id, cause.Type) ∷ (has_fields types v id fields, cause.Field) ∷ (has_values types v id fields, cause.Value)
+abbrev pub kind_tests : Types → Verb → List ℕ → Option Data → List (Bool × Cause)
+kind_tests types v id fields = (has_type types id, cause.Type) ∷ (has_fields types v id fields, cause.Field) ∷ (has_values types v id fields, cause.Value)
     ∷ (has_size types v id fields, cause.Size) ∷ []
+
+-- what the id and all that stands beside the verb have to meet
+abbrev pub id_tests : Types → Verb → List ℕ → Beside → List (Bool × Cause)
+id_tests types v id b = (has_type types id, cause.Type) ∷ (has_fields types v id b.fields, cause.Field)
+    ∷ (has_values types v id b.fields && has_options b, cause.Value) ∷ (has_size types v id b.fields, cause.Size)
+    ∷ (has_condition types b.condition, cause.Condition) ∷ []
 
 abbrev pub text_of : Option (List ℕ) → List ℕ
 text_of None = []
@@ -118,4 +158,4 @@ text_of (Some text) = text
 -- what a line of a verb has to meet
 abbrev pub tests : Types → Verb → Data → List (Bool × Cause)
 tests types v d = (is_built v d, cause.Unbuilt) ∷ (has_right_keys v d, cause.Key) ∷ (is_some (id_in v d), cause.Id)
-    ∷ id_tests types v (text_of (id_in v d)) (fields_of d)
+    ∷ id_tests types v (text_of (id_in v d)) (beside_of d)

@@ -32,10 +32,12 @@ pub enum Cause {
     Type,
     /// A name in `fields` isn't a field of the type.
     Field,
-    /// `fields`, or one of its values, has the wrong form, kind or range.
+    /// `fields`, one of its values, `condition` or `create` has the wrong form, kind or range.
     Value,
     /// The document would have more than 65,536 bytes.
     Size,
+    /// The text of `condition` is no selection under the schema.
+    Condition,
 }
 
 /// Why a line gives no command.

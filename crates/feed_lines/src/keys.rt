@@ -1,6 +1,6 @@
 ghost use Rattle.std.specs.Prelude.{◌≡◌};
 ghost use Rattle.serde_json.specs.View.{members_view};
-ghost use Rattle.feed_lines.specs.Keys.{is_later_verb, verb_named, only_verb, is_later_key, has_later_key, may_stand, all_stand, name_of};
+ghost use Rattle.feed_lines.specs.Keys.{is_later_verb, verb_named, only_verb, is_later_key, has_later_key, stands_beside_fields, may_stand, all_stand, name_of};
 
 use serde_json::{Map, Value};
 
@@ -68,7 +68,7 @@ pub fn only_verb(members: &Map<String, Value>) -> Option<Verb>
 fn is_later_key(key: &str) -> bool
     ensures { result ≡ is_later_key key.now }
 {
-    key == "condition" || key == "create" || key == "via" || key == "deaf"
+    key == "via" || key == "deaf"
 }
 
 /// Whether an object has a key of lines that aren't built yet.
@@ -96,15 +96,22 @@ pub fn name_of(verb: Verb) -> &'static str
     }
 }
 
+/// Whether a key may stand beside a put and an update.
+fn stands_beside_fields(key: &str) -> bool
+    ensures { result ≡ stands_beside_fields key.now }
+{
+    key == "fields" || key == "condition" || key == "create"
+}
+
 /// Whether a key may stand in a line of a verb.
 #[tactic(auto, unfolding(crate::specs::Keys::may_stand))]
 fn may_stand(verb: Verb, key: &str) -> bool
     ensures { result ≡ may_stand verb key.now }
 {
     match verb {
-        Verb::Put => key == "put" || key == "fields",
-        Verb::Update => key == "update" || key == "fields",
-        Verb::Remove => key == "remove",
+        Verb::Put => key == "put" || stands_beside_fields(key),
+        Verb::Update => key == "update" || stands_beside_fields(key),
+        Verb::Remove => key == "remove" || key == "condition",
         Verb::Get => key == "get",
         Verb::Later => true,
     }

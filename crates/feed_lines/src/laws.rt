@@ -1,10 +1,12 @@
 //! Laws of lines; no function here does anything.
 
-ghost use Rattle.std.specs.Prelude.{◌≡◌, ◌↔◌, ℕ, List, Ok};
+ghost use Rattle.std.specs.Prelude.{◌≡◌, ◌↔◌, ℕ, Bool, List, Option, Ok};
 ghost use Rattle.serde_json.specs.Data.{Data};
 ghost use Rattle.doc_types.specs.SchemaCodes.{Types};
 ghost use Rattle.documents.specs.Fields.{Contents};
 ghost use Rattle.doc_updates.specs.Updates.{Changes};
+ghost use Rattle.conditions.specs.Formulas.{Formula};
+ghost use Rattle.doc_selection.specs.declared.terms.Term.{Term};
 ghost use Rattle.messages.specs.declared.operation.OpKind.TheVariants as kind;
 ghost use Rattle.feed_lines.specs.Lines.{IsLine, IsPut, IsUpdate};
 ghost use Rattle.feed_lines.specs.Meaning.{data_said};
@@ -13,12 +15,16 @@ ghost use Rattle.feed_lines.specs.declared.keys.Verb.TheVariants as verb;
 
 /// A line asks for an operation exactly where all that its verb wants holds of it.
 pub fn lines_are_operations()
-    ensures put { (types : Types) (d : Data) (id : List ℕ) (document : Contents)
-        → (data_said types d ≡ Ok (command.Feed (record { id = id; kind = kind.Put document }))) ↔ IsPut types d id document }
-    ensures update { (types : Types) (d : Data) (id : List ℕ) (changes : Changes)
-        → (data_said types d ≡ Ok (command.Feed (record { id = id; kind = kind.Update changes }))) ↔ IsUpdate types d id changes }
-    ensures remove { (types : Types) (d : Data) (id : List ℕ)
-        → (data_said types d ≡ Ok (command.Feed (record { id = id; kind = kind.Remove }))) ↔ IsLine types verb.Remove d id }
-    ensures get { (types : Types) (d : Data) (id : List ℕ)
-        → (data_said types d ≡ Ok (command.Feed (record { id = id; kind = kind.Get }))) ↔ IsLine types verb.Get d id }
+    ensures put { (types : Types) (d : Data) (id : List ℕ) (document : Contents) (condition : Option (Formula Term)) (create : Bool)
+        → (data_said types d ≡ Ok (command.Feed (record { id = id; kind = kind.Put document; condition = condition; create = create })))
+        ↔ IsPut types d id document condition create }
+    ensures update { (types : Types) (d : Data) (id : List ℕ) (changes : Changes) (condition : Option (Formula Term)) (create : Bool)
+        → (data_said types d ≡ Ok (command.Feed (record { id = id; kind = kind.Update changes; condition = condition; create = create })))
+        ↔ IsUpdate types d id changes condition create }
+    ensures remove { (types : Types) (d : Data) (id : List ℕ) (condition : Option (Formula Term)) (create : Bool)
+        → (data_said types d ≡ Ok (command.Feed (record { id = id; kind = kind.Remove; condition = condition; create = create })))
+        ↔ IsLine types verb.Remove d id condition create }
+    ensures get { (types : Types) (d : Data) (id : List ℕ) (condition : Option (Formula Term)) (create : Bool)
+        → (data_said types d ≡ Ok (command.Feed (record { id = id; kind = kind.Get; condition = condition; create = create })))
+        ↔ IsLine types verb.Get d id condition create }
 {}

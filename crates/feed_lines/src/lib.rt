@@ -8,7 +8,8 @@
 //! ```text
 //! {"put":"id:ns:music:n=0:a","fields":{"title":"One","year":1990}}
 //! {"update":"id:ns:music:n=0:a","fields":{"year":{"increment":1}}}
-//! {"remove":"id:ns:music:n=0:a"}
+//! {"put":"id:ns:music:n=0:a","fields":{"year":2},"condition":"music.year == 1","create":true}
+//! {"remove":"id:ns:music:n=0:a","condition":"music.year < 1950"}
 //! {"get":"id:ns:music:n=0:a"}
 //! ```
 #![tactic(auto)]
@@ -16,6 +17,7 @@
 pub mod command;
 mod keys;
 pub mod laws;
+mod options;
 mod reading;
 mod shape;
 

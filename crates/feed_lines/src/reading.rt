@@ -3,15 +3,15 @@ ghost use Rattle.std.specs.List.{list_all};
 ghost use Rattle.serde_json.specs.Read.{read};
 ghost use Rattle.serde_json.specs.View.{view};
 ghost use Rattle.doc_types.specs.Schemas.{is_object};
-ghost use Rattle.feed_lines.specs.Meaning.{is_blank, is_blank_line, id_said, verb_said, data_said, json_said, text_said, line_said, Gives, cause_of};
-ghost use Rattle.feed_lines.specs.Tests.{has_type};
+ghost use Rattle.feed_lines.specs.Meaning.{is_blank, is_blank_line, kind_said, id_said, verb_said, data_said, json_said, text_said, line_said, Gives, cause_of};
+ghost use Rattle.feed_lines.specs.Tests.{has_type, beside_of};
 ghost use Rattle.feed_lines.specs.declared.command.Cause.TheVariants as cause;
-ghost use Rattle.feed_lines.specs.declared.command.Command.TheVariants as command;
 ghost use Rattle.feed_lines.specs.declared.command.LineFault.TheVariants as line_fault;
 ghost use Rattle.feed_lines.specs.declared.keys.Verb.TheVariants as verb;
 
 use crate::command::{Cause, Command, LineFault};
 use crate::keys::Verb;
+use crate::options::{condition_said, create_in, fault_by, has_options};
 use crate::shape::{has_right_keys, id_in, is_built, verb_of};
 use doc_types::Schema;
 use doc_updates::Update;
@@ -76,27 +76,18 @@ fn bad(cause: Cause) -> LineFault
     LineFault::BadLine { cause }
 }
 
-/// An operation on a document.
-fn feed(id: DocId, kind: OpKind) -> Command
-    ensures { result ≡ command.Feed (record { id = id; kind = kind }) }
-{
-    Command::Feed {
-        operation: Operation { id, kind },
-    }
-}
-
 /// The put of a document with the fields that an object says.
 fn put_object(
     alloc: Global,
-    id: DocId,
+    id: &DocId,
     fields: &Value,
     schema: &Schema,
-) -> Result<Command, LineFault>
+) -> Result<OpKind, LineFault>
     requires { is_object (view fields.now) ≡ true }
-    ensures { Gives result (id_said schema.now verb.Put id (Some (view fields.now))) }
+    ensures { Gives result (kind_said schema.now verb.Put id.now (Some (view fields.now))) }
 {
     match Document::from_json(alloc, id.copy(alloc)?, fields, schema) {
-        Ok(document) => Ok(feed(id, OpKind::Put(document))),
+        Ok(document) => Ok(OpKind::Put(document)),
         Err(fault) => Err(cause_of(fault)),
     }
 }
@@ -104,15 +95,15 @@ fn put_object(
 /// The update of a document by what an object says.
 fn update_object(
     alloc: Global,
-    id: DocId,
+    id: &DocId,
     fields: &Value,
     schema: &Schema,
-) -> Result<Command, LineFault>
+) -> Result<OpKind, LineFault>
     requires { is_object (view fields.now) ≡ true }
-    ensures { Gives result (id_said schema.now verb.Update id (Some (view fields.now))) }
+    ensures { Gives result (kind_said schema.now verb.Update id.now (Some (view fields.now))) }
 {
-    match Update::from_json(alloc, &id, fields, schema) {
-        Ok(update) => Ok(feed(id, OpKind::Update(update))),
+    match Update::from_json(alloc, id, fields, schema) {
+        Ok(update) => Ok(OpKind::Update(update)),
         Err(fault) => Err(cause_of(fault)),
     }
 }
@@ -120,14 +111,14 @@ fn update_object(
 /// The put of a document with these fields.
 fn put_value(
     alloc: Global,
-    id: DocId,
+    id: &DocId,
     fields: &Value,
     schema: &Schema,
-) -> Result<Command, LineFault>
-    ensures { Gives result (id_said schema.now verb.Put id (Some (view fields.now))) }
+) -> Result<OpKind, LineFault>
+    ensures { Gives result (kind_said schema.now verb.Put id.now (Some (view fields.now))) }
 {
     if !fields.is_object() {
-        return Err(bad(no_object(&id, schema)));
+        return Err(bad(no_object(id, schema)));
     }
     put_object(alloc, id, fields, schema)
 }
@@ -135,74 +126,108 @@ fn put_value(
 /// The update of a document by these fields.
 fn update_value(
     alloc: Global,
-    id: DocId,
+    id: &DocId,
     fields: &Value,
     schema: &Schema,
-) -> Result<Command, LineFault>
-    ensures { Gives result (id_said schema.now verb.Update id (Some (view fields.now))) }
+) -> Result<OpKind, LineFault>
+    ensures { Gives result (kind_said schema.now verb.Update id.now (Some (view fields.now))) }
 {
     if !fields.is_object() {
-        return Err(bad(no_object(&id, schema)));
+        return Err(bad(no_object(id, schema)));
     }
     update_object(alloc, id, fields, schema)
 }
 
 /// The put of a document, where there are fields.
-fn put_command(
+fn put_kind(
     alloc: Global,
-    id: DocId,
+    id: &DocId,
     fields: Option<&Value>,
     schema: &Schema,
-) -> Result<Command, LineFault>
-    ensures { Gives result (id_said schema.now verb.Put id (option_map (λ v. view v.now) fields.entry)) }
+) -> Result<OpKind, LineFault>
+    ensures { Gives result (kind_said schema.now verb.Put id.now (option_map (λ v. view v.now) fields.entry)) }
 {
     match fields {
         Some(fields) => put_value(alloc, id, fields, schema),
-        None => Err(bad(no_object(&id, schema))),
+        None => Err(bad(no_object(id, schema))),
     }
 }
 
 /// The update of a document, where there are fields.
-fn update_command(
+fn update_kind(
     alloc: Global,
-    id: DocId,
+    id: &DocId,
     fields: Option<&Value>,
     schema: &Schema,
-) -> Result<Command, LineFault>
-    ensures { Gives result (id_said schema.now verb.Update id (option_map (λ v. view v.now) fields.entry)) }
+) -> Result<OpKind, LineFault>
+    ensures { Gives result (kind_said schema.now verb.Update id.now (option_map (λ v. view v.now) fields.entry)) }
 {
     match fields {
         Some(fields) => update_value(alloc, id, fields, schema),
-        None => Err(bad(no_object(&id, schema))),
+        None => Err(bad(no_object(id, schema))),
     }
 }
 
-/// What is asked of a document of this id.
-fn id_command(
+/// What is done without fields with a document of a type of the schema.
+fn typed(id: &DocId, kind: OpKind, schema: &Schema) -> Result<OpKind, LineFault>
+    ensures { Gives result (if has_type schema.now id.now then Ok kind else Err cause.Type) }
+{
+    if !schema.has_type(id.type_name()) {
+        return Err(bad(Cause::Type));
+    }
+    Ok(kind)
+}
+
+/// What is done with a document of this id.
+fn kind_said(
     alloc: Global,
     verb: Verb,
-    id: DocId,
+    id: &DocId,
     fields: Option<&Value>,
     schema: &Schema,
-) -> Result<Command, LineFault>
-    ensures { Gives result (id_said schema.now verb id (option_map (λ v. view v.now) fields.entry)) }
+) -> Result<OpKind, LineFault>
+    ensures { Gives result (kind_said schema.now verb id.now (option_map (λ v. view v.now) fields.entry)) }
 {
     match verb {
-        Verb::Put => put_command(alloc, id, fields, schema),
-        Verb::Update => update_command(alloc, id, fields, schema),
+        Verb::Put => put_kind(alloc, id, fields, schema),
+        Verb::Update => update_kind(alloc, id, fields, schema),
         Verb::Remove => typed(id, OpKind::Remove, schema),
         Verb::Get | Verb::Later => typed(id, OpKind::Get, schema),
     }
 }
 
-/// An operation without fields on a document of a type of the schema.
-fn typed(id: DocId, kind: OpKind, schema: &Schema) -> Result<Command, LineFault>
-    ensures { Gives result (if has_type schema.now id then Ok (command.Feed (record { id = id; kind = kind })) else Err cause.Type) }
+/// What is asked of a document of this id. A wrong `condition` or `create` comes before the size of the
+/// document, and a condition that is no selection behind it.
+fn id_command(
+    alloc: Global,
+    verb: Verb,
+    id: DocId,
+    line: &Value,
+    schema: &Schema,
+) -> Result<Command, LineFault>
+    ensures { Gives result (id_said schema.now verb id (beside_of (view line.now))) }
 {
-    if !schema.has_type(id.type_name()) {
-        return Err(bad(Cause::Type));
+    let right = has_options(line);
+    let kind = match kind_said(alloc, verb, &id, line.get("fields"), schema) {
+        Ok(kind) => kind,
+        Err(fault) => return Err(fault_by(right, fault)),
+    };
+    if !right {
+        return Err(bad(Cause::Value));
     }
-    Ok(feed(id, kind))
+    let condition = match condition_said(alloc, line.get("condition"), schema) {
+        Ok(condition) => condition,
+        Err(fault) => return Err(fault),
+    };
+    let create = create_in(line.get("create"));
+    Ok(Command::Feed {
+        operation: Operation {
+            id,
+            kind,
+            condition,
+            create,
+        },
+    })
 }
 
 /// What a line of a verb asks for.
@@ -221,7 +246,7 @@ fn verb_command(
         return Err(bad(Cause::Key));
     }
     match id_in(alloc, verb, line)? {
-        Some(id) => id_command(alloc, verb, id, line.get("fields"), schema),
+        Some(id) => id_command(alloc, verb, id, line, schema),
         None => Err(bad(Cause::Id)),
     }
 }
