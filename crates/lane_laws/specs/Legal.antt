@@ -41,6 +41,7 @@ MayEnd J line (outcome.Acked stamp) = (entry : Entry) × ((wrote_in line J ≡ S
 MayEnd J line (outcome.Found stamp) = (wrote_in line J ≡ None) × ((entry : Entry) × (entry_at stamp J ≡ Some entry))
 MayEnd J line (outcome.Missing seen) = wrote_in line J ≡ None
 MayEnd J line (outcome.Nothing seen) = wrote_in line J ≡ None
+MayEnd J line (outcome.ConditionFailed seen) = wrote_in line J ≡ None
 MayEnd J line (outcome.BadUpdate fault) = wrote_in line J ≡ None
 
 -- a line that is begun closes once
