@@ -40,6 +40,9 @@ seen_of (Some stamp) = string (printed stamp)
 unfoldable pub missing_text : ℕ → Option Stamp → List ℕ
 missing_text line seen = line_text (with_result line (codes "missing") (member (codes "seen") (seen_of seen) no_members))
 
+unfoldable pub condition_failed_text : ℕ → Option Stamp → List ℕ
+condition_failed_text line seen = line_text (with_result line (codes "conditionfailed") (member (codes "seen") (seen_of seen) no_members))
+
 unfoldable pub nothing_text : ℕ → List ℕ
 nothing_text line = line_text (member (codes "found") (boolean false) (with_result line (codes "acked") no_members))
 
@@ -74,6 +77,7 @@ cause_text cause.Type = codes "type"
 cause_text cause.Field = codes "field"
 cause_text cause.Value = codes "value"
 cause_text cause.Size = codes "size"
+cause_text cause.Condition = codes "condition"
 
 unfoldable pub bad_line_text : ℕ → Cause → List ℕ
 bad_line_text line why = line_text (member (codes "cause") (string (cause_text why)) (with_result line (codes "badline") no_members))
@@ -84,6 +88,7 @@ report_text line (answer.Acked stamp) = acked_text line stamp
 report_text line (answer.Found id document stamp) = found_text line id document stamp
 report_text line (answer.Missing seen) = missing_text line seen
 report_text line answer.Nothing = nothing_text line
+report_text line (answer.ConditionFailed seen) = condition_failed_text line seen
 report_text line (answer.BadUpdate why) = bad_update_text line why
 report_text line (answer.BadLine why) = bad_line_text line why
 report_text line answer.TooLong = too_long_text line

@@ -23,6 +23,11 @@ pub enum Answer {
     },
     /// An update without a document to change; nothing is stored.
     Nothing,
+    /// The condition isn't true of the document, or there is none; the newest entry that was seen, if any,
+    /// has this stamp.
+    ConditionFailed {
+        seen: Option<Stamp>,
+    },
     /// The document can't have the update, for this fault.
     BadUpdate {
         fault: UpdateFault,

@@ -3,7 +3,7 @@ ghost use Rattle.serde_json.specs.Data.{string, number, boolean, unsigned, objec
 ghost use Rattle.serde_json.specs.View.{view};
 ghost use Rattle.serde_json.specs.Written.{has_float, compact_text};
 ghost use Rattle.stamps.specs.Printed.{printed};
-ghost use Rattle.reports.specs.ReportText.{line_text, with_result, fields_of, seen_of, acked_text, found_text, missing_text, nothing_text, field_fault_text, size_fault_text, no_memory_text, bad_update_text, too_long_text, cause_text, bad_line_text, report_text, usage_text};
+ghost use Rattle.reports.specs.ReportText.{line_text, with_result, fields_of, seen_of, acked_text, found_text, missing_text, condition_failed_text, nothing_text, field_fault_text, size_fault_text, no_memory_text, bad_update_text, too_long_text, cause_text, bad_line_text, report_text, usage_text};
 
 use crate::answer::Answer;
 use doc_updates::UpdateFault;
@@ -101,6 +101,26 @@ fn missing_report(alloc: Global, line: u32, seen: Option<Stamp>) -> Result<Vec<u
 {
     let seen = seen_value(alloc, seen)?;
     let value = missing_value(alloc, line, &seen)?;
+    line_of(alloc, &value)
+}
+
+fn condition_failed_value(alloc: Global, line: u32, seen: &Value) -> Result<Value, AllocError>
+    ensures { IfOk result (λ v. view v ≡ object (with_result line (codes "conditionfailed") (member (codes "seen") (view seen.now) no_members))) }
+{
+    json!(in alloc; {"line": line, "result": "conditionfailed", "seen": seen})
+}
+
+/// `{"line":3,"result":"conditionfailed","seen":"1:2"}`, with null where nothing was seen.
+#[tactic(auto, unfolding(crate::specs::ReportText::condition_failed_text, crate::specs::ReportText::line_text))]
+fn condition_failed_report(
+    alloc: Global,
+    line: u32,
+    seen: Option<Stamp>,
+) -> Result<Vec<u8>, NoMemory>
+    ensures { IfOk result (λ bytes. bytes.items ≡ condition_failed_text line seen) }
+{
+    let seen = seen_value(alloc, seen)?;
+    let value = condition_failed_value(alloc, line, &seen)?;
     line_of(alloc, &value)
 }
 
@@ -212,6 +232,7 @@ fn cause_text(cause: Cause) -> &'static str
         Cause::Field => "field",
         Cause::Value => "value",
         Cause::Size => "size",
+        Cause::Condition => "condition",
     }
 }
 
@@ -243,6 +264,7 @@ pub fn report(alloc: Global, line: u32, answer: &Answer) -> Result<Vec<u8>, NoMe
         } => found_report(alloc, line, id, document, *stamp),
         Answer::Missing { seen } => missing_report(alloc, line, *seen),
         Answer::Nothing => nothing_report(alloc, line),
+        Answer::ConditionFailed { seen } => condition_failed_report(alloc, line, *seen),
         Answer::BadUpdate { fault } => bad_update_report(alloc, line, fault),
         Answer::BadLine { cause } => bad_line_report(alloc, line, *cause),
         Answer::TooLong => too_long_report(alloc, line),
