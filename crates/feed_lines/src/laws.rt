@@ -1,6 +1,6 @@
 //! Laws of lines; no function here does anything.
 
-ghost use Rattle.std.specs.Prelude.{◌≡◌, ◌↔◌, ℕ, Bool, List, Option, Ok};
+ghost use Rattle.std.specs.Prelude.{◌≡◌, ◌↔◌, ℕ, Bool, false, List, Option, Ok, None};
 ghost use Rattle.serde_json.specs.Data.{Data};
 ghost use Rattle.doc_types.specs.SchemaCodes.{Types};
 ghost use Rattle.documents.specs.Fields.{Contents};
@@ -13,7 +13,8 @@ ghost use Rattle.feed_lines.specs.Meaning.{data_said};
 ghost use Rattle.feed_lines.specs.declared.command.Command.TheVariants as command;
 ghost use Rattle.feed_lines.specs.declared.keys.Verb.TheVariants as verb;
 
-/// A line asks for an operation exactly where all that its verb wants holds of it.
+/// A line asks for an operation exactly where all that its verb wants holds of it. A get has no condition
+/// and no `create`, and a remove no `create`.
 pub fn lines_are_operations()
     ensures put { (types : Types) (d : Data) (id : List ℕ) (document : Contents) (condition : Option (Formula Term)) (create : Bool)
         → (data_said types d ≡ Ok (command.Feed (record { id = id; kind = kind.Put document; condition = condition; create = create })))
@@ -27,4 +28,8 @@ pub fn lines_are_operations()
     ensures get { (types : Types) (d : Data) (id : List ℕ) (condition : Option (Formula Term)) (create : Bool)
         → (data_said types d ≡ Ok (command.Feed (record { id = id; kind = kind.Get; condition = condition; create = create })))
         ↔ IsLine types verb.Get d id condition create }
+    ensures bare_get { (types : Types) (d : Data) (id : List ℕ) (condition : Option (Formula Term)) (create : Bool)
+        → IsLine types verb.Get d id condition create → (condition ≡ None) × (create ≡ false) }
+    ensures bare_remove { (types : Types) (d : Data) (id : List ℕ) (condition : Option (Formula Term)) (create : Bool)
+        → IsLine types verb.Remove d id condition create → create ≡ false }
 {}
