@@ -75,6 +75,7 @@ seen_ends J k id (Some e) legal is none = body_ends J k e.stamp e.body none e (s
 drawn_ends : (J : Journal) (k : ℕ) (ending : Outcome) → IsDrawn ending → wrote_in k J ≡ None → MayEnd J k ending
 drawn_ends J k (outcome.Acked t) h none = absurd h
 drawn_ends J k (outcome.Nothing seen) h none = none
+drawn_ends J k (outcome.ConditionFailed seen) h none = none
 drawn_ends J k (outcome.Found t) h none = absurd h
 drawn_ends J k (outcome.Missing seen) h none = absurd h
 drawn_ends J k (outcome.BadUpdate fault) h none = none
@@ -84,6 +85,7 @@ begun_ends J k d v id stamp (outcome.Acked s) h = h
 begun_ends J k d v id stamp (outcome.Found s) h = h
 begun_ends J k d v id stamp (outcome.Missing seen) h = h
 begun_ends J k d v id stamp (outcome.Nothing seen) h = h
+begun_ends J k d v id stamp (outcome.ConditionFailed seen) h = h
 begun_ends J k d v id stamp (outcome.BadUpdate fault) h = h
 
 pub legal_read : (s : Setting) (J : Journal) (k : ℕ) (id : List ℕ) (ending : Outcome) → IsLegal J → IsClosed J → events_of k J ≡ [] → ending ≡ seen_outcome (fin.get (store_of J) id) → IsLegal (read_events s k id ending ++ J)

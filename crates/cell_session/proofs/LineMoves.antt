@@ -19,11 +19,13 @@ use Rattle.cell_session.specs.declared.asked.Asked.TheVariants as command
 use Rattle.cell_session.specs.Lanes.{lane_of_id}
 use Rattle.cell_session.specs.LaneState.{IsClosed, drawn, IsUnder}
 use Rattle.doc_updates.specs.declared.fault.UpdateFault.{UpdateFault}
-use Rattle.messages.specs.Meaning.{goes_ahead, effect}
+use Rattle.messages.specs.Meaning.{decide, effect}
+use Rattle.messages.specs.declared.operation.Decided.{Decided}
+use Rattle.messages.specs.declared.operation.Decided.TheVariants as decided
 use Rattle.messages.specs.declared.operation.OpKind.{OpKind}
 use Rattle.messages.specs.declared.operation.OpKind.TheVariants as kind
 use Rattle.messages.specs.declared.operation.Operation.{Operation}
-use Rattle.cell_session.specs.Deeds.{document_in, stamp_in, seen_outcome, deed_by, write_deed, deed_of, IsDrawn, IsFit}
+use Rattle.cell_session.specs.Deeds.{document_in, seen_outcome, deed_by, decided_deed, kind_deed, deed_of, IsDrawn, IsFit}
 use Rattle.cell_session.specs.LineEvents.{next_stamp, write_events, draw_events, read_events}
 use Rattle.cell_session.specs.declared.deed.Deed.{Deed}
 use Rattle.cell_session.specs.declared.deed.Deed.TheVariants.{Write, Draw, Show}
@@ -130,21 +132,20 @@ fit_by : (seen : Option Entry) (r : Result (Option Contents) UpdateFault) → Is
 fit_by seen (Ok body) = tt
 fit_by seen (Err fault) = tt
 
-fit_write : (id : List ℕ) (k : OpKind) (seen : Option Entry) → IsFit seen (write_deed id k seen)
-fit_write id k seen = elim (goes_ahead k (document_in seen)) as (λ b. IsFit seen (cond b (deed_by (effect id k (document_in seen))) (Draw (outcome.Nothing (stamp_in seen))))) [
-  | true ↦ fit_by seen (effect id k (document_in seen))
-  | false ↦ tt
-]
+fit_decided : (d : Decided) (op : Operation) (seen : Option Entry) → IsFit seen (decided_deed d op seen)
+fit_decided decided.GoesAhead op seen = fit_by seen (effect op.id op.kind (document_in seen))
+fit_decided decided.ConditionFails op seen = tt
+fit_decided decided.DoesNothing op seen = tt
 
 -- what an operation does, it may do
-pub deed_fits : (id : List ℕ) (k : OpKind) (seen : Option Entry) → IsFit seen (deed_of id k seen)
-deed_fits id (kind.Put d) seen = fit_write id (kind.Put d) seen
-deed_fits id (kind.Update u) seen = fit_write id (kind.Update u) seen
-deed_fits id kind.Remove seen = fit_write id kind.Remove seen
-deed_fits id kind.Get seen = refl
+pub deed_fits : (k : OpKind) (op : Operation) (seen : Option Entry) → IsFit seen (kind_deed k op seen)
+deed_fits (kind.Put d) op seen = fit_decided (decide op (document_in seen)) op seen
+deed_fits (kind.Update u) op seen = fit_decided (decide op (document_in seen)) op seen
+deed_fits kind.Remove op seen = fit_decided (decide op (document_in seen)) op seen
+deed_fits kind.Get op seen = refl
 
 pub line_operation : (s : Setting) (J : Journal) (k : ℕ) (op : Operation) → IsLegal J → IsClosed J → events_of k J ≡ [] → IsLine s.version k J (after_operation s k op J)
-line_operation s J k op legal closed fresh = line_deed s J k op.id (deed_in op J) legal closed fresh (deed_fits op.id op.kind (fin.get (store_of J) op.id))
+line_operation s J k op legal closed fresh = line_deed s J k op.id (deed_in op J) legal closed fresh (deed_fits op.kind op (fin.get (store_of J) op.id))
 
 -- ---- what the line began, wrote and closed
 
@@ -191,7 +192,7 @@ has_deed s J J' k id (Show ending) is own fresh = has_read s J J' k id ending is
 
 pub has_operation : (s : Setting) (J J' : Journal) (k : ℕ) (op : Operation) → J' ≡ after_operation s k op J → IsLine s.version k J J' → events_of k J ≡ [] → HasOperation s k op J'
 has_operation s J J' k op is line fresh =
-    subst (λ j. HasDeed s k op.id (deed_of op.id op.kind (fin.get (store_of j) op.id)) J') (sym line.own_before) (has_deed s J J' k op.id (deed_in op J) is line.own_before fresh)
+    subst (λ j. HasDeed s k op.id (deed_of op (fin.get (store_of j) op.id)) J') (sym line.own_before) (has_deed s J J' k op.id (deed_in op J) is line.own_before fresh)
 
 -- ---- what an earlier line has, it keeps
 
@@ -231,7 +232,7 @@ deed_stays s J J' j id (Show ending) same h = read_stays s J J' j id ending same
 
 operation_stays : (s : Setting) (J J' : Journal) (j : ℕ) (op : Operation) → IsSame j J J' → HasOperation s j op J → HasOperation s j op J'
 operation_stays s J J' j op same h =
-    subst (λ b. HasDeed s j op.id (deed_of op.id op.kind (fin.get (store_of b) op.id)) J') (sym same.before) (deed_stays s J J' j op.id (deed_of op.id op.kind (seen_by j op.id J)) same h)
+    subst (λ b. HasDeed s j op.id (deed_of op (fin.get (store_of b) op.id)) J') (sym same.before) (deed_stays s J J' j op.id (deed_of op (seen_by j op.id J)) same h)
 
 only_stays : (J J' : Journal) (t : Bool) (j : ℕ) (P Q : Type 0) → (P → Q) → events_of j J' ≡ events_of j J → MatchBool t P (events_of j J ≡ []) → MatchBool t Q (events_of j J' ≡ [])
 only_stays J J' true j P Q f es h = f h
@@ -249,6 +250,7 @@ closed_same J J' j v k None legal line is = refl
 closed_same J J' j v k (Some (outcome.Acked t)) legal line is = refl
 closed_same J J' j v k (Some (outcome.Missing seen)) legal line is = refl
 closed_same J J' j v k (Some (outcome.Nothing seen)) legal line is = refl
+closed_same J J' j v k (Some (outcome.ConditionFailed seen)) legal line is = refl
 closed_same J J' j v k (Some (outcome.BadUpdate fault)) legal line is = refl
 closed_same J J' j v k (Some (outcome.Found t)) legal line is =
     let was = closed-found J j t legal is in

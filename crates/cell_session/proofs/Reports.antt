@@ -56,6 +56,7 @@ shown_answer s J k id ending legal fresh is =
 drawn_answer : (ending : Outcome) (J : Journal) (shown : Option Entry) → IsDrawn ending → outcome_answer ending (entry_of ending J) ≡ outcome_answer ending shown
 drawn_answer (outcome.Acked t) J shown h = absurd h
 drawn_answer (outcome.Nothing seen) J shown h = refl
+drawn_answer (outcome.ConditionFailed seen) J shown h = refl
 drawn_answer (outcome.Found t) J shown h = absurd h
 drawn_answer (outcome.Missing seen) J shown h = absurd h
 drawn_answer (outcome.BadUpdate fault) J shown h = refl
@@ -93,7 +94,7 @@ answered s c new k op ending a ready small is ends told =
     ∙ ap (λ j. fin.get (store_of j) id) now in
     told ∙ ap₂ outcome_answer ends there
     ∙ sym (ap (λ (x : Cell). operation_answer s k id x.journals) is ∙ ap (λ j. closed_answer (closed_in k j) j) now
-    ∙ deed_answer s J k id (deed_in op J) (ready.legal lane small) (ready.fresh lane small) (deed_fits id op.kind (fin.get (store_of J) id)))
+    ∙ deed_answer s J k id (deed_in op J) (ready.legal lane small) (ready.fresh lane small) (deed_fits op.kind op (fin.get (store_of J) id)))
   where
     length_same : (Js : List Journal) (i : ℕ) (J : Journal) → length (set Js i J) ≡ length Js
     length_same Js i J = length-set Js i J

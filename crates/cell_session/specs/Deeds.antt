@@ -1,10 +1,13 @@
 -- What an operation does in its lane, by the newest entry of its document.
-use Rattle.std.specs.Prelude.{◌≡◌, ℕ, List, Option, None, Some, Result, Ok, Err, if◌then◌else◌}
+use Rattle.std.specs.Prelude.{◌≡◌, Option, None, Some, Result, Ok, Err}
 use Rattle.stamps.specs.declared.stamp.Stamp.{Stamp}
 use Rattle.documents.specs.Fields.{Contents}
 use Rattle.doc_updates.specs.declared.fault.UpdateFault.{UpdateFault}
 use Rattle.entry_maps.specs.declared.entry.Entry.{Entry}
-use Rattle.messages.specs.Meaning.{goes_ahead, effect}
+use Rattle.messages.specs.Meaning.{decide, effect}
+use Rattle.messages.specs.declared.operation.Decided.{Decided}
+use Rattle.messages.specs.declared.operation.Decided.TheVariants as decided
+use Rattle.messages.specs.declared.operation.Operation.{Operation}
 use Rattle.messages.specs.declared.operation.OpKind.{OpKind}
 use Rattle.messages.specs.declared.operation.OpKind.TheVariants as kind
 use Rattle.messages.specs.declared.outcome.Outcome.{Outcome}
@@ -36,16 +39,26 @@ abbrev pub deed_by : Result (Option Contents) UpdateFault → Deed
 deed_by (Ok body) = Write body
 deed_by (Err fault) = Draw (outcome.BadUpdate fault)
 
--- the effect of the operation on the document that it saw, where it goes ahead
-abbrev pub write_deed : List ℕ → OpKind → Option Entry → Deed
-write_deed id k seen = if goes_ahead k (document_in seen) then deed_by (effect id k (document_in seen)) else Draw (outcome.Nothing (stamp_in seen))
+-- the effect of the operation on the document that it saw, where it goes ahead; else why it doesn't, with the
+-- stamp of the entry that it saw
+abbrev pub decided_deed : Decided → Operation → Option Entry → Deed
+decided_deed decided.GoesAhead op seen = deed_by (effect op.id op.kind (document_in seen))
+decided_deed decided.ConditionFails op seen = Draw (outcome.ConditionFailed (stamp_in seen))
+decided_deed decided.DoesNothing op seen = Draw (outcome.Nothing (stamp_in seen))
+
+-- an operation is decided by the document of the entry that it saw; a remove that it saw is no document
+abbrev pub write_deed : Operation → Option Entry → Deed
+write_deed op seen = decided_deed (decide op (document_in seen)) op seen
+
+abbrev pub kind_deed : OpKind → Operation → Option Entry → Deed
+kind_deed (kind.Put d) op seen = write_deed op seen
+kind_deed (kind.Update u) op seen = write_deed op seen
+kind_deed kind.Remove op seen = write_deed op seen
+kind_deed kind.Get op seen = Show (seen_outcome seen)
 
 -- what an operation does; a get shows what it saw
-abbrev pub deed_of : List ℕ → OpKind → Option Entry → Deed
-deed_of id (kind.Put d) seen = write_deed id (kind.Put d) seen
-deed_of id (kind.Update u) seen = write_deed id (kind.Update u) seen
-deed_of id kind.Remove seen = write_deed id kind.Remove seen
-deed_of id kind.Get seen = Show (seen_outcome seen)
+abbrev pub deed_of : Operation → Option Entry → Deed
+deed_of op seen = kind_deed op.kind op seen
 
 -- how an operation that drew this stamp ends
 abbrev pub deed_outcome : Stamp → Deed → Outcome
@@ -57,6 +70,7 @@ deed_outcome stamp (Show ending) = ending
 abbrev pub IsDrawn : Outcome → Type 0
 IsDrawn (outcome.Acked stamp) = ⊥
 IsDrawn (outcome.Nothing seen) = Unit {0}
+IsDrawn (outcome.ConditionFailed seen) = Unit {0}
 IsDrawn (outcome.Found stamp) = ⊥
 IsDrawn (outcome.Missing seen) = ⊥
 IsDrawn (outcome.BadUpdate fault) = Unit {0}

@@ -58,7 +58,7 @@ HasDeed s line id (Show ending) J = HasRead s line id ending J
 
 -- the line has what its operation does by what it saw: the entry that it wrote is the operation's effect on that
 abbrev pub HasOperation : Setting → ℕ → Operation → Journal → Type 0
-HasOperation s line op J = HasDeed s line op.id (deed_of op.id op.kind (seen_by line op.id J)) J
+HasOperation s line op J = HasDeed s line op.id (deed_of op (seen_by line op.id J)) J
 
 -- this in the lane of the document's key, and no event in any other lane
 abbrev pub OnlyIn : Setting → ℕ → List ℕ → ℕ → Journal → Type 0 → Type 0

@@ -30,6 +30,7 @@ outcome_answer (outcome.Acked stamp) entry = Some (answer.Acked stamp)
 outcome_answer (outcome.Found stamp) entry = found_answer entry stamp
 outcome_answer (outcome.Missing seen) entry = Some (answer.Missing seen)
 outcome_answer (outcome.Nothing seen) entry = Some answer.Nothing
+outcome_answer (outcome.ConditionFailed seen) entry = Some (answer.ConditionFailed seen)
 outcome_answer (outcome.BadUpdate fault) entry = Some (answer.BadUpdate fault)
 
 -- the entry that an outcome speaks of: what was written with the stamp that was found
@@ -38,6 +39,7 @@ entry_of (outcome.Acked stamp) J = None
 entry_of (outcome.Found stamp) J = entry_at stamp J
 entry_of (outcome.Missing seen) J = None
 entry_of (outcome.Nothing seen) J = None
+entry_of (outcome.ConditionFailed seen) J = None
 entry_of (outcome.BadUpdate fault) J = None
 
 -- the answer that a line's closing is

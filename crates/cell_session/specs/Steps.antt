@@ -27,7 +27,7 @@ after_deed s line id (Show ending) J = read_events s line id ending ++ J
 
 -- what an operation does after a journal, and how it ends
 abbrev pub deed_in : Operation → Journal → Deed
-deed_in op J = deed_of op.id op.kind (fin.get (store_of J) op.id)
+deed_in op J = deed_of op (fin.get (store_of J) op.id)
 
 abbrev pub after_operation : Setting → ℕ → Operation → Journal → Journal
 after_operation s line op J = after_deed s line op.id (deed_in op J) J

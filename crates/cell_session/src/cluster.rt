@@ -240,6 +240,7 @@ impl Cluster {
             Outcome::Acked { stamp } => Ok(Some(Answer::Acked { stamp })),
             Outcome::Missing { seen } => Ok(Some(Answer::Missing { seen })),
             Outcome::Nothing { .. } => Ok(Some(Answer::Nothing)),
+            Outcome::ConditionFailed { seen } => Ok(Some(Answer::ConditionFailed { seen })),
             Outcome::BadUpdate { fault } => Ok(Some(Answer::BadUpdate { fault })),
             Outcome::Found { stamp } => found_answer(alloc, self.entry_at(key, id), stamp),
         }

@@ -1,11 +1,12 @@
 ghost use Rattle.std.specs.Prelude.{◌≡◌, IfOk, option_map};
 ghost use Rattle.std.specs.Option.{option_copied};
-ghost use Rattle.cell_session.specs.Deeds.{document_in, stamp_in, body_outcome, seen_outcome, write_deed, deed_of, IsFit};
+ghost use Rattle.messages.specs.Meaning.{effect};
+ghost use Rattle.cell_session.specs.Deeds.{document_in, stamp_in, body_outcome, seen_outcome, deed_by, write_deed, deed_of, IsFit};
 
 use doc_updates::UpdateFault;
 use documents::Document;
 use entry_maps::Entry;
-use messages::{OpKind, Operation, Outcome};
+use messages::{Decided, OpKind, Operation, Outcome};
 use stamps::Stamp;
 use std::alloc::Global;
 use value_lists::NoMemory;
@@ -61,18 +62,11 @@ fn seen_outcome(seen: Option<&Entry>) -> Outcome
     }
 }
 
-/// What an operation other than a get does, by the entry that it saw.
-fn write_deed(alloc: Global, operation: &Operation, seen: Option<&Entry>) -> Result<Deed, NoMemory>
-    ensures is { IfOk result (λ deed. deed ≡ write_deed operation.now.id operation.now.kind (option_copied seen.entry)) }
+/// The effect of an operation on the document of the entry that it saw is written.
+fn effect_deed(alloc: Global, operation: &Operation, seen: Option<&Entry>) -> Result<Deed, NoMemory>
+    ensures is { IfOk result (λ deed. deed ≡ deed_by (effect operation.now.id operation.now.kind (document_in (option_copied seen.entry)))) }
     ensures fits { IfOk result (IsFit (option_copied seen.entry)) }
 {
-    if !operation.goes_ahead(document_in(seen)) {
-        return Ok(Deed::Draw {
-            outcome: Outcome::Nothing {
-                seen: stamp_in(seen),
-            },
-        });
-    }
     match operation.effect(alloc, document_in(seen)) {
         Ok(body) => Ok(Deed::Write { body }),
         Err(UpdateFault::NoMemory) => Err(NoMemory),
@@ -82,9 +76,29 @@ fn write_deed(alloc: Global, operation: &Operation, seen: Option<&Entry>) -> Res
     }
 }
 
+/// What an operation other than a get does, by the entry that it saw.
+fn write_deed(alloc: Global, operation: &Operation, seen: Option<&Entry>) -> Result<Deed, NoMemory>
+    ensures is { IfOk result (λ deed. deed ≡ write_deed operation.now (option_copied seen.entry)) }
+    ensures fits { IfOk result (IsFit (option_copied seen.entry)) }
+{
+    match operation.decide(document_in(seen)) {
+        Decided::GoesAhead => effect_deed(alloc, operation, seen),
+        Decided::ConditionFails => Ok(Deed::Draw {
+            outcome: Outcome::ConditionFailed {
+                seen: stamp_in(seen),
+            },
+        }),
+        Decided::DoesNothing => Ok(Deed::Draw {
+            outcome: Outcome::Nothing {
+                seen: stamp_in(seen),
+            },
+        }),
+    }
+}
+
 /// What an operation does, by the entry that it saw. The only error is want of memory.
 pub fn deed_of(alloc: Global, operation: &Operation, seen: Option<&Entry>) -> Result<Deed, NoMemory>
-    ensures is { IfOk result (λ deed. deed ≡ deed_of operation.now.id operation.now.kind (option_copied seen.entry)) }
+    ensures is { IfOk result (λ deed. deed ≡ deed_of operation.now (option_copied seen.entry)) }
     ensures fits { IfOk result (IsFit (option_copied seen.entry)) }
 {
     match &operation.kind {
