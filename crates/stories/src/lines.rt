@@ -27,6 +27,7 @@ fn word_of(alloc: Global, line: &[u8]) -> anyhow::Result<&'static str> {
             Cause::Field => "field",
             Cause::Value => "value",
             Cause::Size => "size",
+            Cause::Condition => "condition",
         },
     })
 }
@@ -81,8 +82,8 @@ fn bad_lines_have_their_first_cause(rt: HostRuntime) -> anyhow::Result<()> {
         ("{\"start\":1}", "unbuilt"),
         ("{\"net\":{}}", "unbuilt"),
         ("{\"get\":5,\"via\":1,\"zoo\":1}", "unbuilt"),
-        ("{\"put\":5,\"condition\":5}", "unbuilt"),
-        ("{\"remove\":5,\"create\":true}", "unbuilt"),
+        ("{\"put\":5,\"condition\":5}", "key"),
+        ("{\"remove\":5,\"create\":true}", "key"),
         ("{\"get\":5,\"deaf\":[]}", "unbuilt"),
         ("{\"get\":5,\"zoo\":1}", "key"),
         ("{\"get\":5,\"fields\":{}}", "key"),
