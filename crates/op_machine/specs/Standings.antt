@@ -1,0 +1,68 @@
+-- Where an operation stands: its plan and what was told.
+use Rattle.std.specs.Prelude.{◌≡◌, ◌<◌, ℕ, Bool, true, false, Option, None, Some}
+use Rattle.entry_maps.specs.declared.entry.Entry.{Entry}
+use Rattle.messages.specs.declared.reply.Reply.{Reply}
+use Rattle.op_machine.specs.declared.plan.Plan.{Plan}
+use Rattle.op_machine.specs.declared.tally.Tally.{Tally}
+use Rattle.op_machine.specs.declared.machine.Standing.{Standing}
+use Rattle.op_machine.specs.declared.settling.Settled.{Settled}
+use Rattle.op_machine.specs.declared.ending.Verdict.{Verdict}
+use Rattle.op_machine.specs.declared.ending.Verdict.TheVariants.{Ends, Writes}
+use Rattle.op_machine.specs.Outcomes.{Answers, answers_of, reader, verdict, Next, Asks, Finishes, next_of, ending_in}
+use Rattle.op_machine.specs.Plans.{IsPlan}
+use Rattle.op_machine.specs.Telling.{IsTold, IsNobody}
+
+-- what comes next
+abbrev pub next_at : Standing → Next
+next_at s = next_of s.plan (answers_of s.reads) (answers_of s.stores)
+
+-- the operation of a plan of which nothing was told
+pub record IsBegun (p : Plan) (s : Standing) : Type 0 where
+  pub plan : s.plan ≡ p
+  pub reads : IsNobody s.reads
+  pub stores : IsNobody s.stores
+
+-- a message to the node comes next
+abbrev pub IsTo : ℕ → Next → Type 0
+IsTo node (Asks m) = m.receiver ≡ node
+IsTo node (Finishes x) = ⊥
+
+abbrev pub IsAsked : Standing → ℕ → Type 0
+IsAsked s node = IsTo node (next_at s)
+
+-- the reply is told of the Reads while one of them is to be answered, and else of the Stores
+abbrev pub IsAnsweredBy : Option ℕ → ℕ → Option Reply → Standing → Standing → Type 0
+IsAnsweredBy (Some n) node reply old new = IsTold old.plan.operation.id node reply old.reads new.reads × (new.stores ≡ old.stores)
+IsAnsweredBy None node reply old new = (new.reads ≡ old.reads) × IsTold old.plan.operation.id node reply old.stores new.stores
+
+pub record IsAnswered (node : ℕ) (reply : Option Reply) (old new : Standing) : Type 0 where
+  pub plan : new.plan ≡ old.plan
+  pub told : IsAnsweredBy (reader old.plan (answers_of old.reads)) node reply old new
+
+-- ---- what the machine keeps beside
+
+-- the entry that is to be stored, once the Reads are over
+abbrev pub entry_in : Verdict → Option Entry
+entry_in (Ends x) = None
+entry_in (Writes e) = Some e
+
+abbrev pub due_by : Option ℕ → Plan → Answers → Option Entry
+due_by (Some n) p reads = None
+due_by None p reads = entry_in (verdict p reads)
+
+abbrev pub due_entry : Plan → Answers → Option Entry
+due_entry p reads = due_by (reader p reads) p reads
+
+-- a known entry is that one
+abbrev pub IsDue : Plan → Answers → Option Entry → Type 0
+IsDue p reads None = Unit {0}
+IsDue p reads (Some e) = due_entry p reads ≡ Some e
+
+pub record IsSettled (p : Plan) (reads stores : Answers) (t : Settled) : Type 0 where
+  pub entry : t.entry ≡ due_entry p reads
+  pub ended : t.ending ≡ ending_in (next_of p reads stores)
+
+pub record IsMachine (s : Standing) (t : Settled) : Type 0 where
+  pub plan : IsPlan s.plan
+  pub entry : IsDue s.plan (answers_of s.reads) t.entry
+  pub ended : t.ending ≡ ending_in (next_at s)

@@ -1,0 +1,127 @@
+ghost use Rattle.std.specs.Prelude.{◌≡◌};
+ghost use Rattle.node_sets.specs.Members.{has_node};
+ghost use Rattle.op_machine.specs.Nodes.{first_node, count_nodes};
+ghost use Rattle.op_machine.specs.Outcomes.{node_or_zero, absent_of, answers_of, waits, counts, lacks, has_enough, has_active, too_few, stored, stored_ending};
+
+use crate::ending::Ending;
+use crate::plan::Plan;
+use crate::tally::Tally;
+use messages::Outcome;
+use node_sets::NodeSet;
+use stamps::Stamp;
+
+/// The least member of a set.
+#[tactic(auto, using(crate::proofs::NodeLaws::first_is, crate::proofs::NodeLaws::none_is))]
+fn first(set: NodeSet) -> Option<u8>
+    ensures { result ≡ first_node (has_node set) }
+{
+    if set.len() == 0 {
+        None
+    } else {
+        Some(set.at(0))
+    }
+}
+
+/// The least member of a set, or 0.
+fn least(set: NodeSet) -> u8
+    ensures { result ≡ node_or_zero (first_node (has_node set)) }
+{
+    match first(set) {
+        Some(node) => node,
+        None => 0,
+    }
+}
+
+/// The active node where it is in a set, else the set's least member.
+fn absent_in(active: Option<u8>, missing: NodeSet) -> u8
+    ensures { result ≡ absent_of active (has_node missing) }
+{
+    match active {
+        Some(node) => {
+            if missing.has(node) {
+                node
+            } else {
+                least(missing)
+            }
+        }
+        None => least(missing),
+    }
+}
+
+/// Whether the active node, if there is one, is in a set.
+fn has_active(active: Option<u8>, answered: NodeSet) -> bool
+    ensures { result ≡ has_active active (has_node answered) }
+{
+    match active {
+        Some(node) => answered.has(node),
+        None => true,
+    }
+}
+
+impl Plan {
+    /// The least recipient of which nothing was told; takes no memory.
+    pub fn waiting(&self, tally: &Tally) -> Option<u8>
+        ensures { result ≡ first_node (waits self.now (answers_of tally.now)) }
+    {
+        first(self.recipients.difference(tally.told))
+    }
+
+    /// How many recipients answered.
+    fn count(&self, tally: &Tally) -> u8
+        ensures { result ≡ count_nodes (counts self.now (answers_of tally.now)) }
+    {
+        self.recipients.intersection(tally.answered).len()
+    }
+
+    /// The recipient to look for, of those that didn't answer.
+    fn absent(&self, tally: &Tally) -> u8
+        ensures { result ≡ absent_of self.now.active (lacks self.now (answers_of tally.now)) }
+    {
+        absent_in(self.active, self.recipients.difference(tally.answered))
+    }
+
+    /// Whether enough recipients answered; takes no memory.
+    pub fn has_enough(&self, tally: &Tally) -> bool
+        ensures { result ≡ has_enough self.now (answers_of tally.now) }
+    {
+        self.acks <= self.count(tally)
+    }
+
+    /// How the operation ends where too few answered; takes no memory.
+    pub fn too_few(&self, tally: &Tally) -> Ending
+        ensures { result ≡ too_few self.now (answers_of tally.now) }
+    {
+        if tally.short {
+            Ending::NoMemory
+        } else {
+            Ending::TooFew {
+                answered: self.count(tally),
+                needed: self.acks,
+                absent: self.absent(tally),
+            }
+        }
+    }
+
+    /// How the operation ends once all was told of its Stores.
+    fn stored(&self, stores: &Tally, stamp: Stamp) -> Ending
+        ensures { result ≡ stored self.now (answers_of stores.now) stamp }
+    {
+        if self.has_enough(stores) && has_active(self.active, stores.answered) {
+            Ending::Ended {
+                outcome: Outcome::Acked { stamp },
+            }
+        } else {
+            self.too_few(stores)
+        }
+    }
+
+    /// How the operation ends by its Stores, if all was told of them; takes no memory.
+    pub fn stored_ending(&self, stores: &Tally, stamp: Stamp) -> Option<Ending>
+        ensures { result ≡ stored_ending (first_node (waits self.now (answers_of stores.now))) self.now (answers_of stores.now) stamp }
+    {
+        match self.waiting(stores) {
+            Some(_) => None,
+            None => Some(self.stored(stores, stamp)),
+        }
+    }
+}

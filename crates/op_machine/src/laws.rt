@@ -1,0 +1,19 @@
+//! Laws of what comes next; no function here does anything.
+
+ghost use Rattle.std.specs.Prelude.{◌≡◌, ◌<◌, ◌≤◌, ℕ, Bool, true, false, None, Some, is_some, not};
+ghost use Rattle.op_machine.specs.Nodes.{first_node, count_nodes};
+ghost use Rattle.op_machine.specs.Outcomes.{Next, message_in, ending_in};
+
+/// An operation either asks a node or is over.
+pub fn a_message_or_the_ending()
+    ensures { (next : Next) → is_some (message_in next) ≡ not (is_some (ending_in next)) }
+{}
+
+/// The first node is the least that passes the test, and there is none exactly where no node passes; as
+/// many pass as are counted, at most 32.
+pub fn nodes_by_tests()
+    ensures first { (p : ℕ → Bool) (n : ℕ) → first_node p ≡ Some n → p n ≡ true }
+    ensures least { (p : ℕ → Bool) (n j : ℕ) → first_node p ≡ Some n → j < n → p j ≡ false }
+    ensures none { (p : ℕ → Bool) (j : ℕ) → first_node p ≡ None → j < 32 → p j ≡ false }
+    ensures most { (p : ℕ → Bool) → count_nodes p ≤ 32 }
+{}

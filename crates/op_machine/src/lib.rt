@@ -1,0 +1,29 @@
+//! The machine of one operation: which messages it sends, and how it ends by their answers.
+//!
+//! A contract sees an `OpMachine` as a `Standing`: the plan of the operation, and what was answered so far
+//! to its Reads and to its Stores. `specs/Outcomes.antt` says what comes next (`next_of`): a message to
+//! one more recipient, or the ending. The machine neither waits nor prints; whoever drives it hands each
+//! message over and tells what was answered, or that nothing was.
+//!
+//! ```text
+//! let mut machine = OpMachine::new(origin, operation, stamp, recipients, active, acks);
+//! while let Some(message) = machine.send(alloc)? {
+//!     machine.answer(alloc, message.receiver, reply.as_ref())?;
+//! }
+//! machine.outcome()                   // Some(Ending::Ended { outcome: Outcome::Acked { stamp } })
+//! ```
+#![tactic(auto)]
+
+pub mod counting;
+pub mod ending;
+pub mod judging;
+pub mod laws;
+pub mod machine;
+pub mod plan;
+pub mod settling;
+pub mod tally;
+
+pub use ending::{Ending, Verdict};
+pub use machine::{OpMachine, Standing};
+pub use plan::Plan;
+pub use tally::Tally;
