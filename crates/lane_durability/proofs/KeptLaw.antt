@@ -20,16 +20,16 @@ use Rattle.lane_journals.specs.Naming.{IsEntry, IsHeld, Each, NamesSent, NamesRe
 use Rattle.lane_journals.specs.Places.{Setting, state_in, Owns, IsAmongFirst, IsActive, IsTarget, receivers_of, NamesRow, WasNamed, IsPartition, PlacedBody, PlacedDecision, IsElsewhere, Placed}
 use Rattle.lane_journals.specs.Endings.{HasSeen, IsDocument, NoDocument, FellShort, OpeningFellShort, RoundFellShort, UnionFellShort, ReadsFellShort, StoresFellShort, UnpreparedFellShort, PreparedFellShort, MayEnd, Ended}
 use Rattle.lane_journals.specs.KeptJournals.{IsLegal}
-use Rattle.lane_journals.specs.declared.piece.Piece.{Piece}
+use Rattle.pieces.specs.declared.piece.Piece.{Piece}
 use Rattle.lane_journals.specs.declared.outcome.Outcome.{Outcome}
 use Rattle.lane_journals.specs.declared.outcome.Outcome.TheVariants.{Acked, Nothing, Found, Missing, ConditionFailed, BadUpdate, TooFew, OwnedElsewhere}
 use Rattle.lane_journals.specs.declared.outcome.Outcome.TheVariants as outcome
-use Rattle.lane_journals.specs.declared.decision.Decision.{Decision}
-use Rattle.lane_journals.specs.declared.decision.Decision.TheVariants.{RoundBegun, RoundEnded, RowSplit, RowsJoined, ActiveOn, DeleteFrom, DeleteOver}
-use Rattle.lane_journals.specs.declared.noted.NotedBody.{NotedBody}
-use Rattle.lane_journals.specs.declared.noted.NotedBody.TheVariants.{Ask, Read, Store, Apply, Delete, Split, Join, Ready, Activate}
-use Rattle.lane_journals.specs.declared.noted.NotedReply.{NotedReply}
-use Rattle.lane_journals.specs.declared.noted.NotedReply.TheVariants.{Answer, Newer, NoBucket, Differs, NoMemory}
+use Rattle.messages.specs.declared.decision.Decision.{Decision}
+use Rattle.messages.specs.declared.decision.Decision.TheVariants.{RoundBegun, RoundEnded, RowSplit, RowsJoined, ActiveOn, DeleteFrom, DeleteOver}
+use Rattle.messages.specs.declared.noted.NotedBody.{NotedBody}
+use Rattle.messages.specs.declared.noted.NotedBody.TheVariants.{Ask, Read, Store, Apply, Delete, Split, Join, Ready, Activate}
+use Rattle.messages.specs.declared.noted.NotedReply.{NotedReply}
+use Rattle.messages.specs.declared.noted.NotedReply.TheVariants.{Answer, Newer, NoBucket, Differs, NoMemory}
 use Rattle.lane_journals.specs.declared.event.LaneEvent.{LaneEvent}
 use Rattle.lane_journals.specs.declared.event.LaneEvent.TheVariants.{Published, Heard, Begun, Refused, Opened, Prepared, Wrote, Sent, Delivered, Returned, Closed, Decided, Stopped, Started}
 use Rattle.lane_journals.proofs.Basics.{number-fresh, published-stays}

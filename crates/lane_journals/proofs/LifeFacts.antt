@@ -22,7 +22,7 @@ use Rattle.lane_journals.specs.Meanings.{nodes, names, history}
 use Rattle.lane_journals.specs.Naming.{ShowsPieces}
 use Rattle.lane_journals.specs.Places.{state_in, Owns, IsAmongFirst, IsTarget, IsFirstMember, IsPartition}
 use Rattle.lane_journals.specs.Lives.{lane, setting, state_one, state_two, stamp_two}
-use Rattle.lane_journals.specs.declared.piece.Piece.{Piece}
+use Rattle.pieces.specs.declared.piece.Piece.{Piece}
 use Rattle.lane_journals.specs.declared.event.LaneEvent.{LaneEvent}
 use Rattle.lane_journals.proofs.Ids.{same_id-true}
 use Rattle.lane_journals.proofs.BucketLaws.{same_bucket-true}

@@ -16,9 +16,9 @@ use Rattle.lane_journals.specs.Places.{IsTarget, Placed}
 use Rattle.lane_journals.specs.Endings.{Ended}
 use Rattle.lane_journals.specs.KeptJournals.{IsLegal}
 use Rattle.lane_journals.specs.Lives.{lane, setting, state_two, stamp_one, stamp_two, stamp_three}
-use Rattle.lane_journals.specs.declared.noted.NotedBody.TheVariants as body
-use Rattle.lane_journals.specs.declared.noted.NotedReply.TheVariants as reply
-use Rattle.lane_journals.specs.declared.decision.Decision.TheVariants as choice
+use Rattle.messages.specs.declared.noted.NotedBody.TheVariants as body
+use Rattle.messages.specs.declared.noted.NotedReply.TheVariants as reply
+use Rattle.messages.specs.declared.decision.Decision.TheVariants as choice
 use Rattle.lane_journals.specs.declared.outcome.Outcome.TheVariants as outcome
 use Rattle.lane_journals.specs.declared.event.LaneEvent.{LaneEvent}
 use Rattle.lane_journals.specs.declared.event.LaneEvent.TheVariants as event

@@ -10,9 +10,9 @@ use Rattle.lane_journals.specs.Legal.{MayAck, Keeper, MayShow, MayUnite, IsQuiet
 use Rattle.lane_journals.specs.States.{state_of, LegalByStates}
 use Rattle.lane_journals.specs.Meanings.{nodes, content, names, meaning, history}
 use Rattle.lane_journals.specs.Lives.{asked_one, opened_one, united_one, life_one, lane, setting, stamp_one}
-use Rattle.lane_journals.specs.declared.noted.NotedBody.TheVariants as body
-use Rattle.lane_journals.specs.declared.noted.NotedReply.TheVariants as reply
-use Rattle.lane_journals.specs.declared.decision.Decision.TheVariants as choice
+use Rattle.messages.specs.declared.noted.NotedBody.TheVariants as body
+use Rattle.messages.specs.declared.noted.NotedReply.TheVariants as reply
+use Rattle.messages.specs.declared.decision.Decision.TheVariants as choice
 use Rattle.lane_journals.specs.declared.outcome.Outcome.TheVariants as outcome
 use Rattle.lane_journals.specs.declared.event.LaneEvent.{LaneEvent}
 use Rattle.lane_journals.specs.declared.event.LaneEvent.TheVariants as event

@@ -5,9 +5,9 @@ use Rattle.cluster_states.specs.declared.cluster_state.ClusterState.{ClusterStat
 use Rattle.lane_journals.specs.Stamps.{Stamp}
 use Rattle.lane_journals.specs.Buckets.{Bucket, Id, contains, key_of}
 use Rattle.lane_journals.specs.Places.{Setting}
-use Rattle.lane_journals.specs.declared.noted.NotedBody.TheVariants as body
-use Rattle.lane_journals.specs.declared.noted.NotedReply.TheVariants as reply
-use Rattle.lane_journals.specs.declared.decision.Decision.TheVariants as choice
+use Rattle.messages.specs.declared.noted.NotedBody.TheVariants as body
+use Rattle.messages.specs.declared.noted.NotedReply.TheVariants as reply
+use Rattle.messages.specs.declared.decision.Decision.TheVariants as choice
 use Rattle.lane_journals.specs.declared.outcome.Outcome.TheVariants as outcome
 use Rattle.lane_journals.specs.declared.event.LaneEvent.{LaneEvent}
 use Rattle.lane_journals.specs.declared.event.LaneEvent.TheVariants as event

@@ -11,13 +11,13 @@ use Rattle.lane_journals.specs.Events.{Content, Event, Body, Reply, Decision}
 use Rattle.lane_journals.specs.Readers.{Journal, or_else, only_if}
 use Rattle.lane_journals.specs.declared.outcome.Outcome.{Outcome}
 use Rattle.lane_journals.specs.declared.outcome.Outcome.TheVariants.{Acked, OwnedElsewhere}
-use Rattle.lane_journals.specs.declared.piece.Piece.{Piece}
-use Rattle.lane_journals.specs.declared.noted.NotedBody.{NotedBody}
-use Rattle.lane_journals.specs.declared.noted.NotedBody.TheVariants.{Ask, Read, Store, Apply, Delete, Split, Join, Ready, Activate}
-use Rattle.lane_journals.specs.declared.noted.NotedReply.{NotedReply}
-use Rattle.lane_journals.specs.declared.noted.NotedReply.TheVariants.{Answer, Newer, NoBucket, Differs, NoMemory}
-use Rattle.lane_journals.specs.declared.decision.Decision.{Decision as NotedDecision}
-use Rattle.lane_journals.specs.declared.decision.Decision.TheVariants as choice
+use Rattle.pieces.specs.declared.piece.Piece.{Piece}
+use Rattle.messages.specs.declared.noted.NotedBody.{NotedBody}
+use Rattle.messages.specs.declared.noted.NotedBody.TheVariants.{Ask, Read, Store, Apply, Delete, Split, Join, Ready, Activate}
+use Rattle.messages.specs.declared.noted.NotedReply.{NotedReply}
+use Rattle.messages.specs.declared.noted.NotedReply.TheVariants.{Answer, Newer, NoBucket, Differs, NoMemory}
+use Rattle.messages.specs.declared.decision.Decision.{Decision as NotedDecision}
+use Rattle.messages.specs.declared.decision.Decision.TheVariants as choice
 use Rattle.lane_journals.specs.declared.event.LaneEvent.{LaneEvent}
 use Rattle.lane_journals.specs.declared.event.LaneEvent.TheVariants.{Published, Heard, Begun, Refused, Opened, Prepared, Wrote, Sent, Delivered, Returned, Closed, Decided, Stopped, Started}
 

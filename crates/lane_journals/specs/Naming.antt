@@ -1,7 +1,7 @@
 -- What a kept event names: entries that were written before, by their stamps in rising order; in an answer
 -- just what was asked for.
 use Rattle.std.specs.Prelude.{◌≡◌, ℕ, Bool, true, List, [], ◌∷◌, Some, Contains}
-use Rattle.stamps.specs.Order.{IsBefore}
+use Rattle.entry_maps.specs.Stamps.{IsRising}
 use Rattle.lane_journals.specs.Stamps.{Stamp}
 use Rattle.lane_journals.specs.Buckets.{Id, Bucket, meets, key_of}
 use Rattle.lane_journals.specs.Events as plain
@@ -9,11 +9,11 @@ use Rattle.lane_journals.specs.Events.{Body}
 use Rattle.lane_journals.specs.Readers.{Journal, Beginning, began, Message, sent, store}
 use Rattle.lane_journals.specs.Pieces.{NodePiece, IsPieceIn, pieces}
 use Rattle.lane_journals.specs.Meanings.{written, pick, history}
-use Rattle.lane_journals.specs.declared.piece.Piece.{Piece}
-use Rattle.lane_journals.specs.declared.noted.NotedBody.{NotedBody}
-use Rattle.lane_journals.specs.declared.noted.NotedBody.TheVariants.{Read, Store, Apply}
-use Rattle.lane_journals.specs.declared.noted.NotedReply.{NotedReply}
-use Rattle.lane_journals.specs.declared.noted.NotedReply.TheVariants.{Answer}
+use Rattle.pieces.specs.declared.piece.Piece.{Piece}
+use Rattle.messages.specs.declared.noted.NotedBody.{NotedBody}
+use Rattle.messages.specs.declared.noted.NotedBody.TheVariants.{Read, Store, Apply}
+use Rattle.messages.specs.declared.noted.NotedReply.{NotedReply}
+use Rattle.messages.specs.declared.noted.NotedReply.TheVariants.{Answer}
 use Rattle.lane_journals.specs.declared.event.LaneEvent.{LaneEvent}
 use Rattle.lane_journals.specs.declared.event.LaneEvent.TheVariants.{Wrote, Sent, Delivered}
 
@@ -39,11 +39,6 @@ pub record IsOwn (J : List LaneEvent) (l : ℕ) (s : Stamp) (i : Id) : Type 0 wh
 abbrev pub Each : (Stamp → Type 0) → List Stamp → Type 0
 Each P [] = Unit {0}
 Each P (s ∷ ss) = P s × Each P ss
-
-abbrev pub IsRising : List Stamp → Type 0
-IsRising [] = Unit {0}
-IsRising (s ∷ []) = Unit {0}
-IsRising (s ∷ t ∷ ss) = IsBefore s t × IsRising (t ∷ ss)
 
 -- the bucket of one key
 abbrev pub exact_bucket : ℕ → Bucket

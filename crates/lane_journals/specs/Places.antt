@@ -14,10 +14,10 @@ use Rattle.lane_journals.specs.States.{state_of}
 use Rattle.lane_journals.specs.Meanings.{history}
 use Rattle.lane_journals.specs.declared.outcome.Outcome.{Outcome}
 use Rattle.lane_journals.specs.declared.outcome.Outcome.TheVariants.{OwnedElsewhere}
-use Rattle.lane_journals.specs.declared.noted.NotedBody.{NotedBody}
-use Rattle.lane_journals.specs.declared.noted.NotedBody.TheVariants.{Apply, Split, Join, Ready}
-use Rattle.lane_journals.specs.declared.decision.Decision.{Decision}
-use Rattle.lane_journals.specs.declared.decision.Decision.TheVariants.{RoundBegun, RowsJoined, ActiveOn, DeleteFrom}
+use Rattle.messages.specs.declared.noted.NotedBody.{NotedBody}
+use Rattle.messages.specs.declared.noted.NotedBody.TheVariants.{Apply, Split, Join, Ready}
+use Rattle.messages.specs.declared.decision.Decision.{Decision}
+use Rattle.messages.specs.declared.decision.Decision.TheVariants.{RoundBegun, RowsJoined, ActiveOn, DeleteFrom}
 use Rattle.lane_journals.specs.declared.event.LaneEvent.{LaneEvent}
 use Rattle.lane_journals.specs.declared.event.LaneEvent.TheVariants.{Published, Begun, Refused, Opened, Sent, Decided}
 

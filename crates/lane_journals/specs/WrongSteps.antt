@@ -7,9 +7,9 @@ use Rattle.lane_journals.specs.Buckets.{Id}
 use Rattle.lane_journals.specs.States.{LegalByStates}
 use Rattle.lane_journals.specs.Meanings.{history}
 use Rattle.lane_journals.specs.Lives.{lane, stamp_one, opened_one, united_one}
-use Rattle.lane_journals.specs.declared.noted.NotedBody.TheVariants as body
-use Rattle.lane_journals.specs.declared.noted.NotedReply.TheVariants as reply
-use Rattle.lane_journals.specs.declared.decision.Decision.TheVariants as choice
+use Rattle.messages.specs.declared.noted.NotedBody.TheVariants as body
+use Rattle.messages.specs.declared.noted.NotedReply.TheVariants as reply
+use Rattle.messages.specs.declared.decision.Decision.TheVariants as choice
 use Rattle.lane_journals.specs.declared.event.LaneEvent.{LaneEvent}
 use Rattle.lane_journals.specs.declared.event.LaneEvent.TheVariants as event
 

@@ -1,11 +1,9 @@
-use crate::decision::Decision;
-use crate::noted::{NotedBody, NotedReply};
 use crate::outcome::Outcome;
-use crate::piece::BucketList;
 use bucket_ids::Bucket;
 use cluster_states::ClusterState;
 use document_ids::DocId;
 use entry_maps::Entry;
+use messages::{BucketList, Decision, NotedBody, NotedReply};
 use node_sets::NodeSet;
 use stamps::Stamp;
 

@@ -13,15 +13,11 @@
 //! ```
 #![tactic(auto)]
 
-pub mod decision;
 pub mod event;
 pub mod laws;
-pub mod noted;
 pub mod outcome;
-pub mod piece;
 
-pub use decision::Decision;
 pub use event::LaneEvent;
-pub use noted::{NotedBody, NotedReply, StampList};
+pub use messages::{BucketList, Decision, NotedBody, NotedReply, StampList};
 pub use outcome::Outcome;
-pub use piece::{BucketList, Piece, PieceList};
+pub use pieces::{Piece, PieceList};
