@@ -1,0 +1,20 @@
+//! One storage node's part in one lane: what it replies to a message, and what it has then.
+//!
+//! A contract sees a `NodePart` as a `Node`: the greatest version of a message, entries, pieces, active
+//! regions, and the last serial that was drawn (`specs/Nodes.antt`). `NodePart::take` first compares
+//! versions, and then treats the body; `Takes` in `specs/Takes.antt` says for each message what is replied
+//! and what the node is then. One contract serves a node alone and a lane that keeps a journal.
+//!
+//! ```text
+//! let mut node = NodePart::new(alloc);
+//! let taken = node.take(&message);     // taken.reply goes back, taken.noted into the journal
+//! node.pieces()
+//! ```
+#![tactic(auto)]
+
+pub mod node_part;
+mod regions;
+mod replies;
+
+pub use node_part::NodePart;
+pub use replies::Taken;

@@ -1,0 +1,277 @@
+ghost use Rattle.std.specs.Prelude.{◌≡◌, ◌<◌, ◌≤◌, ◌-◌, ◌^◌, None, Some, OnOk, OnErr};
+ghost use Rattle.std.specs.Option.{option_copied};
+ghost use Rattle.std.specs.FinMap as fin;
+ghost use Rattle.messages.specs.Noting.{noted_reply};
+ghost use Rattle.messages.specs.declared.body.Body.TheVariants as body;
+ghost use Rattle.laid_pieces.specs.Told.{IsTold};
+ghost use Rattle.replica_store.specs.Replicas.{LieIn, IsReplica};
+ghost use Rattle.service_layer.specs.Nodes.{new_node, adopt, stored, after_body};
+ghost use Rattle.service_layer.specs.Takes.{Takes, Treats, Shows, IsInside, HasRoom, told};
+
+use crate::regions::with_region;
+use crate::replies::{Taken, done, newer, only_entry, shown};
+use bucket_ids::Bucket;
+use document_ids::DocId;
+use entry_maps::{Entry, EntryMap};
+use global_ids::key_of;
+use messages::{Body, Message, Reply};
+use pieces::{Piece, PieceList};
+use replica_store::{ReplicaStore, StoreFault};
+use std::alloc::Global;
+use std::marker::Model;
+use value_lists::{TryCopy, copy_all};
+
+/// What a node has in one lane.
+#[derive(Drop)]
+pub struct NodePart {
+    version: u32,
+    store: ReplicaStore,
+    regions: Vec<Bucket>,
+    alloc: Global,
+}
+
+impl Model for NodePart {
+    ghost use Rattle.service_layer.specs.Nodes.{Node, node_code};
+
+    ghost Value = { Node };
+
+    ghost coded = { node_code };
+
+    ghost view = { λ n. record { version = n.version; entries = n.store.entries; pieces = n.store.pieces; regions = n.regions.items; serial = n.store.serial } };
+}
+
+impl NodePart {
+    /// A node that took no message; takes no memory.
+    pub fn new(alloc: Global) -> NodePart
+        ensures { result ≡ new_node }
+    {
+        NodePart {
+            version: 0,
+            store: ReplicaStore::new(alloc),
+            regions: Vec::new(alloc),
+            alloc,
+        }
+    }
+
+    /// The greatest version of a message, 0 before the first.
+    pub fn version(&self) -> u32
+        ensures { result ≡ self.now.version }
+    {
+        self.version
+    }
+
+    /// The entry of a document; takes no memory.
+    pub fn entry(&self, id: &DocId) -> Option<&Entry>
+        ensures { option_copied result ≡ fin.get self.now.entries id.now }
+    {
+        self.store.entry(id)
+    }
+
+    /// How many entries there are, removes among them.
+    pub fn entries(&self) -> u64
+        ensures { result ≡ fin.len self.now.entries }
+    {
+        self.store.entries()
+    }
+
+    /// The pieces, in the order of their runs; takes no memory.
+    pub fn pieces(&self) -> &[Piece]
+        ensures pieces { result.now ≡ self.now.pieces }
+        ensures valid { IsReplica (stored self.now) }
+    {
+        self.store.pieces()
+    }
+
+    /// The active regions; takes no memory.
+    pub fn regions(&self) -> &[Bucket]
+        ensures { result.now ≡ self.now.regions }
+    {
+        &self.regions
+    }
+
+    /// The last serial that was drawn, 0 before the first.
+    pub fn last_serial(&self) -> u64
+        ensures { result ≡ self.now.serial }
+    {
+        self.store.last_serial()
+    }
+
+    /// Takes a message, and replies. After the reply NoMemory the message's version is the node's, and
+    /// nothing else has changed.
+    pub fn take(&mut self, message: &Message) -> Taken
+        requires inside { IsInside message.now.body }
+        requires room { HasRoom message.now.body self.old.serial }
+        ensures takes { Takes self.old message.now self.new result.reply }
+        ensures noted { result.noted ≡ noted_reply result.reply }
+    {
+        if message.version < self.version {
+            return newer(self.version);
+        }
+        self.adopt(message.version);
+        self.treat(&message.body)
+    }
+
+    /// Makes a version that is not smaller its own.
+    fn adopt(&mut self, version: u32)
+        requires { self.old.version ≤ version }
+        ensures adopted { self.new ≡ adopt version self.old }
+        ensures serial { self.new.serial ≡ self.old.serial }
+    {
+        if self.version < version {
+            self.version = version;
+            self.regions.clear();
+        }
+    }
+
+    /// Treats a body that is not too old.
+    fn treat(&mut self, body: &Body) -> Taken
+        requires inside { IsInside body.now }
+        requires room { HasRoom body.now self.old.serial }
+        ensures treats { Treats self.old body.now self.new result.reply }
+        ensures noted { result.noted ≡ noted_reply result.reply }
+    {
+        match body {
+            Body::Ask => shown(self.alloc, self.ask()),
+            Body::Read { bucket, only } => match only {
+                Some(id) => shown(self.alloc, self.read_one(*bucket, id)),
+                None => shown(self.alloc, self.read(*bucket)),
+            },
+            Body::Store { entry } => done(self.alloc, self.store(entry)),
+            Body::Apply { bucket, entries } => done(self.alloc, self.apply(*bucket, entries)),
+            Body::Delete { bucket, serial } => done(self.alloc, self.delete(*bucket, *serial)),
+            Body::Split { bucket } => done(self.alloc, self.split(*bucket)),
+            Body::Join { bucket } => done(self.alloc, self.join(*bucket)),
+            Body::Ready { bucket } => done(self.alloc, self.ready(*bucket)),
+            Body::Activate { bucket } => done(self.alloc, self.activate(*bucket)),
+        }
+    }
+
+    /// All pieces.
+    fn ask(&self) -> Result<Reply, StoreFault>
+        ensures { Shows self.now body.Ask result }
+    {
+        let Ok(pieces) = copy_all(self.alloc, self.store.pieces()) else {
+            return Err(StoreFault::NoMemory);
+        };
+        Ok(Reply::Answer {
+            pieces: PieceList::of(pieces),
+            entries: EntryMap::new(self.alloc),
+        })
+    }
+
+    /// The pieces that meet a bucket, and the entries in it.
+    fn read(&self, bucket: Bucket) -> Result<Reply, StoreFault>
+        ensures { Shows self.now (body.Read bucket None) result }
+    {
+        let Ok(held) = self.store.read(bucket) else {
+            return Err(StoreFault::NoMemory);
+        };
+        Ok(Reply::Answer {
+            pieces: held.pieces,
+            entries: held.entries,
+        })
+    }
+
+    /// The entry of a document.
+    fn read_one(&self, bucket: Bucket, id: &DocId) -> Result<Reply, StoreFault>
+        ensures { Shows self.now (body.Read bucket (Some id.now)) result }
+    {
+        if !self.store.holds(key_of(id)) {
+            return Err(StoreFault::NoBucket);
+        }
+        let Ok(entries) = only_entry(self.alloc, self.store.entry(id)) else {
+            return Err(StoreFault::NoMemory);
+        };
+        Ok(Reply::Answer {
+            pieces: PieceList::of(Vec::new(self.alloc)),
+            entries,
+        })
+    }
+
+    /// Takes an entry; the newest of its document stays.
+    fn store(&mut self, entry: &Entry) -> Result<(), StoreFault>
+        requires { self.old.serial < 2 ^ 64 - 1 }
+        ensures ok { OnOk result (self.new ≡ after_body (body.Store entry.now) self.old) }
+        ensures err { OnErr result (self.new ≡ self.old) }
+        ensures told { IsTold (told (body.Store entry.now) self.old.pieces) result }
+    {
+        let key = key_of(&entry.id);
+        if !self.store.holds(key) {
+            return Err(StoreFault::NoBucket);
+        }
+        let Ok(entry) = entry.copy(self.alloc) else {
+            return Err(StoreFault::NoMemory);
+        };
+        self.store.store(key, entry)
+    }
+
+    /// Makes a bucket a piece, and merges entries in.
+    fn apply(&mut self, bucket: Bucket, entries: &EntryMap) -> Result<(), StoreFault>
+        requires inside { LieIn bucket entries.now }
+        requires room { self.old.serial < 2 ^ 64 - 1 }
+        ensures ok { OnOk result (self.new ≡ after_body (body.Apply bucket entries.now) self.old) }
+        ensures err { OnErr result (self.new ≡ self.old) }
+        ensures told { IsTold (told (body.Apply bucket entries.now) self.old.pieces) result }
+    {
+        self.store.apply(bucket, entries)
+    }
+
+    /// Takes out the piece that is a bucket with this serial, and its entries.
+    fn delete(&mut self, bucket: Bucket, serial: u64) -> Result<(), StoreFault>
+        ensures ok { OnOk result (self.new ≡ after_body (body.Delete bucket serial) self.old) }
+        ensures err { OnErr result (self.new ≡ self.old) }
+        ensures told { IsTold (told (body.Delete bucket serial) self.old.pieces) result }
+    {
+        self.store.delete(bucket, serial)
+    }
+
+    /// Splits the piece that covers a bucket until the bucket is a piece.
+    fn split(&mut self, bucket: Bucket) -> Result<(), StoreFault>
+        requires { self.old.serial < 2 ^ 64 - 1 }
+        ensures ok { OnOk result (self.new ≡ after_body (body.Split bucket) self.old) }
+        ensures err { OnErr result (self.new ≡ self.old) }
+        ensures told { IsTold (told (body.Split bucket) self.old.pieces) result }
+    {
+        self.store.split(bucket)
+    }
+
+    /// Makes the pieces inside a bucket one.
+    fn join(&mut self, bucket: Bucket) -> Result<(), StoreFault>
+        requires { self.old.serial < 2 ^ 64 - 1 }
+        ensures ok { OnOk result (self.new ≡ after_body (body.Join bucket) self.old) }
+        ensures err { OnErr result (self.new ≡ self.old) }
+        ensures told { IsTold (told (body.Join bucket) self.old.pieces) result }
+    {
+        self.store.join(bucket)
+    }
+
+    /// Makes the piece that is a bucket ready.
+    fn ready(&mut self, bucket: Bucket) -> Result<(), StoreFault>
+        requires { self.old.serial < 2 ^ 64 - 1 }
+        ensures ok { OnOk result (self.new ≡ after_body (body.Ready bucket) self.old) }
+        ensures err { OnErr result (self.new ≡ self.old) }
+        ensures told { IsTold (told (body.Ready bucket) self.old.pieces) result }
+    {
+        self.store.ready(bucket)
+    }
+
+    /// Makes a bucket that a ready piece covers an active region.
+    fn activate(&mut self, bucket: Bucket) -> Result<(), StoreFault>
+        requires { self.old.serial < 2 ^ 64 - 1 }
+        ensures ok { OnOk result (self.new ≡ after_body (body.Activate bucket) self.old) }
+        ensures err { OnErr result (self.new ≡ self.old) }
+        ensures told { IsTold (told (body.Activate bucket) self.old.pieces) result }
+    {
+        if let Err(fault) = self.store.may_activate(bucket) {
+            return Err(fault);
+        }
+        let Ok(regions) = with_region(self.alloc, &self.regions, bucket) else {
+            return Err(StoreFault::NoMemory);
+        };
+        if let Err(fault) = self.store.activate(bucket) {
+            return Err(fault);
+        }
+        self.regions = regions;
+        Ok(())
+    }
+}
