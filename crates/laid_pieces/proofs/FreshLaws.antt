@@ -104,13 +104,14 @@ module _ (laws : AreRuns) (b : Low) (vb : IsBucket b) (t : ℕ) where
       apart : list_any (is_inside b) ps ≡ true → covers b p.bucket ≡ false → (x : Bool) → covers p.bucket b ≡ x → x || covers b p.bucket ≡ false
       apart f e true g = absurd (let end = covers-last laws p.bucket b h.1 vb g in let past = inside_past laws b vb (last_path p.bucket + 1) ps h.2 f in omega (arith, end, past))
       apart f e false g = e
+
       by_test : (x : Bool) → covers b p.bucket ≡ x → x || list_any (is_inside b) ps ≡ true → (list_any (is_inside b) ps ≡ true → list_any (stale t b) (join_at b t ps) ≡ false)
           → list_any (stale t b) (cond x (record { bucket = b; serial = t; ready = p.ready || list_any (λ q. covers b q.bucket && q.ready) ps } ∷ filter (λ q. not (covers b q.bucket)) ps) (p ∷ join_at b t ps)) ≡ false
       by_test true e f ih =
           let w = covers-first laws b p.bucket vb h.1 e in
           let order = first-last p.bucket in
           ap₂ (λ x y. x || y) (fresh_new t b (record { bucket = b; serial = t; ready = p.ready || list_any (λ q. covers b q.bucket && q.ready) ps }) refl)
-            (none_met t b (filter (λ q. not (covers b q.bucket)) ps) (rest_apart (last_path p.bucket + 1) (omega (arith, w.0, order)) ps h.2))
+          (none_met t b (filter (λ q. not (covers b q.bucket)) ps) (rest_apart (last_path p.bucket + 1) (omega (arith, w.0, order)) ps h.2))
       by_test false e f ih = ap₂ (λ x y. x || y) (ap (λ x. x && not (p.serial == t)) (apart f e (covers p.bucket b) refl)) (ih f)
 
   pub fresh-apply : (ps : List Piece) → IsLaid 0 ps → list_any (stale t b) (apply_at b t ps) ≡ false
@@ -136,9 +137,10 @@ module _ (laws : AreRuns) (b : Low) (vb : IsBucket b) (t : ℕ) where
     where
       end : is_exactly b p ≡ true → last_path b < last_path p.bucket + 1
       end e = subst (λ x. last_path x < last_path p.bucket + 1) (bucket-same p.bucket b e) (omega arith)
+
       by_test : (x : Bool) → is_exactly b p ≡ x → x || list_any (is_exactly b) ps ≡ true → (list_any (is_exactly b) ps ≡ true → list_any (stale t b) (ready_at b t ps) ≡ false)
           → stale t b (cond x (record { bucket = p.bucket; serial = t; ready = true }) p) || list_any (stale t b) (ready_at b t ps) ≡ false
       by_test true e f ih =
           ap₂ (λ x y. x || y) (fresh_new t b (record { bucket = p.bucket; serial = t; ready = true }) refl)
-            (none_met t b (ready_at b t ps) (any_meet-map (make_ready b t) (ready_bucket b t) b ps ∙ none_past laws b vb (last_path p.bucket + 1) (end e) ps h.2))
+          (none_met t b (ready_at b t ps) (any_meet-map (make_ready b t) (ready_bucket b t) b ps ∙ none_past laws b vb (last_path p.bucket + 1) (end e) ps h.2))
       by_test false e f ih = ap₂ (λ x y. x || y) (before p h.1 (exact_begins (last_path p.bucket + 1) ps h.2 f)) (ih f)

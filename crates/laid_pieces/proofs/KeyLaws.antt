@@ -222,6 +222,7 @@ module _ (laws : AreRuns) (key : ℕ) (small : key < 2 ^ 58) where
     where
       last_is : is_exactly b p ≡ true → last_path b < last_path p.bucket + 1
       last_is e = subst (λ x. last_path x < last_path p.bucket + 1) (bucket-same p.bucket b e) (omega arith)
+
       before : (t : Bool) → has_key p.bucket key ≡ t → list_any (is_exactly b) ps ≡ true → t ≡ false
       before true e f =
           let here = (laws.run p.bucket key h.1 small).0 (is_in p.bucket e) in
@@ -229,6 +230,7 @@ module _ (laws : AreRuns) (key : ℕ) (small : key < 2 ^ 58) where
           let from = exact_from b (last_path p.bucket + 1) ps h.2 f in
           absurd (omega (arith, here.1, later.0, from))
       before false e f = refl
+
       by_test : (t : Bool) → is_exactly b p ≡ t → t || list_any (is_exactly b) ps ≡ true → (list_any (is_exactly b) ps ≡ true → holds key (without b ps) ≡ false)
           → holds key (cond (not t) (p ∷ without b ps) (without b ps)) ≡ false
       by_test true e f ih = holds-filter (λ q. not (is_exactly b q)) ps (no_key b vb k (last_path p.bucket + 1) ps h.2 (none_past laws b vb (last_path p.bucket + 1) (last_is e) ps h.2))

@@ -1,9 +1,9 @@
 -- A body is treated as its parts say.
-use Rattle.std.proofs.Common.{◌≡◌, ◌∙◌, ◌⊎◌, inl, inr, refl, sym, ap, subst, arith, List, [], ◌∷◌, map, length, ℕ, Result, Ok, Err, OnOk, OnErr}
+use Rattle.std.proofs.Common.{◌≡◌, ◌∙◌, inl, inr, refl, sym, ap, subst, arith, List, [], ◌∷◌, map, length, ℕ, Result, Ok, Err, OnOk, OnErr}
 use Rattle.std.specs.FinMap as fin
 use Rattle.std.specs.FinMap.{len-entries, len-empty}
 use Rattle.entry_maps.specs.declared.entry.Entry.{Entry}
-use Rattle.entry_maps.specs.EntryCodes.{Entries, id_cmp}
+use Rattle.entry_maps.specs.EntryCodes.{id_cmp}
 use Rattle.entry_maps.specs.Stamps.{stamps_of, rising_of, stamp_in, stamp_cmp}
 use Rattle.stamps.specs.declared.stamp.Stamp.{Stamp}
 use Rattle.std.specs.declared.cmp.Ordering.{Ordering}

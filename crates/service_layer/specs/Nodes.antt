@@ -1,5 +1,5 @@
 -- What a node has in one lane, and what an accepted body makes of it.
-use Rattle.std.specs.Prelude.{ℕ, Bool, not, List, [], ◌∷◌, filter, nat_lt, Option, None, Some, if◌then◌else◌, refl}
+use Rattle.std.specs.Prelude.{ℕ, not, List, [], ◌∷◌, filter, nat_lt, Option, None, Some, if◌then◌else◌, refl}
 use Rattle.std.specs.List.{list_any}
 use Rattle.std.specs.Coded.{Coded, code_by, coded×, coded_ℕ, coded_list}
 use Rattle.std.specs.FinMap as fin

@@ -1,5 +1,5 @@
 -- What a node replies to a message, and what it has then.
-use Rattle.std.specs.Prelude.{◌≡◌, ◌⊎◌, ◌<◌, ◌≤◌, ◌-◌, ◌^◌, ℕ, List, [], filter, Option, None, Some, Result, Ok, Err}
+use Rattle.std.specs.Prelude.{◌≡◌, ◌⊎◌, ◌<◌, ◌≤◌, ◌-◌, ◌^◌, ℕ, List, [], filter, None, Some, Result, Ok, Err}
 use Rattle.std.specs.FinMap as fin
 use Rattle.global_ids.specs.Keys.{key_of}
 use Rattle.entry_maps.specs.EntryCodes.{Entries}

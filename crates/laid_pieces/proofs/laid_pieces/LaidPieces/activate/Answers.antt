@@ -48,5 +48,5 @@ returns-clause-keys c = λ key.
     let some = rw c.deref.ensures.value at c.in-Some.ensures.some in
     let x = c.index_mut.result.now in
     let same : set c.self.inside.pieces.items c.in-Some.at (with_serial (c.self.inside.serial + 1) x) ≡ renewed (does_meet c.args.bucket) (c.self.inside.serial + 1) c.self.inside.pieces.items
-        = renewed-over c.runs_are_known.ensures c.args.bucket c.in-Some.ensures.valid (c.self.inside.serial + 1) c.self.inside.pieces.items c.self.invariant.laid c.in-Some.at x some c.index_mut.ensures.value in
+    = renewed-over c.runs_are_known.ensures c.args.bucket c.in-Some.ensures.valid (c.self.inside.serial + 1) c.self.inside.pieces.items c.self.invariant.laid c.in-Some.at x some c.index_mut.ensures.value in
     rw (← c.self.view_is) (ap (holds key) same ∙ holds-renewed key (does_meet c.args.bucket) (c.self.inside.serial + 1) c.self.inside.pieces.items)
