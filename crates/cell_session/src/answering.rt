@@ -51,10 +51,13 @@ pub fn answer_line<K: Sink>(
 ) -> Result<(), Stop>
     requires { IsReady setting line cluster.old }
     ensures dealt { OnOk result (cluster.new ≡ after_line setting line command cluster.old) }
-    ensures written { OnOk result (Appends (K.written sink.old) (K.written sink.new) (report_in setting line command cluster.new.journals)) }
-    ensures stopped { IfErr result (λ why. StopsAs why setting line command cluster.old cluster.new (K.written sink.old) (K.written sink.new)) }
+    ensures written { OnOk result (Appends (K.written sink.old) (K.written sink.new)
+        (report_in setting line command cluster.new.journals)) }
+    ensures stopped { IfErr result (λ why.
+        StopsAs why setting line command cluster.old cluster.new (K.written sink.old) (K.written sink.new)) }
     ensures count { K.faults sink.old ≤ K.faults sink.new }
-    ensures fault { IfErr result (λ why. why ≡ stop.Fault → HasRisen K.last (K.faults sink.old) (K.faults sink.new)) }
+    ensures fault { IfErr result (λ why. why ≡ stop.Fault
+        → HasRisen K.last (K.faults sink.old) (K.faults sink.new)) }
 {
     let answer = cluster.deal(alloc, setting, line, command)?;
     let bytes = bytes_of(alloc, line, &answer)?;

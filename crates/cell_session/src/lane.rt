@@ -162,7 +162,8 @@ impl Lane {
         requires fresh { events_of line self.old ≡ [] }
         requires few { drawn self.old < 2 ^ 63 }
         requires under { IsUnder setting.version self.old }
-        ensures ok { IfOk result (λ ending. (self.new ≡ after_deed setting line id.now (deed.Write body) self.old)
+        ensures ok { IfOk result (λ ending.
+            (self.new ≡ after_deed setting line id.now (deed.Write body) self.old)
             × (ending ≡ outcome.Acked (next_stamp setting.version self.old))) }
         ensures err { OnErr result (self.new ≡ self.old) }
     {
@@ -191,7 +192,8 @@ impl Lane {
         requires few { drawn self.old < 2 ^ 63 }
         requires under { IsUnder setting.version self.old }
         requires drawn { IsDrawn outcome }
-        ensures ok { IfOk result (λ ending. (self.new ≡ after_deed setting line id.now (deed.Draw outcome) self.old) × (ending ≡ outcome)) }
+        ensures ok { IfOk result (λ ending.
+            (self.new ≡ after_deed setting line id.now (deed.Draw outcome) self.old) × (ending ≡ outcome)) }
         ensures err { OnErr result (self.new ≡ self.old) }
     {
         let stamp = self.next_stamp(setting.version);
@@ -215,7 +217,8 @@ impl Lane {
     ) -> Result<Outcome, NoMemory>
         requires fresh { events_of line self.old ≡ [] }
         requires shown { outcome ≡ seen_outcome (fin.get (store_of self.old) id.now) }
-        ensures ok { IfOk result (λ ending. (self.new ≡ after_deed setting line id.now (deed.Show outcome) self.old) × (ending ≡ outcome)) }
+        ensures ok { IfOk result (λ ending.
+            (self.new ≡ after_deed setting line id.now (deed.Show outcome) self.old) × (ending ≡ outcome)) }
         ensures err { OnErr result (self.new ≡ self.old) }
     {
         let id = id.copy(alloc)?;

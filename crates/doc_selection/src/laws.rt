@@ -13,7 +13,8 @@ ghost use Rattle.doc_selection.specs.declared.terms.Term.{Term};
 /// refused somewhere says none.
 pub fn selections_are_spelled()
     ensures spelled { (types : Types) (text : List ℕ) (formula : Formula Term)
-        → (selection_in types text ≡ Some formula) ↔ IsText language.Selection (IsSelection types) text formula }
+        → (selection_in types text ≡ Some formula)
+        ↔ IsText language.Selection (IsSelection types) text formula }
     ensures refused { (types : Types) (text : List ℕ) (offset : ℕ)
         → IsRefusedAt language.Selection (IsSelection types) text offset → selection_in types text ≡ None }
 {}

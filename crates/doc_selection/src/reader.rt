@@ -74,7 +74,8 @@ fn outside(
     kind: Kind,
     token: Lexeme<'_>,
 ) -> Result<Reader, Stop>
-    ensures { Goes state_of result (outside_step negation.Word (terms schema.now) kind (token_of token.entry) (gap_of conditions.place) (stack_of conditions.frames.items)) }
+    ensures { Goes state_of result (outside_step negation.Word (terms schema.now) kind (token_of token.entry)
+        (gap_of conditions.place) (stack_of conditions.frames.items)) }
 {
     if is_other(kind) {
         return begin(alloc, schema, conditions, token);
@@ -93,7 +94,8 @@ fn begin(
     conditions: Conditions<Term>,
     token: Lexeme<'_>,
 ) -> Result<Reader, Stop>
-    ensures { Goes state_of result (other_step (terms schema.now) (token_of token.entry) (gap_of conditions.place) (stack_of conditions.frames.items)) }
+    ensures { Goes state_of result (other_step (terms schema.now) (token_of token.entry)
+        (gap_of conditions.place) (stack_of conditions.frames.items)) }
 {
     let Conditions { frames, place } = conditions;
     match place {
@@ -127,7 +129,8 @@ fn within(
     kind: Kind,
     token: Lexeme<'_>,
 ) -> Result<Reader, Stop>
-    ensures { Goes state_of result (within_step (terms schema.now) kind (token_of token.entry) part (stack_of conditions.frames.items)) }
+    ensures { Goes state_of result (within_step (terms schema.now) kind (token_of token.entry) part
+        (stack_of conditions.frames.items)) }
 {
     let Conditions { frames, place } = conditions;
     if ends_here(kind, &part) {
@@ -147,7 +150,8 @@ fn behind(
     part: Part,
     kind: Kind,
 ) -> Result<Reader, Stop>
-    ensures { Goes state_of result (option_map in_gap (option_and_then (λ a. behind_step kind (settle (claim a) (stack_of conditions.frames.items))) (says part))) }
+    ensures { Goes state_of result (option_map in_gap
+        (option_and_then (λ a. behind_step kind (settle (claim a) (stack_of conditions.frames.items))) (says part))) }
 {
     match says(part) {
         Some(term) => {

@@ -16,20 +16,29 @@ ghost use Rattle.feed_lines.specs.declared.keys.Verb.TheVariants as verb;
 /// A line asks for an operation exactly where all that its verb wants holds of it. A get has no condition
 /// and no `create`, and a remove no `create`.
 pub fn lines_are_operations()
-    ensures put { (types : Types) (d : Data) (id : List ℕ) (document : Contents) (condition : Option (Formula Term)) (create : Bool)
-        → (data_said types d ≡ Ok (command.Feed (record { id = id; kind = kind.Put document; condition = condition; create = create })))
+    ensures put { (types : Types) (d : Data) (id : List ℕ) (document : Contents)
+        (condition : Option (Formula Term)) (create : Bool)
+        → (data_said types d
+        ≡ Ok (command.Feed (record { id = id; kind = kind.Put document; condition = condition; create = create })))
         ↔ IsPut types d id document condition create }
-    ensures update { (types : Types) (d : Data) (id : List ℕ) (changes : Changes) (condition : Option (Formula Term)) (create : Bool)
-        → (data_said types d ≡ Ok (command.Feed (record { id = id; kind = kind.Update changes; condition = condition; create = create })))
+    ensures update { (types : Types) (d : Data) (id : List ℕ) (changes : Changes)
+        (condition : Option (Formula Term)) (create : Bool)
+        → (data_said types d
+        ≡ Ok (command.Feed (record { id = id; kind = kind.Update changes; condition = condition; create = create })))
         ↔ IsUpdate types d id changes condition create }
-    ensures remove { (types : Types) (d : Data) (id : List ℕ) (condition : Option (Formula Term)) (create : Bool)
-        → (data_said types d ≡ Ok (command.Feed (record { id = id; kind = kind.Remove; condition = condition; create = create })))
+    ensures remove { (types : Types) (d : Data) (id : List ℕ) (condition : Option (Formula Term))
+        (create : Bool)
+        → (data_said types d
+        ≡ Ok (command.Feed (record { id = id; kind = kind.Remove; condition = condition; create = create })))
         ↔ IsLine types verb.Remove d id condition create }
     ensures get { (types : Types) (d : Data) (id : List ℕ) (condition : Option (Formula Term)) (create : Bool)
-        → (data_said types d ≡ Ok (command.Feed (record { id = id; kind = kind.Get; condition = condition; create = create })))
+        → (data_said types d
+        ≡ Ok (command.Feed (record { id = id; kind = kind.Get; condition = condition; create = create })))
         ↔ IsLine types verb.Get d id condition create }
-    ensures bare_get { (types : Types) (d : Data) (id : List ℕ) (condition : Option (Formula Term)) (create : Bool)
+    ensures bare_get { (types : Types) (d : Data) (id : List ℕ) (condition : Option (Formula Term))
+        (create : Bool)
         → IsLine types verb.Get d id condition create → (condition ≡ None) × (create ≡ false) }
-    ensures bare_remove { (types : Types) (d : Data) (id : List ℕ) (condition : Option (Formula Term)) (create : Bool)
+    ensures bare_remove { (types : Types) (d : Data) (id : List ℕ) (condition : Option (Formula Term))
+        (create : Bool)
         → IsLine types verb.Remove d id condition create → create ≡ false }
 {}

@@ -25,12 +25,14 @@ pub fn serials_come_once()
     ensures given { (c : Change) (cs : List Change) (b : Low) (s : ℕ) → names b s (life cs) ≡ false
         → names b s (life (c ∷ cs)) ≡ true → s ≡ (life cs).serial + 1 }
     ensures once { (later between earlier : List Change) (b : Low) (s : ℕ) → names b s (life earlier) ≡ true
-        → names b s (life (between ++ earlier)) ≡ false → names b s (life (later ++ (between ++ earlier))) ≡ false }
+        → names b s (life (between ++ earlier)) ≡ false
+        → names b s (life (later ++ (between ++ earlier))) ≡ false }
 {}
 
 /// Each piece that an accepted change meets or makes has the new serial.
 pub fn what_is_met_is_renewed()
-    ensures store { (key : ℕ) (h : Holding) → list_any (stale_at (h.serial + 1) key) (after_store key h).pieces ≡ false }
+    ensures store { (key : ℕ) (h : Holding)
+        → list_any (stale_at (h.serial + 1) key) (after_store key h).pieces ≡ false }
     ensures apply { (b : Low) (h : Holding) → IsBucket b → IsHolding h
         → list_any (stale (h.serial + 1) b) (after_apply b h).pieces ≡ false }
     ensures split { (b : Low) (h : Holding) → IsBucket b → IsHolding h → list_any (is_over b) h.pieces ≡ true
@@ -39,7 +41,8 @@ pub fn what_is_met_is_renewed()
         → list_any (stale (h.serial + 1) b) (after_join b h).pieces ≡ false }
     ensures ready { (b : Low) (h : Holding) → IsBucket b → IsHolding h → list_any (is_exactly b) h.pieces ≡ true
         → list_any (stale (h.serial + 1) b) (after_ready b h).pieces ≡ false }
-    ensures activate { (b : Low) (h : Holding) → list_any (stale (h.serial + 1) b) (after_activate b h).pieces ≡ false }
+    ensures activate { (b : Low) (h : Holding)
+        → list_any (stale (h.serial + 1) b) (after_activate b h).pieces ≡ false }
 {
     runs_are_known();
 }

@@ -97,8 +97,10 @@ fn updated_of(
     update: &Update,
     seen: Option<&Document>,
 ) -> Result<Option<Document>, UpdateFault>
-    ensures ok { IfOk result (λ left. updated_of update.now (or_empty id.now (option_map (λ d. d.now) seen.entry)) ≡ Ok left) }
-    ensures fault { IfErr result (λ fault. (fault ≢ reason.NoMemory) → updated_of update.now (or_empty id.now (option_map (λ d. d.now) seen.entry)) ≡ Err fault) }
+    ensures ok { IfOk result (λ left.
+        updated_of update.now (or_empty id.now (option_map (λ d. d.now) seen.entry)) ≡ Ok left) }
+    ensures fault { IfErr result (λ fault. (fault ≢ reason.NoMemory)
+        → updated_of update.now (or_empty id.now (option_map (λ d. d.now) seen.entry)) ≡ Err fault) }
 {
     let document = or_empty(alloc, id, seen)?;
     Ok(Some(update.apply(alloc, &document)?))
@@ -158,8 +160,10 @@ impl Operation {
         alloc: Global,
         seen: Option<&Document>,
     ) -> Result<Option<Document>, UpdateFault>
-        ensures ok { IfOk result (λ left. effect self.now.id self.now.kind (option_map (λ d. d.now) seen.entry) ≡ Ok left) }
-        ensures fault { IfErr result (λ fault. (fault ≢ reason.NoMemory) → effect self.now.id self.now.kind (option_map (λ d. d.now) seen.entry) ≡ Err fault) }
+        ensures ok { IfOk result (λ left.
+            effect self.now.id self.now.kind (option_map (λ d. d.now) seen.entry) ≡ Ok left) }
+        ensures fault { IfErr result (λ fault. (fault ≢ reason.NoMemory)
+            → effect self.now.id self.now.kind (option_map (λ d. d.now) seen.entry) ≡ Err fault) }
     {
         match &self.kind {
             OpKind::Put(document) => Ok(Some(document.copy(alloc)?)),

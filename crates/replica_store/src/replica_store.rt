@@ -99,7 +99,8 @@ impl ReplicaStore {
 
     /// All entries in a bucket, and the pieces that meet it. The only error is want of memory.
     pub fn read(&self, bucket: Bucket) -> Result<Held, StoreFault>
-        ensures entries { IfOk result (λ held. held.entries ≡ fin.retain_keys self.now.entries (in_bucket bucket)) }
+        ensures entries { IfOk result (λ held. held.entries
+            ≡ fin.retain_keys self.now.entries (in_bucket bucket)) }
         ensures pieces { IfOk result (λ held. held.pieces ≡ filter (does_meet bucket) self.now.pieces) }
         ensures fault { IfErr result (λ e. e ≡ fault.NoMemory) }
     {

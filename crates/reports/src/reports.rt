@@ -17,7 +17,8 @@ use value_lists::NoMemory;
 
 /// A value in a line of its own.
 fn line_of(alloc: Global, value: &Value) -> Result<Vec<u8>, NoMemory>
-    ensures { IfOk result (λ bytes. (has_float (view value.now) ≡ false) → bytes.items ≡ compact_text (view value.now) ++ 10 ∷ []) }
+    ensures { IfOk result (λ bytes. (has_float (view value.now) ≡ false)
+        → bytes.items ≡ compact_text (view value.now) ++ 10 ∷ []) }
 {
     let mut text = value.to_string(alloc)?;
     text.push('\n')?;
@@ -25,7 +26,8 @@ fn line_of(alloc: Global, value: &Value) -> Result<Vec<u8>, NoMemory>
 }
 
 fn acked_value(alloc: Global, line: u32, stamp: &str) -> Result<Value, AllocError>
-    ensures { IfOk result (λ v. view v ≡ object (with_result line (codes "acked") (member (codes "stamp") (string stamp.now) no_members))) }
+    ensures { IfOk result (λ v. view v
+        ≡ object (with_result line (codes "acked") (member (codes "stamp") (string stamp.now) no_members))) }
 {
     json!(in alloc; {"line": line, "result": "acked", "stamp": stamp})
 }
@@ -56,7 +58,10 @@ fn found_value(
     stamp: &str,
 ) -> Result<Value, AllocError>
     requires { has_float (view fields.now) ≡ false }
-    ensures value { IfOk result (λ v. view v ≡ object (member (codes "fields") (view fields.now) (member (codes "id") (string id.now) (with_result line (codes "found") (member (codes "stamp") (string stamp.now) no_members))))) }
+    ensures value { IfOk result (λ v. view v
+        ≡ object (member (codes "fields") (view fields.now)
+        (member (codes "id") (string id.now) (with_result line (codes "found")
+        (member (codes "stamp") (string stamp.now) no_members))))) }
     ensures no_float { IfOk result (λ v. has_float (view v) ≡ false) }
 {
     json!(in alloc; {"fields": fields, "id": id, "line": line, "result": "found", "stamp": stamp})
@@ -89,7 +94,8 @@ fn seen_value(alloc: Global, seen: Option<Stamp>) -> Result<Value, NoMemory>
 }
 
 fn missing_value(alloc: Global, line: u32, seen: &Value) -> Result<Value, AllocError>
-    ensures { IfOk result (λ v. view v ≡ object (with_result line (codes "missing") (member (codes "seen") (view seen.now) no_members))) }
+    ensures { IfOk result (λ v. view v
+        ≡ object (with_result line (codes "missing") (member (codes "seen") (view seen.now) no_members))) }
 {
     json!(in alloc; {"line": line, "result": "missing", "seen": seen})
 }
@@ -105,7 +111,9 @@ fn missing_report(alloc: Global, line: u32, seen: Option<Stamp>) -> Result<Vec<u
 }
 
 fn condition_failed_value(alloc: Global, line: u32, seen: &Value) -> Result<Value, AllocError>
-    ensures { IfOk result (λ v. view v ≡ object (with_result line (codes "conditionfailed") (member (codes "seen") (view seen.now) no_members))) }
+    ensures { IfOk result (λ v. view v
+        ≡ object (with_result line (codes "conditionfailed")
+        (member (codes "seen") (view seen.now) no_members))) }
 {
     json!(in alloc; {"line": line, "result": "conditionfailed", "seen": seen})
 }
@@ -125,7 +133,8 @@ fn condition_failed_report(
 }
 
 fn nothing_value(alloc: Global, line: u32) -> Result<Value, AllocError>
-    ensures { IfOk result (λ v. view v ≡ object (member (codes "found") (boolean false) (with_result line (codes "acked") no_members))) }
+    ensures { IfOk result (λ v. view v
+        ≡ object (member (codes "found") (boolean false) (with_result line (codes "acked") no_members))) }
 {
     json!(in alloc; {"found": false, "line": line, "result": "acked"})
 }
@@ -140,7 +149,9 @@ fn nothing_report(alloc: Global, line: u32) -> Result<Vec<u8>, NoMemory>
 }
 
 fn field_fault_value(alloc: Global, line: u32, word: &str, field: &str) -> Result<Value, AllocError>
-    ensures { IfOk result (λ v. view v ≡ object (member (codes "fault") (string word.now) (member (codes "field") (string field.now) (with_result line (codes "badupdate") no_members)))) }
+    ensures { IfOk result (λ v. view v
+        ≡ object (member (codes "fault") (string word.now)
+        (member (codes "field") (string field.now) (with_result line (codes "badupdate") no_members)))) }
 {
     json!(in alloc; {"fault": word, "field": field, "line": line, "result": "badupdate"})
 }
@@ -160,7 +171,10 @@ fn field_fault_report(
 }
 
 fn size_fault_value(alloc: Global, line: u32, size: u64) -> Result<Value, AllocError>
-    ensures { IfOk result (λ v. view v ≡ object (member (codes "fault") (string (codes "toolarge")) (with_result line (codes "badupdate") (member (codes "size") (number (unsigned size)) no_members)))) }
+    ensures { IfOk result (λ v. view v
+        ≡ object (member (codes "fault") (string (codes "toolarge"))
+        (with_result line (codes "badupdate") (member (codes "size")
+        (number (unsigned size)) no_members)))) }
 {
     json!(in alloc; {"fault": "toolarge", "line": line, "result": "badupdate", "size": size})
 }
@@ -237,7 +251,8 @@ fn cause_text(cause: Cause) -> &'static str
 }
 
 fn bad_line_value(alloc: Global, line: u32, cause: &str) -> Result<Value, AllocError>
-    ensures { IfOk result (λ v. view v ≡ object (member (codes "cause") (string cause.now) (with_result line (codes "badline") no_members))) }
+    ensures { IfOk result (λ v. view v
+        ≡ object (member (codes "cause") (string cause.now) (with_result line (codes "badline") no_members))) }
 {
     json!(in alloc; {"cause": cause, "line": line, "result": "badline"})
 }

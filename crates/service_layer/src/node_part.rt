@@ -37,7 +37,8 @@ impl Model for NodePart {
 
     ghost coded = { node_code };
 
-    ghost view = { λ n. record { version = n.version; entries = n.store.entries; pieces = n.store.pieces; regions = n.regions.items; serial = n.store.serial } };
+    ghost view = { λ n.
+        record { version = n.version; entries = n.store.entries; pieces = n.store.pieces; regions = n.regions.items; serial = n.store.serial } };
 }
 
 impl NodePart {
