@@ -1,9 +1,4 @@
-pub mod CueTokens
 pub mod TermReading
-pub mod Outputs
-pub mod GroupReading
-pub mod GroupWhole
-pub mod GroupRuns
 pub mod QueryReading
 pub mod QueryRuns
 pub mod Reading

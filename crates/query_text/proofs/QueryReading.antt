@@ -1,5 +1,5 @@
 -- Queries are read as they are written.
-use Rattle.std.proofs.Common.{◌≡◌, ℕ, zero, suc, ◌<◌, arith, ◌&&◌, Bool, true, false, cond, List, [], ◌∷◌, ◌++◌, Option, Some, None, is_some, refl, sym, ap, subst, ◌∙◌, option_and_then, option_map, append_assoc, append-nil, nat_lt, length}
+use Rattle.std.proofs.Common.{◌≡◌, ℕ, zero, suc, ◌<◌, arith, Bool, true, false, cond, List, [], ◌∷◌, ◌++◌, Some, None, is_some, refl, sym, ap, subst, ◌∙◌, option_and_then, option_map, append_assoc, append-nil, nat_lt, length}
 use mathlib.Core.Bool.{true≢false}
 use Rattle.std.specs.FinMap as fin
 use Rattle.std.specs.Ordering.{eq_by_cmp}
@@ -15,31 +15,31 @@ use Rattle.token_readers.proofs.Steps.{run-push}
 use Rattle.conditions.specs.declared.kinds.Negation.TheVariants as negation
 use Rattle.conditions.specs.Formulas.{Formula, truth}
 use Rattle.conditions.specs.Grammar.{condition, no_ors, terms, no_ands, always, IsCondition}
-use Rattle.conditions.specs.Kinds.{true_word, opens, closes}
+use Rattle.conditions.specs.Kinds.{true_word}
 use Rattle.conditions.specs.Machine as asked
 use Rattle.conditions.proofs.Basics.{some_same, none_some, false_true}
 use Rattle.conditions.proofs.Claims.{conditions_read}
-use Rattle.query_text.specs.declared.cues.Cue.{Cue}
-use Rattle.query_text.specs.declared.cues.Cue.TheVariants as cue
-use Rattle.query_text.specs.declared.grouping.Opening.TheVariants as before
-use Rattle.query_text.specs.declared.parts.Part.{Part}
-use Rattle.query_text.specs.declared.query.GroupBy.{GroupBy}
+use Rattle.query_groups.specs.declared.cues.Cue.{Cue}
+use Rattle.query_groups.specs.declared.cues.Cue.TheVariants as cue
+use Rattle.query_groups.specs.declared.grouping.Opening.TheVariants as before
+use Rattle.query_groups.specs.declared.groups.GroupBy.{GroupBy}
 use Rattle.query_text.specs.declared.reader.Head.{Head}
 use Rattle.query_text.specs.declared.reader.Head.TheVariants as head
 use Rattle.query_text.specs.declared.terms.Term.{Term}
-use Rattle.query_text.specs.Cues.{select_word, from_word, where_word, star, bar, semicolon, cue_of}
-use Rattle.query_text.specs.Terms.{field_kind, IsTerm}
-use Rattle.query_text.specs.Outputs.{groups_by, has_groups}
-use Rattle.query_text.specs.Grammar.{IsGroup, IsTail, end_tokens, Said, IsQuery}
+use Rattle.query_groups.specs.Cues.{select_word, from_word, where_word, star, bar, semicolon, cue_of}
+use Rattle.query_text.specs.Terms.{IsTerm}
+use Rattle.query_groups.specs.Outputs.{groups_by, has_groups}
+use Rattle.query_groups.specs.Groups.{IsGroup}
+use Rattle.query_text.specs.Grammar.{end_tokens, Said, IsQuery}
 use Rattle.query_text.specs.Parts as parts
 use Rattle.query_text.specs.Parts.{condition_step}
-use Rattle.query_text.specs.Grouping.{Group, opening, group_next, group_says}
+use Rattle.query_groups.specs.Grouping.{Group, opening, group_next, group_says}
 use Rattle.query_text.specs.Machine.{Asking, Query, heading, typed, asking, grouping, ended, select_next, star_next, from_next, type_next, head_next, where_next, said_so, whole_condition, bar_next, asking_next, grouping_next, query_step, begin, query_says}
-use Rattle.query_text.proofs.CueTokens.{TokenIs, cue_token}
+use Rattle.query_groups.proofs.CueTokens.{TokenIs, cue_token}
 use Rattle.query_text.proofs.TermReading.{terms_read}
-use Rattle.query_text.proofs.Outputs.{field_found}
-use Rattle.query_text.proofs.GroupReading.{GroupRead, read_opening, group_goes}
-use Rattle.query_text.proofs.GroupWhole.{group_said, group_goes_on}
+use Rattle.query_groups.proofs.Outputs.{field_found}
+use Rattle.query_groups.proofs.GroupReading.{GroupRead, read_opening, group_goes}
+use Rattle.query_groups.proofs.GroupWhole.{group_said, group_goes_on}
 
 -- a schema with types has one
 itself : (q : List ℕ) → eq_by_cmp name_cmp q q ≡ true

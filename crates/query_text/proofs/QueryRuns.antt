@@ -1,9 +1,8 @@
 -- Each query is read, and nothing else.
-use Rattle.std.proofs.Common.{◌≡◌, ℕ, ◌&&◌, Bool, true, false, cond, List, [], ◌∷◌, ◌++◌, Option, Some, None, is_some, refl, sym, ap, subst, ◌∙◌, option_and_then, option_map}
+use Rattle.std.proofs.Common.{◌≡◌, ℕ, Bool, true, false, cond, List, [], ◌∷◌, ◌++◌, Option, Some, None, is_some, refl, sym, ap, subst, ◌∙◌, option_and_then, option_map}
 use Rattle.std.specs.FinMap as fin
-use Rattle.doc_types.specs.Known.{has_types}
 use Rattle.doc_types.specs.SchemaCodes.{Types}
-use Rattle.doc_types.specs.Tokens.{Token, word, integer, quoted, signs}
+use Rattle.doc_types.specs.Tokens.{Token, word}
 use Rattle.token_readers.specs.Machines.{run, Reads}
 use Rattle.conditions.specs.declared.kinds.Kind.TheVariants as part_of
 use Rattle.conditions.specs.declared.kinds.Negation.TheVariants as negation
@@ -11,34 +10,32 @@ use Rattle.conditions.specs.Formulas.{Formula}
 use Rattle.conditions.specs.Kinds.{kind_of}
 use Rattle.conditions.specs.Machine as asked
 use Rattle.conditions.proofs.Basics.{some_same, none_some, run-one, run-cons, run-append}
-use Rattle.query_text.specs.declared.cues.Cue.{Cue}
-use Rattle.query_text.specs.declared.cues.Cue.TheVariants as cue
-use Rattle.query_text.specs.declared.grouping.Opening.{Opening}
-use Rattle.query_text.specs.declared.grouping.Opening.TheVariants as before
-use Rattle.query_text.specs.declared.grouping.Middle.{Middle}
-use Rattle.query_text.specs.declared.grouping.Middle.TheVariants as amid
-use Rattle.query_text.specs.declared.grouping.Listing.{Listing}
-use Rattle.query_text.specs.declared.grouping.Listing.TheVariants as at
-use Rattle.query_text.specs.declared.grouping.Closing.{Closing}
-use Rattle.query_text.specs.declared.grouping.Closing.TheVariants as after
+use Rattle.query_groups.specs.declared.cues.Cue.{Cue}
+use Rattle.query_groups.specs.declared.cues.Cue.TheVariants as cue
+use Rattle.query_groups.specs.declared.grouping.Opening.{Opening}
+use Rattle.query_groups.specs.declared.grouping.Opening.TheVariants as before
+use Rattle.query_groups.specs.declared.grouping.Middle.{Middle}
+use Rattle.query_groups.specs.declared.grouping.Middle.TheVariants as amid
+use Rattle.query_groups.specs.declared.grouping.Listing.{Listing}
+use Rattle.query_groups.specs.declared.grouping.Listing.TheVariants as at
+use Rattle.query_groups.specs.declared.grouping.Closing.{Closing}
+use Rattle.query_groups.specs.declared.grouping.Closing.TheVariants as after
 use Rattle.query_text.specs.declared.parts.Part.{Part}
 use Rattle.query_text.specs.declared.parts.Part.TheVariants as part
-use Rattle.query_text.specs.declared.query.GroupBy.{GroupBy}
-use Rattle.query_text.specs.declared.reader.Head.{Head}
+use Rattle.query_groups.specs.declared.groups.GroupBy.{GroupBy}
 use Rattle.query_text.specs.declared.reader.Head.TheVariants as head
 use Rattle.query_text.specs.declared.terms.Term.{Term}
-use Rattle.query_text.specs.Cues.{select_word, from_word, where_word, star, bar, semicolon, cue_of}
-use Rattle.query_text.specs.Terms.{IsTerm}
-use Rattle.query_text.specs.Outputs.{has_groups}
-use Rattle.query_text.specs.Grammar.{IsGroup, IsTail, end_tokens, Said, IsQuery}
+use Rattle.query_groups.specs.Cues.{select_word, from_word, where_word, star, bar, semicolon, cue_of}
+use Rattle.query_groups.specs.Outputs.{has_groups}
+use Rattle.query_text.specs.Grammar.{IsTail, end_tokens, Said, IsQuery}
 use Rattle.query_text.specs.Parts as parts
 use Rattle.query_text.specs.Parts.{condition_step}
-use Rattle.query_text.specs.Grouping.{Group, opening, middle, listing, closing, group_next, group_says}
+use Rattle.query_groups.specs.Grouping.{Group, opening, middle, listing, closing, group_next}
 use Rattle.query_text.specs.Machine.{Asking, Query, heading, typed, asking, grouping, ended, select_next, star_next, from_next, where_next, said_so, whole_condition, asking_next, grouping_next, query_step, begin, query_says}
-use Rattle.query_text.proofs.CueTokens.{TokenIs, cue_token, select_cue, star_cue, from_cue, where_cue, bar_cue, semicolon_cue}
-use Rattle.query_text.proofs.Outputs.{groups_there}
-use Rattle.query_text.proofs.GroupRuns.{GroupRuns, group_runs}
-use Rattle.query_text.proofs.QueryReading.{QueryRead, Asks, asking_tokens, types_there, laws, query_goes, query_said, query_begins, read_by}
+use Rattle.query_groups.proofs.CueTokens.{TokenIs, cue_token, select_cue, star_cue, from_cue, where_cue, bar_cue, semicolon_cue}
+use Rattle.query_groups.proofs.Outputs.{groups_there}
+use Rattle.query_groups.proofs.GroupRuns.{GroupRuns, group_runs}
+use Rattle.query_text.proofs.QueryReading.{Asks, asking_tokens, types_there, laws, query_goes, query_said, query_begins, read_by}
 
 nothing : {X : Type 0} (o : Option X) (x : X) → o ≡ None → o ≡ Some x → ⊥
 nothing o x n s = cc (n, s)

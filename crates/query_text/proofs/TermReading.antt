@@ -1,8 +1,6 @@
 -- The terms of queries are read as they are written.
-use Rattle.std.proofs.Common.{◌≡◌, ℕ, ℤ, pos, ◌&&◌, ◌⊎◌, inl, inr, Bool, true, false, cond, List, [], ◌∷◌, ◌++◌, codes, bytes_eq, Option, Some, None, refl, sym, ap, subst, ◌∙◌, option_and_then, option_map, append-nil}
-use mathlib.Core.Bool.{true≢false}
+use Rattle.std.proofs.Common.{◌≡◌, ℕ, ℤ, pos, ◌&&◌, ◌⊎◌, inl, inr, true, false, cond, List, [], ◌∷◌, ◌++◌, codes, bytes_eq, Option, Some, None, refl, sym, ap, subst, ◌∙◌, option_and_then, option_map, append-nil}
 use Rattle.std.specs.Cmp.Lexicographic.{same_text}
-use Rattle.doc_types.specs.declared.symbols.Symbol.{Symbol}
 use Rattle.doc_types.specs.declared.symbols.Symbol.TheVariants as symbol
 use Rattle.doc_types.specs.declared.values.FieldType.{FieldType}
 use Rattle.doc_types.specs.declared.values.FieldType.TheVariants as kind
@@ -22,8 +20,9 @@ use Rattle.query_text.specs.declared.terms.Rel.{Rel}
 use Rattle.query_text.specs.declared.terms.Rel.TheVariants as rel
 use Rattle.query_text.specs.declared.terms.Term.{Term}
 use Rattle.query_text.specs.declared.terms.Term.TheVariants as term
-use Rattle.query_text.specs.Terms.{rel_token, contains_word, has_numbers, has_texts, field_kind, IsField, IsTerm, a_relation, a_containment}
-use Rattle.query_text.specs.Parts.{rel_of, first, rel_if, contains_if, field_next, contains_next, sign_next, next, says, terms}
+use Rattle.query_groups.specs.Outputs.{field_kind}
+use Rattle.query_text.specs.Terms.{rel_token, contains_word, has_numbers, has_texts, IsField, IsTerm, a_relation, a_containment}
+use Rattle.query_text.specs.Parts.{first, rel_if, contains_if, field_next, contains_next, sign_next, next, says, terms}
 
 -- the tokens of a part
 pub data PartRead (types : Types) (name : List ℕ) : List Token → Part → Type 0 where

@@ -3,7 +3,7 @@ use Rattle.std.specs.Prelude.{ℕ, List, Option, refl}
 use Rattle.std.specs.Coded.{Coded, code_by, coded×, coded_ℕ, coded_list, coded_option}
 use Rattle.conditions.specs.Formulas.{Formula}
 use Rattle.conditions.specs.Codes.{formula_code}
-use Rattle.query_text.specs.declared.query.GroupBy.{GroupBy}
+use Rattle.query_groups.specs.declared.groups.GroupBy.{GroupBy}
 use Rattle.query_text.specs.declared.terms.Term.{Term}
 use Rattle.query_text.specs.Grammar.{Said}
 

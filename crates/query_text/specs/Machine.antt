@@ -1,26 +1,26 @@
 -- A machine that reads queries token by token.
-use Rattle.std.specs.Prelude.{ℕ, Bool, true, false, List, Option, Some, None, is_some, option_map, if◌then◌else◌}
+use Rattle.std.specs.Prelude.{ℕ, List, Option, Some, None, is_some, option_map, if◌then◌else◌}
 use Rattle.std.specs.FinMap as fin
 use Rattle.doc_types.specs.Known.{has_types}
 use Rattle.doc_types.specs.SchemaCodes.{Types}
-use Rattle.doc_types.specs.Tokens.{Token, word, integer, quoted, signs}
+use Rattle.doc_types.specs.Tokens.{Token, word}
 use Rattle.conditions.specs.Formulas.{Formula}
 use Rattle.conditions.specs.Machine as condition
 use Rattle.conditions.specs.Views as tree
-use Rattle.query_text.specs.declared.cues.Cue.{Cue}
-use Rattle.query_text.specs.declared.cues.Cue.TheVariants as cue
+use Rattle.query_groups.specs.declared.cues.Cue.{Cue}
+use Rattle.query_groups.specs.declared.cues.Cue.TheVariants as cue
 use Rattle.query_text.specs.declared.parts.Part.{Part}
-use Rattle.query_text.specs.declared.query.GroupBy.{GroupBy}
+use Rattle.query_groups.specs.declared.groups.GroupBy.{GroupBy}
 use Rattle.query_text.specs.declared.reader.Head.{Head}
 use Rattle.query_text.specs.declared.reader.Head.TheVariants as head
 use Rattle.query_text.specs.declared.reader.Reading.{Reading}
 use Rattle.query_text.specs.declared.reader.Reading.TheVariants as code
 use Rattle.query_text.specs.declared.terms.Term.{Term}
-use Rattle.query_text.specs.declared.grouping.Opening.TheVariants as before
-use Rattle.query_text.specs.Cues.{cue_of}
-use Rattle.query_text.specs.Outputs.{has_groups}
+use Rattle.query_groups.specs.declared.grouping.Opening.TheVariants as before
+use Rattle.query_groups.specs.Cues.{cue_of}
+use Rattle.query_groups.specs.Outputs.{has_groups}
 use Rattle.query_text.specs.Parts.{endings, condition_step, state_of}
-use Rattle.query_text.specs.Grouping.{Group, opening, group_next, group_says, group_of}
+use Rattle.query_groups.specs.Grouping.{Group, opening, group_next, group_says, group_of}
 use Rattle.query_text.specs.Grammar.{Said}
 
 abbrev pub Asking : Type 0

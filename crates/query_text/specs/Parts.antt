@@ -1,5 +1,5 @@
 -- How a term is read token by token.
-use Rattle.std.specs.Prelude.{ℕ, ◌&&◌, Bool, true, false, List, codes, Option, Some, None, option_map, option_and_then, if◌then◌else◌}
+use Rattle.std.specs.Prelude.{ℕ, ◌&&◌, List, codes, Option, Some, None, option_map, option_and_then, if◌then◌else◌}
 use Rattle.std.specs.Str.{bytes_eq}
 use Rattle.doc_types.specs.declared.symbols.Symbol.{Symbol}
 use Rattle.doc_types.specs.declared.symbols.Symbol.TheVariants as symbol
@@ -17,7 +17,8 @@ use Rattle.query_text.specs.declared.terms.Rel.{Rel}
 use Rattle.query_text.specs.declared.terms.Rel.TheVariants as rel
 use Rattle.query_text.specs.declared.terms.Term.{Term}
 use Rattle.query_text.specs.declared.terms.Term.TheVariants as term
-use Rattle.query_text.specs.Terms.{has_numbers, has_texts, field_kind}
+use Rattle.query_groups.specs.Outputs.{field_kind}
+use Rattle.query_text.specs.Terms.{has_numbers, has_texts}
 
 abbrev pub rel_of : Symbol → Option Rel
 rel_of symbol.Is = Some rel.Eq

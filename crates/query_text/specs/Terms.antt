@@ -1,6 +1,5 @@
 -- The terms of queries, as they are written.
-use Rattle.std.specs.Prelude.{◌≡◌, ℕ, ℤ, Bool, true, false, List, [], ◌∷◌, codes, Option, Some, option_and_then}
-use Rattle.std.specs.FinMap as fin
+use Rattle.std.specs.Prelude.{◌≡◌, ℕ, ℤ, Bool, true, false, List, [], ◌∷◌, codes, Some}
 use Rattle.doc_types.specs.declared.symbols.Symbol.TheVariants as symbol
 use Rattle.doc_types.specs.declared.values.FieldType.{FieldType}
 use Rattle.doc_types.specs.declared.values.FieldType.TheVariants as kind
@@ -10,6 +9,7 @@ use Rattle.conditions.specs.Kinds.{kind_of}
 use Rattle.conditions.specs.declared.kinds.Kind.TheVariants as part_of
 use Rattle.conditions.specs.declared.kinds.Negation.TheVariants as negation
 use Rattle.word_index.specs.Tokens.{tokens_of}
+use Rattle.query_groups.specs.Outputs.{field_kind}
 use Rattle.query_text.specs.declared.terms.Rel.{Rel}
 use Rattle.query_text.specs.declared.terms.Rel.TheVariants as rel
 use Rattle.query_text.specs.declared.terms.Term.{Term}
@@ -34,9 +34,6 @@ abbrev pub has_texts : FieldType → Bool
 has_texts kind.Text = true
 has_texts kind.TextArray = true
 has_texts _ = false
-
-abbrev pub field_kind : Types → List ℕ → List ℕ → Option FieldType
-field_kind types name field = option_and_then (λ fields. fin.get fields field) (fin.get types name)
 
 -- a field of the type, whose name is no word of conditions
 pub record IsField (types : Types) (name field : List ℕ) (k : FieldType) : Type 0 where

@@ -1,5 +1,5 @@
 -- Of which documents a query is true.
-use Rattle.std.specs.Prelude.{◌&&◌, ◌==◌, ℕ, ℤ, Bool, true, false, not, List, [], ◌∷◌, length, map, Option, Some, None}
+use Rattle.std.specs.Prelude.{◌&&◌, ◌==◌, ℕ, ℤ, Bool, false, not, List, [], ◌∷◌, length, map, Option, Some}
 use Rattle.std.specs.FinMap as fin
 use Rattle.std.specs.List.{list_all, list_any}
 use Rattle.std.specs.Str.{bytes_eq}

@@ -43,7 +43,8 @@ pub fn step(
     type_name: &str,
     token: Lexeme<'_>,
 ) -> Result<Condition, Stop>
-    ensures { Goes state_of result (condition_step schema.now type_name.now (state_of condition) (token_of token.entry)) }
+    ensures { Goes state_of result (condition_step schema.now type_name.now (state_of condition)
+        (token_of token.entry)) }
 {
     let Condition { conditions, part } = condition;
     let kind = kind_of(Negation::Sign, &token);
@@ -62,7 +63,8 @@ fn outside(
     kind: Kind,
     token: Lexeme<'_>,
 ) -> Result<Condition, Stop>
-    ensures { Goes state_of result (outside_step negation.Sign (terms schema.now type_name.now) kind (token_of token.entry) (gap_of conditions.place) (stack_of conditions.frames.items)) }
+    ensures { Goes state_of result (outside_step negation.Sign (terms schema.now type_name.now) kind
+        (token_of token.entry) (gap_of conditions.place) (stack_of conditions.frames.items)) }
 {
     if is_other(kind) {
         return begin(alloc, schema, type_name, conditions, token);
@@ -82,7 +84,8 @@ fn begin(
     conditions: Conditions<Term>,
     token: Lexeme<'_>,
 ) -> Result<Condition, Stop>
-    ensures { Goes state_of result (other_step (terms schema.now type_name.now) (token_of token.entry) (gap_of conditions.place) (stack_of conditions.frames.items)) }
+    ensures { Goes state_of result (other_step (terms schema.now type_name.now) (token_of token.entry)
+        (gap_of conditions.place) (stack_of conditions.frames.items)) }
 {
     let Conditions { frames, place } = conditions;
     match place {
@@ -115,7 +118,8 @@ fn within(
     kind: Kind,
     token: Lexeme<'_>,
 ) -> Result<Condition, Stop>
-    ensures { Goes state_of result (within_step endings kind (token_of token.entry) part (stack_of conditions.frames.items)) }
+    ensures { Goes state_of result (within_step endings kind (token_of token.entry) part
+        (stack_of conditions.frames.items)) }
 {
     let Conditions { frames, place } = conditions;
     if ends_here(kind, &part) {
@@ -135,7 +139,8 @@ fn behind(
     part: Part,
     kind: Kind,
 ) -> Result<Condition, Stop>
-    ensures { Goes state_of result (option_map in_gap (option_and_then (λ a. behind_step kind (settle (claim a) (stack_of conditions.frames.items))) (says part))) }
+    ensures { Goes state_of result (option_map in_gap (option_and_then
+        (λ a. behind_step kind (settle (claim a) (stack_of conditions.frames.items))) (says part))) }
 {
     match says(part) {
         Some(term) => {

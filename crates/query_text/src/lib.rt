@@ -21,18 +21,17 @@
 #![tactic(auto)]
 
 mod conditioned;
-pub mod cues;
 pub mod expr;
-mod fields;
-pub mod grouping;
 pub mod parsed;
 mod parts;
 pub mod query;
 pub mod reader;
 pub mod terms;
 mod truth;
+#[cfg(test)]
+mod worked;
 
-pub use doc_types::{OutputKind, OutputKinds};
 pub use expr::Expr;
-pub use query::{GroupBy, Query, QueryFault};
+pub use query::{Query, QueryFault};
+pub use query_groups::{GroupBy, OutputKind, OutputKinds};
 pub use terms::{Rel, Term};

@@ -13,7 +13,7 @@ pub struct Parsed {
 impl Model for Parsed {
     ghost use Rattle.query_text.specs.Codes.{said_code};
     ghost use Rattle.query_text.specs.Grammar.{Said, said_of};
-    ghost use Rattle.query_text.specs.contracts.query.GroupBy as group;
+    ghost use Rattle.query_groups.specs.contracts.groups.GroupBy as group;
     ghost use Rattle.query_text.specs.contracts.terms.Term as term;
 
     ghost Value = { Said };

@@ -1,4 +1,4 @@
-ghost use Rattle.std.specs.Prelude.{◌≡◌, IfOk, is_some, option_map};
+ghost use Rattle.std.specs.Prelude.{◌≡◌, is_some};
 ghost use Rattle.doc_types.specs.Reading.{token_of};
 ghost use Rattle.conditions.specs.Views.{Goes};
 ghost use Rattle.query_text.specs.Terms.{has_numbers, has_texts};
@@ -6,9 +6,10 @@ ghost use Rattle.query_text.specs.Parts.{rel_of, first, rel_if, contains_if, fie
 
 use crate::terms::{Rel, Term};
 use doc_types::{FieldType, Lexeme, Schema, Symbol};
+use query_groups::kept;
 use std::alloc::Global;
 use token_readers::Stop;
-use value_lists::{NoMemory, TextValue};
+use value_lists::TextValue;
 use word_index::tokens_of_bytes;
 
 /// What was read of a term.
@@ -46,13 +47,6 @@ fn has_texts(kind: FieldType) -> bool
     ensures { result ≡ has_texts kind }
 {
     matches!(kind, FieldType::Text | FieldType::TextArray)
-}
-
-/// A name that is kept.
-pub fn kept(alloc: Global, name: &str) -> Result<TextValue, NoMemory>
-    ensures { IfOk result (λ text. text ≡ name.now) }
-{
-    Ok(TextValue::of(String::from_str(alloc, name)?))
 }
 
 /// A term begins with the name of a field.

@@ -5,8 +5,9 @@ ghost use Rattle.query_text.specs.Truth.{matches_document};
 use crate::expr::Expr;
 use crate::reader::start;
 use crate::truth::query_holds;
-use doc_types::{Language, OutputKinds, Schema, TextValue};
+use doc_types::{Language, Schema, TextValue};
 use documents::Document;
+use query_groups::GroupBy;
 use std::alloc::Global;
 use thiserror::Error;
 use token_readers::{ReadFault, read};
@@ -24,14 +25,6 @@ pub enum QueryFault {
     },
     #[error("out of memory")]
     NoMemory,
-}
-
-/// How the documents that are found are grouped, and what is said of each group.
-#[derive(Debug, Drop)]
-pub struct GroupBy {
-    /// The field whose value they share.
-    pub field: TextValue,
-    pub outputs: OutputKinds,
 }
 
 /// Which documents are found, and how they are grouped.

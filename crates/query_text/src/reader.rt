@@ -2,24 +2,23 @@ ghost use Rattle.std.specs.Prelude.{◌≡◌, Some, option_map, IfOk};
 ghost use Rattle.doc_types.specs.Reading.{token_of};
 ghost use Rattle.token_readers.specs.Machines.{run};
 ghost use Rattle.conditions.specs.Views.{Goes, formula_of};
-ghost use Rattle.query_text.specs.Cues.{cue_of};
+ghost use Rattle.query_groups.specs.Cues.{cue_of};
 ghost use Rattle.query_text.specs.Grammar.{IsQuery};
-ghost use Rattle.query_text.specs.Grouping.{group_of};
+ghost use Rattle.query_groups.specs.Grouping.{group_of};
 ghost use Rattle.query_text.specs.Parts.{state_of};
 ghost use Rattle.query_text.specs.Machine.{begin, heading, select_next, star_next, from_next, type_next, head_next, where_next, said_so, bar_next, whole_condition, asking_next, ended, grouping_next, query_step, query_says, query_of};
 
 use crate::conditioned as condition;
 use crate::conditioned::Condition;
-use crate::cues::{Cue, cue_of};
 use crate::expr::expr_of;
-use crate::fields::has_groups;
-use crate::grouping::{Grouping, Opening, group_next, group_says};
 use crate::parsed::Parsed;
-use crate::parts::kept;
-use crate::query::{GroupBy, Query};
+use crate::query::Query;
 use crate::terms::Term;
 use conditions::Tree;
 use doc_types::{Lexeme, Schema};
+use query_groups::{
+    Cue, GroupBy, Grouping, Opening, cue_of, group_next, group_says, has_groups, kept,
+};
 use std::alloc::Global;
 use token_readers::{Stop, TokenReader};
 use value_lists::{NoMemory, TextValue};
@@ -157,7 +156,8 @@ fn bar_step(
 
 /// The query ends behind a whole condition.
 fn end_step(alloc: Global, type_name: TextValue, condition: Condition) -> Result<Reading, Stop>
-    ensures { Goes query_of result (option_map (λ f. ended (said_so type_name None f)) (whole_condition (state_of condition))) }
+    ensures { Goes query_of result (option_map (λ f. ended (said_so type_name None f))
+        (whole_condition (state_of condition))) }
 {
     let tree = condition::whole(condition, alloc)?;
     Ok(Reading::End {
@@ -175,7 +175,8 @@ fn condition_step(
     condition: Condition,
     token: Lexeme<'_>,
 ) -> Result<Reading, Stop>
-    ensures { Goes query_of result (asking_next schema.now type_name (state_of condition) (cue_of (token_of token.entry)) (token_of token.entry)) }
+    ensures { Goes query_of result (asking_next schema.now type_name (state_of condition)
+        (cue_of (token_of token.entry)) (token_of token.entry)) }
 {
     match cue_of(&token) {
         Cue::Bar => bar_step(alloc, schema, type_name, condition),
@@ -199,7 +200,8 @@ fn group_step(
     group: Grouping,
     token: Lexeme<'_>,
 ) -> Result<Reading, Stop>
-    ensures { Goes query_of result (grouping_next schema.now type_name (formula_of tree) (group_of group) (cue_of (token_of token.entry)) (token_of token.entry)) }
+    ensures { Goes query_of result (grouping_next schema.now type_name (formula_of tree) (group_of group)
+        (cue_of (token_of token.entry)) (token_of token.entry)) }
 {
     if cue_of(&token) == Cue::Semicolon {
         return match group_says(group) {

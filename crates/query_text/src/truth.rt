@@ -66,7 +66,8 @@ fn tokens_of_all(alloc: Global, texts: &[TextValue]) -> Result<Vec<TextList>, No
 
 /// The tokens of each text of a value; the only error is want of memory.
 fn tokens_in(alloc: Global, value: Option<&FieldValue>) -> Result<Vec<TextList>, NoMemory>
-    ensures { IfOk result (λ lists. lists.items ≡ map tokens_of (texts_in (option_map (λ v. v.now) value.entry))) }
+    ensures { IfOk result (λ lists. lists.items
+        ≡ map tokens_of (texts_in (option_map (λ v. v.now) value.entry))) }
 {
     match value {
         Some(FieldValue::Text(text)) => {
@@ -95,7 +96,8 @@ fn is_among_all(token: &str, lists: &[TextList]) -> bool
 
 /// Whether each token is one of a list.
 fn all_among(tokens: &[TextValue], lists: &[TextList]) -> bool
-    ensures { result ≡ list_all (λ token. list_any (λ list. list_any (bytes_eq token) list) lists.now) tokens.now }
+    ensures { result
+        ≡ list_all (λ token. list_any (λ list. list_any (bytes_eq token) list) lists.now) tokens.now }
 {
     tokens.iter().all(|token| is_among_all(token.text(), lists))
 }
@@ -106,7 +108,8 @@ fn has_tokens(
     tokens: &[TextValue],
     value: Option<&FieldValue>,
 ) -> Result<bool, NoMemory>
-    ensures { IfOk result (λ found. found ≡ list_all (has_token (option_map (λ v. v.now) value.entry)) tokens.now) }
+    ensures { IfOk result (λ found. found
+        ≡ list_all (has_token (option_map (λ v. v.now) value.entry)) tokens.now) }
 {
     let lists = tokens_in(alloc, value)?;
     Ok(all_among(tokens, &lists))

@@ -1,13 +1,12 @@
 ghost use Rattle.std.specs.Prelude.{◌≡◌, option_map};
 ghost use Rattle.doc_types.specs.Reading.{token_of};
 ghost use Rattle.conditions.specs.Views.{Goes};
-ghost use Rattle.query_text.specs.Cues.{cue_of};
-ghost use Rattle.query_text.specs.Grouping.{listing, opening_next, field_step, opening_step, middle_next, middle_step, fold_if, want_next, argument_next, output_end, behind_next, listing_step, closing_next, closing_step, group_next, group_says, group_of, opened};
+ghost use Rattle.query_groups.specs.Cues.{cue_of};
+ghost use Rattle.query_groups.specs.Grouping.{listing, opening_next, field_step, opening_step, middle_next, middle_step, fold_if, want_next, argument_next, output_end, behind_next, listing_step, closing_next, closing_step, group_next, group_says, group_of, opened};
 
 use crate::cues::{Cue, cue_of};
 use crate::fields::{Fold, groups_by, is_counted, is_free, output_of, some_free, some_left};
-use crate::parts::kept;
-use crate::query::GroupBy;
+use crate::groups::{GroupBy, kept};
 use doc_types::{Lexeme, OutputKind, OutputKinds, Schema};
 use std::alloc::Global;
 use token_readers::Stop;
@@ -198,7 +197,8 @@ fn argument_next(
     fold: Fold,
     token: Lexeme<'_>,
 ) -> Result<Listing, Stop>
-    ensures { Goes (λ p. p) result (argument_next schema.now type_name.now outputs.now fold (token_of token.entry)) }
+    ensures { Goes (λ p. p) result (argument_next schema.now type_name.now outputs.now fold
+        (token_of token.entry)) }
 {
     match token {
         Lexeme::Word(field) => {
@@ -302,7 +302,8 @@ fn listing_step(
     place: Listing,
     token: Lexeme<'_>,
 ) -> Result<Grouping, Stop>
-    ensures { Goes group_of result (listing_step schema.now type_name.now field outputs.items place (token_of token.entry)) }
+    ensures { Goes group_of result (listing_step schema.now type_name.now field outputs.items place
+        (token_of token.entry)) }
 {
     let cue = cue_of(&token);
     match place {
@@ -358,7 +359,8 @@ pub fn group_next(
     grouping: Grouping,
     token: Lexeme<'_>,
 ) -> Result<Grouping, Stop>
-    ensures { Goes group_of result (group_next schema.now type_name.now (group_of grouping) (token_of token.entry)) }
+    ensures { Goes group_of result (group_next schema.now type_name.now (group_of grouping)
+        (token_of token.entry)) }
 {
     match grouping {
         Grouping::Opening(place) => opening_step(alloc, schema, type_name, place, token),

@@ -1,13 +1,13 @@
 -- The tokens of cues.
-use Rattle.std.proofs.Common.{◌≡◌, ℕ, Bool, true, false, cond, List, codes, bytes_eq, refl, sym, subst}
+use Rattle.std.proofs.Common.{◌≡◌, ℕ, true, false, cond, List, codes, bytes_eq, refl, sym, subst}
 use Rattle.std.specs.Cmp.Lexicographic.{same_text}
 use Rattle.doc_types.specs.declared.symbols.Symbol.{Symbol}
 use Rattle.doc_types.specs.declared.symbols.Symbol.TheVariants as symbol
 use Rattle.doc_types.specs.Tokens.{Token, word, integer, quoted, signs}
 use Rattle.conditions.specs.Kinds.{opens, closes}
-use Rattle.query_text.specs.declared.cues.Cue.{Cue}
-use Rattle.query_text.specs.declared.cues.Cue.TheVariants as cue
-use Rattle.query_text.specs.Cues.{select_word, from_word, where_word, all_word, group_word, each_word, output_word, count_word, sum_word, min_word, max_word, star, bar, comma, semicolon, output_cue, word_cue, sign_cue, cue_of}
+use Rattle.query_groups.specs.declared.cues.Cue.{Cue}
+use Rattle.query_groups.specs.declared.cues.Cue.TheVariants as cue
+use Rattle.query_groups.specs.Cues.{select_word, from_word, where_word, all_word, group_word, each_word, output_word, count_word, sum_word, min_word, max_word, star, bar, comma, semicolon, output_cue, word_cue, sign_cue, cue_of}
 
 -- the token of a cue
 abbrev pub TokenIs : Cue → Token → Type 0

@@ -1,33 +1,30 @@
 -- The groups of queries are read as they are written.
-use Rattle.std.proofs.Common.{◌≡◌, ℕ, ◌||◌, Bool, true, false, not, cond, List, [], ◌∷◌, ◌++◌, Option, Some, None, refl, sym, ap, subst, ◌∙◌, option_and_then, option_map, append_assoc, append-nil}
-use mathlib.Core.Bool.{true≢false}
+use Rattle.std.proofs.Common.{◌≡◌, ℕ, true, false, cond, List, [], ◌∷◌, ◌++◌, Some, None, refl, sym, ap, subst, ◌∙◌, option_map, append_assoc, append-nil}
 use Rattle.doc_types.specs.declared.outputs.OutputKind.{OutputKind}
 use Rattle.doc_types.specs.declared.outputs.OutputKind.TheVariants as output
-use Rattle.doc_types.specs.declared.values.FieldType.TheVariants as kind
 use Rattle.doc_types.specs.SchemaCodes.{Types}
 use Rattle.doc_types.specs.Tokens.{Token, word, integer, quoted, signs}
 use Rattle.conditions.specs.Kinds.{opens, closes}
 use Rattle.conditions.proofs.Basics.{some_same, none_some}
-use Rattle.query_text.specs.declared.cues.Cue.{Cue}
-use Rattle.query_text.specs.declared.cues.Cue.TheVariants as cue
-use Rattle.query_text.specs.declared.fields.Fold.{Fold}
-use Rattle.query_text.specs.declared.fields.Fold.TheVariants as fold
-use Rattle.query_text.specs.declared.grouping.Opening.{Opening}
-use Rattle.query_text.specs.declared.grouping.Opening.TheVariants as before
-use Rattle.query_text.specs.declared.grouping.Middle.{Middle}
-use Rattle.query_text.specs.declared.grouping.Middle.TheVariants as amid
-use Rattle.query_text.specs.declared.grouping.Listing.{Listing}
-use Rattle.query_text.specs.declared.grouping.Listing.TheVariants as at
-use Rattle.query_text.specs.declared.grouping.Closing.{Closing}
-use Rattle.query_text.specs.declared.grouping.Closing.TheVariants as after
-use Rattle.query_text.specs.declared.query.GroupBy.{GroupBy}
-use Rattle.query_text.specs.Cues.{all_word, group_word, each_word, output_word, count_word, sum_word, min_word, max_word, bar, comma, cue_of}
-use Rattle.query_text.specs.Terms.{field_kind}
-use Rattle.query_text.specs.Outputs.{output_of, is_named, NamedOnce, OutputFits, OutputsFit, groups_by, is_free, some_free, some_left, some_field}
-use Rattle.query_text.specs.Grammar.{output_tokens, followed, IsGroup}
-use Rattle.query_text.specs.Grouping.{Group, opening, middle, listing, closing, opening_next, field_step, opening_step, middle_next, middle_step, fold_if, want_next, argument_next, output_end, behind_next, opened, listing_step, closing_next, closing_step, group_next, closed_group, group_says}
-use Rattle.query_text.proofs.CueTokens.{TokenIs, cue_token}
-use Rattle.query_text.proofs.Outputs.{IsNew, field_found, free_new, left_new, fit_push, once_push}
+use Rattle.query_groups.specs.declared.cues.Cue.{Cue}
+use Rattle.query_groups.specs.declared.cues.Cue.TheVariants as cue
+use Rattle.query_groups.specs.declared.fields.Fold.{Fold}
+use Rattle.query_groups.specs.declared.fields.Fold.TheVariants as fold
+use Rattle.query_groups.specs.declared.grouping.Opening.{Opening}
+use Rattle.query_groups.specs.declared.grouping.Opening.TheVariants as before
+use Rattle.query_groups.specs.declared.grouping.Middle.{Middle}
+use Rattle.query_groups.specs.declared.grouping.Middle.TheVariants as amid
+use Rattle.query_groups.specs.declared.grouping.Listing.{Listing}
+use Rattle.query_groups.specs.declared.grouping.Listing.TheVariants as at
+use Rattle.query_groups.specs.declared.grouping.Closing.{Closing}
+use Rattle.query_groups.specs.declared.grouping.Closing.TheVariants as after
+use Rattle.query_groups.specs.Cues.{all_word, group_word, each_word, output_word, count_word, sum_word, min_word, max_word, bar, comma, cue_of}
+use Rattle.query_groups.specs.Outputs.{field_kind}
+use Rattle.query_groups.specs.Outputs.{output_of, is_named, NamedOnce, OutputsFit, groups_by, is_free, some_free, some_left}
+use Rattle.query_groups.specs.Groups.{output_tokens, followed}
+use Rattle.query_groups.specs.Grouping.{Group, opening, middle, listing, closing, opening_next, field_step, opening_step, middle_step, fold_if, want_next, argument_next, output_end, behind_next, opened, listing_step, closing_step, group_next}
+use Rattle.query_groups.proofs.CueTokens.{TokenIs, cue_token}
+use Rattle.query_groups.proofs.Outputs.{IsNew, field_found, free_new, left_new, fit_push, once_push}
 
 -- the tokens before each place
 abbrev pub opening_tokens : Opening → List Token

@@ -3,8 +3,8 @@ ghost use Rattle.std.specs.FinMap as fin;
 ghost use Rattle.std.specs.List.{list_any};
 ghost use Rattle.std.specs.String.{string_bytes};
 ghost use Rattle.doc_types.specs.declared.outputs.OutputKind.TheVariants as kinds;
-ghost use Rattle.query_text.specs.Terms.{field_kind};
-ghost use Rattle.query_text.specs.Outputs.{output_of, same_output, is_named, groups_by, has_groups, is_free, some_free, some_left};
+ghost use Rattle.query_groups.specs.Outputs.{field_kind};
+ghost use Rattle.query_groups.specs.Outputs.{output_of, same_output, is_named, groups_by, has_groups, is_free, some_free, some_left};
 
 use doc_types::schema::FieldOf;
 use doc_types::{FieldType, OutputKind, Schema};
@@ -83,7 +83,8 @@ pub fn is_free(fold: Fold, outputs: &[OutputKind], field: &str, kind: Option<Fie
 
 /// Whether documents of a type are grouped by one of some fields.
 fn groups_some(schema: &Schema, type_name: &str, fields: &[FieldOf]) -> bool
-    ensures { result ≡ list_any (λ f. groups_by (field_kind schema.now type_name.now (string_bytes f.name))) fields.now }
+    ensures { result
+        ≡ list_any (λ f. groups_by (field_kind schema.now type_name.now (string_bytes f.name))) fields.now }
 {
     fields.iter().any(|field| groups_by(schema.field(type_name, field.name.as_str())))
 }
@@ -106,7 +107,8 @@ fn frees_some(
     fold: Fold,
     fields: &[FieldOf],
 ) -> bool
-    ensures { result ≡ list_any (λ f. is_free fold outputs.now (string_bytes f.name) (field_kind schema.now type_name.now (string_bytes f.name))) fields.now }
+    ensures { result ≡ list_any (λ f. is_free fold outputs.now (string_bytes f.name)
+        (field_kind schema.now type_name.now (string_bytes f.name))) fields.now }
 {
     fields.iter().any(|field| {
         let name = field.name.as_str();

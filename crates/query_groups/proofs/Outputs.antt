@@ -1,6 +1,5 @@
 -- Fields that pass a test, and outputs that are left.
-use Rattle.std.proofs.Common.{◌≡◌, ℕ, ◌||◌, Bool, true, false, not, cond, List, [], ◌∷◌, ◌++◌, map, bytes_eq, Option, Some, None, is_some, option_and_then, refl, sym, ap, subst, ◌∙◌, append_assoc}
-use mathlib.Core.Bool.{true≢false}
+use Rattle.std.proofs.Common.{◌≡◌, ℕ, ◌||◌, Bool, true, false, not, cond, List, [], ◌∷◌, ◌++◌, map, Option, Some, None, is_some, option_and_then, refl, sym, ap, ◌∙◌, append_assoc}
 use Rattle.std.specs.List.{list_any}
 use Rattle.std.specs.FinMap as fin
 use Rattle.std.specs.String.{string_bytes}
@@ -13,13 +12,13 @@ use Rattle.doc_types.specs.declared.outputs.OutputKind.TheVariants as output
 use Rattle.doc_types.specs.declared.schema.FieldOf.{FieldOf}
 use Rattle.doc_types.specs.declared.values.FieldType.{FieldType}
 use Rattle.doc_types.specs.declared.values.FieldType.TheVariants as kind
-use Rattle.doc_types.specs.SchemaCodes.{name_cmp, Fields, Types}
+use Rattle.doc_types.specs.SchemaCodes.{name_cmp, Types}
 use Rattle.doc_types.specs.SchemaMaps.{field_pair}
-use Rattle.conditions.proofs.Basics.{some_same, none_some, false_true}
-use Rattle.query_text.specs.declared.fields.Fold.{Fold}
-use Rattle.query_text.specs.declared.fields.Fold.TheVariants as fold
-use Rattle.query_text.specs.Terms.{field_kind}
-use Rattle.query_text.specs.Outputs.{output_of, is_named, NamedOnce, OutputFits, OutputsFit, names_in, some_field, groups_by, has_groups, is_free, some_free, some_left}
+use Rattle.conditions.proofs.Basics.{false_true}
+use Rattle.query_groups.specs.declared.fields.Fold.{Fold}
+use Rattle.query_groups.specs.declared.fields.Fold.TheVariants as fold
+use Rattle.query_groups.specs.Outputs.{field_kind}
+use Rattle.query_groups.specs.Outputs.{output_of, is_named, NamedOnce, OutputFits, OutputsFit, names_in, some_field, groups_by, has_groups, is_free, some_free, some_left}
 
 -- lists with an item that passes
 pub any_found : {X : Type 0} (p : X → Bool) (xs : List X) → list_any p xs ≡ true → (x : X) × (p x ≡ true)

@@ -1,11 +1,11 @@
 -- The words and signs of queries, outside of their conditions.
-use Rattle.std.specs.Prelude.{◌≡◌, ℕ, List, codes, if◌then◌else◌}
+use Rattle.std.specs.Prelude.{ℕ, List, codes, if◌then◌else◌}
 use Rattle.std.specs.Str.{bytes_eq}
 use Rattle.doc_types.specs.declared.symbols.Symbol.{Symbol}
 use Rattle.doc_types.specs.declared.symbols.Symbol.TheVariants as symbol
 use Rattle.doc_types.specs.Tokens.{Token, word, integer, quoted, signs}
-use Rattle.query_text.specs.declared.cues.Cue.{Cue}
-use Rattle.query_text.specs.declared.cues.Cue.TheVariants as cue
+use Rattle.query_groups.specs.declared.cues.Cue.{Cue}
+use Rattle.query_groups.specs.declared.cues.Cue.TheVariants as cue
 
 abbrev pub select_word : Token
 select_word = word (codes "select")

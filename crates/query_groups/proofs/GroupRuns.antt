@@ -1,31 +1,28 @@
 -- Each group of a query is read.
-use Rattle.std.proofs.Common.{◌≡◌, ℕ, Bool, true, false, not, cond, List, [], ◌∷◌, ◌++◌, Option, Some, None, is_some, refl, sym, ap, subst, ◌∙◌, option_and_then, option_map, append_assoc, append-nil}
+use Rattle.std.proofs.Common.{◌≡◌, ℕ, true, false, cond, List, [], ◌∷◌, ◌++◌, Option, Some, None, sym, ap, subst, ◌∙◌, option_map, append_assoc, append-nil}
 use Rattle.doc_types.specs.declared.outputs.OutputKind.{OutputKind}
 use Rattle.doc_types.specs.declared.outputs.OutputKind.TheVariants as output
 use Rattle.doc_types.specs.declared.values.FieldType.TheVariants as kind
 use Rattle.doc_types.specs.SchemaCodes.{Types}
-use Rattle.doc_types.specs.Tokens.{Token, word, integer, quoted, signs}
+use Rattle.doc_types.specs.Tokens.{Token, word}
 use Rattle.token_readers.specs.Machines.{run}
 use Rattle.conditions.specs.Kinds.{opens, closes}
 use Rattle.conditions.proofs.Basics.{run-one, run-cons, run-append}
-use Rattle.query_text.specs.declared.cues.Cue.{Cue}
-use Rattle.query_text.specs.declared.cues.Cue.TheVariants as cue
-use Rattle.query_text.specs.declared.fields.Fold.{Fold}
-use Rattle.query_text.specs.declared.fields.Fold.TheVariants as fold
-use Rattle.query_text.specs.declared.grouping.Opening.TheVariants as before
-use Rattle.query_text.specs.declared.grouping.Middle.TheVariants as amid
-use Rattle.query_text.specs.declared.grouping.Listing.{Listing}
-use Rattle.query_text.specs.declared.grouping.Listing.TheVariants as at
-use Rattle.query_text.specs.declared.grouping.Closing.TheVariants as after
-use Rattle.query_text.specs.declared.query.GroupBy.{GroupBy}
-use Rattle.query_text.specs.Cues.{all_word, group_word, each_word, output_word, count_word, sum_word, min_word, max_word, bar, comma, cue_of}
-use Rattle.query_text.specs.Terms.{field_kind}
-use Rattle.query_text.specs.Outputs.{output_of, is_named, NamedOnce, OutputFits, OutputsFit, groups_by, is_free, some_free, some_left}
-use Rattle.query_text.specs.Grammar.{output_tokens, followed, IsGroup}
-use Rattle.query_text.specs.Grouping.{Group, opening, middle, listing, closing, opening_next, middle_step, fold_if, want_next, argument_next, output_end, behind_next, opened, closing_step, group_next}
-use Rattle.query_text.proofs.CueTokens.{all_cue, group_cue, each_cue, outputs_cue, count_cue, sum_cue, min_cue, max_cue, open_cue, close_cue, comma_cue}
-use Rattle.query_text.proofs.Outputs.{IsNew, new_free, new_some_free, new_left}
-use Rattle.query_text.proofs.GroupReading.{fold_word}
+use Rattle.query_groups.specs.declared.fields.Fold.{Fold}
+use Rattle.query_groups.specs.declared.fields.Fold.TheVariants as fold
+use Rattle.query_groups.specs.declared.grouping.Opening.TheVariants as before
+use Rattle.query_groups.specs.declared.grouping.Middle.TheVariants as amid
+use Rattle.query_groups.specs.declared.grouping.Listing.TheVariants as at
+use Rattle.query_groups.specs.declared.grouping.Closing.TheVariants as after
+use Rattle.query_groups.specs.declared.groups.GroupBy.{GroupBy}
+use Rattle.query_groups.specs.Cues.{all_word, group_word, each_word, output_word, count_word, bar, comma}
+use Rattle.query_groups.specs.Outputs.{field_kind}
+use Rattle.query_groups.specs.Outputs.{output_of, is_named, NamedOnce, OutputsFit, groups_by, some_free, some_left}
+use Rattle.query_groups.specs.Groups.{output_tokens, followed, IsGroup}
+use Rattle.query_groups.specs.Grouping.{Group, opening, middle, listing, closing, opening_next, middle_step, want_next, output_end, behind_next, opened, closing_step, group_next}
+use Rattle.query_groups.proofs.CueTokens.{all_cue, group_cue, each_cue, outputs_cue, count_cue, sum_cue, min_cue, max_cue, open_cue, close_cue, comma_cue}
+use Rattle.query_groups.proofs.Outputs.{IsNew, new_free, new_some_free, new_left}
+use Rattle.query_groups.proofs.GroupReading.{fold_word}
 
 module _ (types : Types) (name : List ℕ) where
   -- up to the outputs

@@ -1,5 +1,5 @@
 -- The outputs of a query, and the fields that they may name.
-use Rattle.std.specs.Prelude.{◌≡◌, ◌||◌, ℕ, Bool, true, false, not, List, [], ◌∷◌, ◌++◌, Option, Some, None}
+use Rattle.std.specs.Prelude.{◌≡◌, ◌||◌, ℕ, Bool, true, false, not, List, [], ◌∷◌, ◌++◌, Option, Some, None, option_and_then}
 use Rattle.std.specs.List.{list_any}
 use Rattle.std.specs.Str.{bytes_eq}
 use Rattle.std.specs.FinMap as fin
@@ -8,9 +8,11 @@ use Rattle.doc_types.specs.declared.outputs.OutputKind.TheVariants as output
 use Rattle.doc_types.specs.declared.values.FieldType.{FieldType}
 use Rattle.doc_types.specs.declared.values.FieldType.TheVariants as kind
 use Rattle.doc_types.specs.SchemaCodes.{Fields, Types}
-use Rattle.query_text.specs.declared.fields.Fold.{Fold}
-use Rattle.query_text.specs.declared.fields.Fold.TheVariants as fold
-use Rattle.query_text.specs.Terms.{field_kind}
+use Rattle.query_groups.specs.declared.fields.Fold.{Fold}
+use Rattle.query_groups.specs.declared.fields.Fold.TheVariants as fold
+
+abbrev pub field_kind : Types → List ℕ → List ℕ → Option FieldType
+field_kind types name field = option_and_then (λ fields. fin.get fields field) (fin.get types name)
 
 abbrev pub output_of : Fold → List ℕ → OutputKind
 output_of fold.Sum field = output.Sum field

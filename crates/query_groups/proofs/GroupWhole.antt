@@ -1,29 +1,29 @@
 -- Groups that are whole, and how each part of one goes on to a whole.
-use Rattle.std.proofs.Common.{◌≡◌, ℕ, Bool, true, false, cond, List, [], ◌∷◌, ◌++◌, Option, Some, None, refl, sym, ap, subst, ◌∙◌, option_and_then, option_map, append_assoc, append-nil}
+use Rattle.std.proofs.Common.{◌≡◌, ℕ, true, List, [], ◌∷◌, ◌++◌, Some, refl, sym, subst, append_assoc}
 use Rattle.doc_types.specs.declared.outputs.OutputKind.{OutputKind}
 use Rattle.doc_types.specs.declared.outputs.OutputKind.TheVariants as output
 use Rattle.doc_types.specs.SchemaCodes.{Types}
-use Rattle.doc_types.specs.Tokens.{Token, word, integer, quoted, signs}
+use Rattle.doc_types.specs.Tokens.{Token, word}
 use Rattle.conditions.specs.Kinds.{opens, closes}
 use Rattle.conditions.proofs.Basics.{some_same, none_some}
-use Rattle.query_text.specs.declared.fields.Fold.{Fold}
-use Rattle.query_text.specs.declared.fields.Fold.TheVariants as fold
-use Rattle.query_text.specs.declared.grouping.Opening.{Opening}
-use Rattle.query_text.specs.declared.grouping.Opening.TheVariants as before
-use Rattle.query_text.specs.declared.grouping.Middle.{Middle}
-use Rattle.query_text.specs.declared.grouping.Middle.TheVariants as amid
-use Rattle.query_text.specs.declared.grouping.Listing.{Listing}
-use Rattle.query_text.specs.declared.grouping.Listing.TheVariants as at
-use Rattle.query_text.specs.declared.grouping.Closing.{Closing}
-use Rattle.query_text.specs.declared.grouping.Closing.TheVariants as after
-use Rattle.query_text.specs.declared.query.GroupBy.{GroupBy}
-use Rattle.query_text.specs.Cues.{all_word, group_word, each_word, output_word, count_word, bar}
-use Rattle.query_text.specs.Terms.{field_kind}
-use Rattle.query_text.specs.Outputs.{output_of, is_named, NamedOnce, OutputsFit, groups_by}
-use Rattle.query_text.specs.Grammar.{output_tokens, followed, IsGroup}
-use Rattle.query_text.specs.Grouping.{Group, opening, middle, listing, closing, closed_group, group_says}
-use Rattle.query_text.proofs.Outputs.{IsNew, free_new}
-use Rattle.query_text.proofs.GroupReading.{opening_tokens, field_tokens, middle_tokens, listing_tokens, fold_word, open_tokens, place_tokens, closing_tokens, Spot, Listed, GroupRead, read_opening, read_middle, read_listing, read_behind, read_closing, listed_push, closed_tokens}
+use Rattle.query_groups.specs.declared.fields.Fold.{Fold}
+use Rattle.query_groups.specs.declared.fields.Fold.TheVariants as fold
+use Rattle.query_groups.specs.declared.grouping.Opening.{Opening}
+use Rattle.query_groups.specs.declared.grouping.Opening.TheVariants as before
+use Rattle.query_groups.specs.declared.grouping.Middle.{Middle}
+use Rattle.query_groups.specs.declared.grouping.Middle.TheVariants as amid
+use Rattle.query_groups.specs.declared.grouping.Listing.{Listing}
+use Rattle.query_groups.specs.declared.grouping.Listing.TheVariants as at
+use Rattle.query_groups.specs.declared.grouping.Closing.{Closing}
+use Rattle.query_groups.specs.declared.grouping.Closing.TheVariants as after
+use Rattle.query_groups.specs.declared.groups.GroupBy.{GroupBy}
+use Rattle.query_groups.specs.Cues.{all_word, group_word, each_word, output_word}
+use Rattle.query_groups.specs.Outputs.{field_kind}
+use Rattle.query_groups.specs.Outputs.{output_of, groups_by}
+use Rattle.query_groups.specs.Groups.{output_tokens, followed, IsGroup}
+use Rattle.query_groups.specs.Grouping.{Group, group_says}
+use Rattle.query_groups.proofs.Outputs.{IsNew, free_new}
+use Rattle.query_groups.proofs.GroupReading.{opening_tokens, field_tokens, middle_tokens, listing_tokens, fold_word, place_tokens, closing_tokens, Spot, Listed, GroupRead, read_opening, read_middle, read_listing, read_behind, read_closing, listed_push, closed_tokens}
 
 abbrev three : List Token
 three = closes ∷ closes ∷ closes ∷ []

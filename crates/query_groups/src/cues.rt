@@ -1,6 +1,6 @@
 ghost use Rattle.std.specs.Prelude.{◌≡◌};
 ghost use Rattle.doc_types.specs.Reading.{token_of};
-ghost use Rattle.query_text.specs.Cues.{cue_of, word_cue, output_cue, sign_cue};
+ghost use Rattle.query_groups.specs.Cues.{cue_of, word_cue, output_cue, sign_cue};
 
 use doc_types::{Lexeme, Symbol};
 

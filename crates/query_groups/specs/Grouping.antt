@@ -1,27 +1,27 @@
 -- How the groups of a query are read token by token.
-use Rattle.std.specs.Prelude.{ℕ, Bool, true, false, List, [], ◌∷◌, ◌++◌, Option, Some, None, option_map, if◌then◌else◌}
+use Rattle.std.specs.Prelude.{ℕ, List, [], ◌∷◌, ◌++◌, Option, Some, None, option_map, if◌then◌else◌}
 use Rattle.doc_types.specs.declared.outputs.OutputKind.{OutputKind}
 use Rattle.doc_types.specs.declared.outputs.OutputKind.TheVariants as output
 use Rattle.doc_types.specs.SchemaCodes.{Types}
-use Rattle.doc_types.specs.Tokens.{Token, word, integer, quoted, signs}
-use Rattle.query_text.specs.declared.cues.Cue.{Cue}
-use Rattle.query_text.specs.declared.cues.Cue.TheVariants as cue
-use Rattle.query_text.specs.declared.fields.Fold.{Fold}
-use Rattle.query_text.specs.declared.fields.Fold.TheVariants as fold
-use Rattle.query_text.specs.declared.grouping.Opening.{Opening}
-use Rattle.query_text.specs.declared.grouping.Opening.TheVariants as before
-use Rattle.query_text.specs.declared.grouping.Middle.{Middle}
-use Rattle.query_text.specs.declared.grouping.Middle.TheVariants as amid
-use Rattle.query_text.specs.declared.grouping.Listing.{Listing}
-use Rattle.query_text.specs.declared.grouping.Listing.TheVariants as at
-use Rattle.query_text.specs.declared.grouping.Closing.{Closing}
-use Rattle.query_text.specs.declared.grouping.Closing.TheVariants as after
-use Rattle.query_text.specs.declared.grouping.Grouping.{Grouping}
-use Rattle.query_text.specs.declared.grouping.Grouping.TheVariants as code
-use Rattle.query_text.specs.declared.query.GroupBy.{GroupBy}
-use Rattle.query_text.specs.Cues.{cue_of}
-use Rattle.query_text.specs.Terms.{field_kind}
-use Rattle.query_text.specs.Outputs.{output_of, is_named, groups_by, is_free, some_free, some_left}
+use Rattle.doc_types.specs.Tokens.{Token, word}
+use Rattle.query_groups.specs.declared.cues.Cue.{Cue}
+use Rattle.query_groups.specs.declared.cues.Cue.TheVariants as cue
+use Rattle.query_groups.specs.declared.fields.Fold.{Fold}
+use Rattle.query_groups.specs.declared.fields.Fold.TheVariants as fold
+use Rattle.query_groups.specs.declared.grouping.Opening.{Opening}
+use Rattle.query_groups.specs.declared.grouping.Opening.TheVariants as before
+use Rattle.query_groups.specs.declared.grouping.Middle.{Middle}
+use Rattle.query_groups.specs.declared.grouping.Middle.TheVariants as amid
+use Rattle.query_groups.specs.declared.grouping.Listing.{Listing}
+use Rattle.query_groups.specs.declared.grouping.Listing.TheVariants as at
+use Rattle.query_groups.specs.declared.grouping.Closing.{Closing}
+use Rattle.query_groups.specs.declared.grouping.Closing.TheVariants as after
+use Rattle.query_groups.specs.declared.grouping.Grouping.{Grouping}
+use Rattle.query_groups.specs.declared.grouping.Grouping.TheVariants as code
+use Rattle.query_groups.specs.declared.groups.GroupBy.{GroupBy}
+use Rattle.query_groups.specs.Cues.{cue_of}
+use Rattle.query_groups.specs.Outputs.{field_kind}
+use Rattle.query_groups.specs.Outputs.{output_of, is_named, groups_by, is_free, some_free, some_left}
 
 pub data Group : Type 0 where
   opening : Opening → Group

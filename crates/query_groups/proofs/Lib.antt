@@ -1,0 +1,5 @@
+pub mod CueTokens
+pub mod Outputs
+pub mod GroupReading
+pub mod GroupWhole
+pub mod GroupRuns
