@@ -1,2 +1,3 @@
 pub mod NodeLaws
 pub mod NextLaws
+pub mod ListLaws

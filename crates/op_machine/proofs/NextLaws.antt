@@ -1,5 +1,5 @@
 -- What comes next, case by case.
-use Rattle.std.proofs.Common.{◌≡◌, ℕ, ◌<◌, ◌≤◌, Bool, true, false, cond, not, ◌&&◌, ◌||◌, List, refl, sym, ap, subst, ◌∙◌, arith, Option, None, Some, is_some}
+use Rattle.std.proofs.Common.{◌≡◌, ℕ, ◌<◌, Bool, true, false, cond, not, ◌&&◌, ◌||◌, List, refl, sym, ap, subst, ◌∙◌, arith, Option, None, Some, is_some}
 use mathlib.Core.Bool.{true≢false}
 use Rattle.node_sets.specs.Members.{has_node, size_of}
 use Rattle.stamps.specs.declared.stamp.Stamp.{Stamp}
@@ -8,19 +8,20 @@ use Rattle.conditions.specs.Formulas.{Formula}
 use Rattle.doc_selection.specs.declared.terms.Term.{Term}
 use Rattle.messages.specs.Meaning.{decide_by}
 use Rattle.messages.specs.Noting.{message_of}
+use Rattle.messages.specs.declared.message.Message.{Message}
 use Rattle.messages.specs.declared.operation.Operation.{Operation}
 use Rattle.messages.specs.declared.operation.OpKind.{OpKind}
 use Rattle.messages.specs.declared.operation.OpKind.TheVariants.{Put, Update, Remove, Get}
 use Rattle.op_machine.specs.declared.plan.Plan.{Plan}
-use Rattle.op_machine.specs.declared.settling.Settled.{Settled}
 use Rattle.op_machine.specs.declared.ending.Ending.{Ending}
 use Rattle.op_machine.specs.declared.ending.Verdict.{Verdict}
 use Rattle.op_machine.specs.declared.ending.Verdict.TheVariants.{Ends, Writes}
 use Rattle.op_machine.specs.Nodes.{first_node}
 use Rattle.op_machine.specs.Judging.{looks, looks_by, judged, judged_by}
-use Rattle.op_machine.specs.Outcomes.{Answers, waits, read_verdict, verdict, reader, read_body, store_next, stored_ending, verdict_next, read_next, next_of, message_in, ending_in, store_to, store_message}
+use Rattle.op_machine.specs.Outcomes.{Answers, Next, Asks, Finishes, waits, read_verdict, verdict, reader, read_body, store_next, stored_ending, verdict_next, read_next, next_of, message_in, ending_in, store_to, store_message}
 use Rattle.op_machine.specs.Plans.{IsPlan, is_get}
-use Rattle.op_machine.specs.Standings.{IsTo, entry_in, due_by, due_entry, IsDue, IsSettled}
+use Rattle.op_machine.specs.declared.machine.Standing.{Standing}
+use Rattle.op_machine.specs.Standings.{next_at, MayAnswer, IsTo, entry_in, due_by, due_entry, IsDue, IsSettled}
 use Rattle.op_machine.proofs.NodeLaws.{first_node-least, first_node-all, size_of-zero}
 
 -- ---- the receiver is a node
@@ -145,3 +146,13 @@ settled_writes p reads stores x ending over v e = record {
   ended = e ∙ ending_stored p stores x (first_node (waits p stores))
       ∙ sym (ap (λ o. ending_in (read_next o p reads stores)) over ∙ ap (λ y. ending_in (verdict_next y p stores)) (sym v));
 }
+
+-- ---- who may answer
+
+asked_by : (next : Next) (m : Message) → message_in next ≡ Some m → IsTo m.receiver next
+asked_by (Asks x) m e = let same : x ≡ m = cc in ap (λ y. y.receiver) same
+asked_by (Finishes x) m e = absurd (cc)
+
+pub may_answer : (s : Standing) (o : Option Message) → o ≡ message_in (next_at s) → MayAnswer s o
+may_answer s None e = tt
+may_answer s (Some m) e = asked_by (next_at s) m (sym e)

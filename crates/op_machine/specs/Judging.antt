@@ -12,7 +12,6 @@ use Rattle.messages.specs.declared.operation.OpKind.TheVariants.{Put, Update, Re
 use Rattle.messages.specs.declared.operation.Operation.{Operation}
 use Rattle.messages.specs.declared.outcome.Outcome.{Outcome}
 use Rattle.messages.specs.declared.outcome.Outcome.TheVariants as outcome
-use Rattle.op_machine.specs.declared.ending.Ending.{Ending}
 use Rattle.op_machine.specs.declared.ending.Ending.TheVariants.{Ended}
 use Rattle.op_machine.specs.declared.ending.Verdict.{Verdict}
 use Rattle.op_machine.specs.declared.ending.Verdict.TheVariants.{Ends, Writes}

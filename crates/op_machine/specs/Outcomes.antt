@@ -1,7 +1,6 @@
 -- What comes next in an operation: a message to one more recipient, or the ending. It depends on nothing but the plan
 -- and what was answered; whatever keeps the answers, a machine or a journal, gives them as tests.
-use Rattle.std.specs.Prelude.{ℕ, Bool, true, false, not, ◌&&◌, nat_le, List, Option, None, Some, if◌then◌else◌}
-use Rattle.bucket_ids.specs.Buckets.{Low}
+use Rattle.std.specs.Prelude.{ℕ, Bool, true, not, ◌&&◌, nat_le, List, Option, None, Some, if◌then◌else◌}
 use Rattle.global_ids.specs.Keys.{key_of}
 use Rattle.node_sets.specs.Members.{has_node}
 use Rattle.stamps.specs.declared.stamp.Stamp.{Stamp}

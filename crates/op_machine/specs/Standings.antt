@@ -1,9 +1,9 @@
 -- Where an operation stands: its plan and what was told.
-use Rattle.std.specs.Prelude.{◌≡◌, ◌<◌, ℕ, Bool, true, false, Option, None, Some}
+use Rattle.std.specs.Prelude.{◌≡◌, ℕ, Option, None, Some}
 use Rattle.entry_maps.specs.declared.entry.Entry.{Entry}
+use Rattle.messages.specs.declared.message.Message.{Message}
 use Rattle.messages.specs.declared.reply.Reply.{Reply}
 use Rattle.op_machine.specs.declared.plan.Plan.{Plan}
-use Rattle.op_machine.specs.declared.tally.Tally.{Tally}
 use Rattle.op_machine.specs.declared.machine.Standing.{Standing}
 use Rattle.op_machine.specs.declared.settling.Settled.{Settled}
 use Rattle.op_machine.specs.declared.ending.Verdict.{Verdict}
@@ -29,6 +29,11 @@ IsTo node (Finishes x) = ⊥
 
 abbrev pub IsAsked : Standing → ℕ → Type 0
 IsAsked s node = IsTo node (next_at s)
+
+-- the receiver of a message that was sent may answer
+abbrev pub MayAnswer : Standing → Option Message → Type 0
+MayAnswer s None = Unit {0}
+MayAnswer s (Some m) = IsAsked s m.receiver
 
 -- the reply is told of the Reads while one of them is to be answered, and else of the Stores
 abbrev pub IsAnsweredBy : Option ℕ → ℕ → Option Reply → Standing → Standing → Type 0

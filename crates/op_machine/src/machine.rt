@@ -3,7 +3,7 @@ ghost use Rattle.std.specs.Option.{option_copied};
 ghost use Rattle.op_machine.specs.Outcomes.{answers_of, reader, message_in, ending_in};
 ghost use Rattle.op_machine.specs.Plans.{IsPlan, plan_of};
 ghost use Rattle.op_machine.specs.Telling.{IsTold};
-ghost use Rattle.op_machine.specs.Standings.{next_at, IsBegun, IsAsked, IsAnswered};
+ghost use Rattle.op_machine.specs.Standings.{next_at, IsBegun, IsAsked, MayAnswer, IsAnswered};
 
 use crate::ending::Ending;
 use crate::plan::Plan;
@@ -91,6 +91,16 @@ impl OpMachine {
 
     /// The next message, or none where none is left. The only error is want of memory; nothing changes.
     pub fn send(&mut self, alloc: Global) -> Result<Option<Message>, NoMemory>
+        ensures message { IfOk result (λ m. m ≡ message_in (next_at self.old)) }
+        ensures asked { IfOk result (MayAnswer self.new) }
+        ensures kept { self.new ≡ self.old }
+    {
+        let message = self.next_message(alloc)?;
+        Ok(message)
+    }
+
+    /// The message of `send`.
+    fn next_message(&mut self, alloc: Global) -> Result<Option<Message>, NoMemory>
         ensures message { IfOk result (λ m. m ≡ message_in (next_at self.old)) }
         ensures kept { self.new ≡ self.old }
     {
