@@ -64,8 +64,8 @@ fn seen_outcome(seen: Option<&Entry>) -> Outcome
 
 /// The effect of an operation on the document of the entry that it saw is written.
 fn effect_deed(alloc: Global, operation: &Operation, seen: Option<&Entry>) -> Result<Deed, NoMemory>
-    ensures is { IfOk result (λ deed. deed
-        ≡ deed_by (effect operation.now.id operation.now.kind (document_in (option_copied seen.entry)))) }
+    ensures is { IfOk result (λ deed. let document = document_in (option_copied seen.entry) in
+        deed ≡ deed_by (effect operation.now.id operation.now.kind document)) }
     ensures fits { IfOk result (IsFit (option_copied seen.entry)) }
 {
     match operation.effect(alloc, document_in(seen)) {

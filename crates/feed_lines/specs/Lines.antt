@@ -1,5 +1,5 @@
 -- What lines are puts, updates, removes and gets, each in one record.
-use Rattle.std.specs.Prelude.{◌≡◌, ◌≤◌, ℕ, Bool, true, false, List, codes, Option, Some, None, is_ok}
+use Rattle.std.specs.Prelude.{◌≡◌, ◌≤◌, ℕ, Bool, true, false, List, codes, Option, Some, None, Ok, is_ok}
 use Rattle.serde_json.specs.Data.{Data, Members, boolean, string, object}
 use Rattle.serde_json.specs.Find.{get}
 use Rattle.doc_types.specs.SchemaCodes.{Types}
@@ -12,10 +12,17 @@ use Rattle.doc_updates.specs.Updates as update
 use Rattle.conditions.specs.Formulas.{Formula}
 use Rattle.doc_selection.specs.Saying.{selection_in}
 use Rattle.doc_selection.specs.declared.terms.Term.{Term}
+use Rattle.messages.specs.declared.operation.OpKind.{OpKind}
 use Rattle.feed_lines.specs.Keys.{has_later_key, name_of, all_stand}
+use Rattle.feed_lines.specs.Meaning.{data_said}
 use Rattle.feed_lines.specs.Tests.{members_of, verb_of, has_type, kinds_for}
+use Rattle.feed_lines.specs.declared.command.Command.TheVariants as command
 use Rattle.feed_lines.specs.declared.keys.Verb.{Verb}
 use Rattle.feed_lines.specs.declared.keys.Verb.TheVariants as verb
+
+-- a line asks for this operation
+abbrev pub Asks : Types → Data → List ℕ → OpKind → Option (Formula Term) → Bool → Type 0
+Asks types d id kind condition create = data_said types d ≡ Ok (command.Feed (record { id = id; kind = kind; condition = condition; create = create }))
 
 -- the value of `condition`, if it is there, is a text that says this selection
 abbrev pub SaysCondition : Types → Option Data → Option (Formula Term) → Type 0
