@@ -20,7 +20,8 @@ pub fn lines_are_operations()
     ensures update { (types : Types) (d : Data) (id : List ℕ) (changes : Changes)
         (condition : Option (Formula Term)) (create : Bool)
         → Asks types d id (kind.Update changes) condition create ↔ IsUpdate types d id changes condition create }
-    ensures remove { (types : Types) (d : Data) (id : List ℕ) (condition : Option (Formula Term)) (create : Bool)
+    ensures remove { (types : Types) (d : Data) (id : List ℕ) (condition : Option (Formula Term))
+        (create : Bool)
         → Asks types d id kind.Remove condition create ↔ IsLine types verb.Remove d id condition create }
     ensures get { (types : Types) (d : Data) (id : List ℕ) (condition : Option (Formula Term)) (create : Bool)
         → Asks types d id kind.Get condition create ↔ IsLine types verb.Get d id condition create }
