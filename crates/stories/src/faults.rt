@@ -5,7 +5,7 @@ use bucket_ids::Bucket;
 use cell_session::{Cluster, Status, run_one};
 use document_ids::DocId;
 use entry_maps::{Entry, EntryMap};
-use io_ends::{LineReader, MemorySink, MemorySource, Next};
+use io_ends::{MemorySink, MemorySource};
 use lane_laws::LaneEvent;
 use stamps::Stamp;
 use std::alloc::Global;
@@ -65,26 +65,6 @@ fn each_call_of_an_end_may_fail(rt: HostRuntime) -> anyhow::Result<()> {
             "at {read:?} and {write:?}"
         );
     }
-    Ok(())
-}
-
-#[test]
-fn reading_goes_on_after_a_fault(rt: HostRuntime) -> anyhow::Result<()> {
-    let mut source = source_of(rt.alloc(), "one\ntwo", Some(1))?;
-    let mut reader = LineReader::new(rt.alloc(), 100, 10)?;
-    let mut line = Vec::new(rt.alloc());
-    assert_eq!(rt;
-        reader.next(&mut source, &mut line),
-        Next::Line { number: 1 }
-    );
-    assert_eq!(rt; line.as_slice(), b"one".as_slice());
-    assert_eq!(rt; reader.next(&mut source, &mut line), Next::ReadFault);
-    assert_eq!(rt;
-        reader.next(&mut source, &mut line),
-        Next::Line { number: 2 }
-    );
-    assert_eq!(rt; line.as_slice(), b"two".as_slice());
-    assert_eq!(rt; reader.next(&mut source, &mut line), Next::End);
     Ok(())
 }
 

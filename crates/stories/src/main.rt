@@ -3,13 +3,9 @@
 #![tactic(auto)]
 
 #[cfg(test)]
-mod choices;
-#[cfg(test)]
 mod faults;
 #[cfg(test)]
 mod large_maps;
-#[cfg(test)]
-mod lines;
 #[cfg(test)]
 mod maps;
 mod story;
