@@ -117,8 +117,8 @@ impl Plan {
 
     /// How the operation ends by its Stores, if all was told of them; takes no memory.
     pub fn stored_ending(&self, stores: &Tally, stamp: Stamp) -> Option<Ending>
-        ensures { result ≡ stored_ending (first_node (waits self.now (answers_of stores.now))) self.now
-            (answers_of stores.now) stamp }
+        ensures { let told = answers_of stores.now in
+            result ≡ stored_ending (first_node (waits self.now told)) self.now told stamp }
     {
         match self.waiting(stores) {
             Some(_) => None,

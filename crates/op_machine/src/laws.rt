@@ -23,5 +23,6 @@ pub fn nodes_by_tests()
 /// A tally says just what the list of answers says that were told, so what comes next is a function of
 /// the plan and of the answers so far.
 pub fn tallies_are_lists()
-    ensures { (id : List ℕ) (xs : List Told) (t : Tally) → IsTally id xs t → answers_of t ≡ answers_in id xs }
+    ensures { (id : List ℕ) (xs : List Told) (t : Tally)
+        → IsTally id xs t → answers_of t ≡ answers_in id xs }
 {}

@@ -154,8 +154,8 @@ impl OpMachine {
     ) -> Result<(), NoMemory>
         requires { node < 32 }
         ensures plan { self.new.plan ≡ self.old.plan }
-        ensures told { OnOk result (IsTold self.old.plan.operation.id node
-            (option_copied reply.entry) self.old.reads self.new.reads) }
+        ensures told { OnOk result
+            (IsTold self.old.plan.operation.id node (option_copied reply.entry) self.old.reads self.new.reads) }
         ensures stores { self.new.stores ≡ self.old.stores }
         ensures kept { OnErr result (self.new ≡ self.old) }
     {
@@ -181,8 +181,8 @@ impl OpMachine {
         requires { node < 32 }
         ensures plan { self.new.plan ≡ self.old.plan }
         ensures reads { self.new.reads ≡ self.old.reads }
-        ensures told { OnOk result (IsTold self.old.plan.operation.id node
-            (option_copied reply.entry) self.old.stores self.new.stores) }
+        ensures told { OnOk result
+            (IsTold self.old.plan.operation.id node (option_copied reply.entry) self.old.stores self.new.stores) }
         ensures kept { OnErr result (self.new ≡ self.old) }
     {
         let Standing {

@@ -132,8 +132,8 @@ impl Plan {
         stores: &Tally,
         entry: Option<&Entry>,
     ) -> Result<Option<Message>, NoMemory>
-        ensures { IfOk result (λ m. m
-            ≡ store_message self.now (answers_of stores.now) (option_copied entry.entry)) }
+        ensures { IfOk result
+            (λ m. m ≡ store_message self.now (answers_of stores.now) (option_copied entry.entry)) }
     {
         let (Some(entry), Some(node)) = (entry, self.waiting(stores)) else {
             return Ok(None);
