@@ -1,0 +1,213 @@
+ghost use Rattle.std.specs.Prelude.{◌≡◌, ◌==◌, ◌||◌, ◌&&◌, ℕ, ◌+◌, ◌<◌, Some, None, IfOk, OnOk, OnErr, IfSome, IfNone};
+ghost use Rattle.std.specs.Option.{option_copied};
+ghost use Rattle.node_sets.specs.Members.{has_node};
+ghost use Rattle.messages.specs.Noting.{message_of};
+ghost use Rattle.merge_rounds.specs.Rounds.{RoundState, new_round, IsNext, after_send, after_read, IsAfterApply, HaveAllShown, did_give, pieces_by};
+
+use crate::order::next_of;
+use crate::shown;
+use bucket_ids::Bucket;
+use entry_maps::EntryMap;
+use messages::{Body, Message, NodePieces, Origin, Reply};
+use node_sets::NodeSet;
+use pieces::Piece;
+use std::alloc::Global;
+use std::marker::Model;
+use value_lists::{NoMemory, TryCopy};
+
+/// A round under way.
+#[derive(Drop)]
+pub struct Round {
+    origin: Origin,
+    row: Bucket,
+    readers: NodeSet,
+    receivers: NodeSet,
+    reads: u8,
+    applies: u8,
+    awaited: Option<u8>,
+    shown: Vec<NodePieces>,
+    union: EntryMap,
+    holders: NodeSet,
+}
+
+impl Model for Round {
+    ghost use Rattle.merge_rounds.specs.RoundCodes.{round_code};
+    ghost use Rattle.merge_rounds.specs.Rounds.{RoundState};
+
+    ghost Value = { RoundState };
+
+    ghost coded = { round_code };
+
+    ghost view = { λ r. record {
+      origin = r.origin;
+      row = r.row;
+      readers = r.readers;
+      receivers = r.receivers;
+      reads = r.reads;
+      applies = r.applies;
+      awaited = r.awaited;
+      shown = r.shown.items;
+      union = r.union;
+      holders = r.holders;
+    } };
+}
+
+impl Round {
+    /// A round that has sent nothing; takes no memory.
+    pub fn new(
+        alloc: Global,
+        origin: Origin,
+        row: Bucket,
+        readers: NodeSet,
+        receivers: NodeSet,
+    ) -> Round
+        ensures { result ≡ new_round origin row readers receivers }
+    {
+        Round {
+            origin,
+            row,
+            readers,
+            receivers,
+            reads: 0,
+            applies: 0,
+            awaited: None,
+            shown: Vec::new(alloc),
+            union: EntryMap::new(alloc),
+            holders: NodeSet::of(0),
+        }
+    }
+
+    /// The next message: a Read of the row to each reader in rising number, then, where all have answered,
+    /// an Apply of the union to each receiver in rising number; `None` where nothing is left to send.
+    /// The answer to the message before was told. The only error is want of memory.
+    pub fn send(&mut self, alloc: Global) -> Result<Option<Message>, NoMemory>
+        requires { self.old.awaited ≡ None }
+        ensures message { IfOk result (λ sent. IsNext self.old sent) }
+        ensures state { IfOk result (λ sent. self.new ≡ after_send self.old sent) }
+        ensures err { OnErr result (self.new ≡ self.old) }
+    {
+        if let Some(node) = next_of(self.readers, self.reads) {
+            return Ok(Some(self.read_of(node)));
+        }
+        if !shown::have_all(self.readers, &self.shown) {
+            return Ok(None);
+        }
+        match next_of(self.receivers, self.applies) {
+            Some(node) => Ok(Some(self.apply_to(alloc, node)?)),
+            None => Ok(None),
+        }
+    }
+
+    /// The Read to a node.
+    fn read_of(&mut self, node: u8) -> Message
+        requires { self.old.reads < 32 }
+        ensures message { result ≡ message_of self.old.origin node (Body.Read self.old.row None) }
+        ensures state { self.new ≡ record self.old { reads = self.old.reads + 1; awaited = Some node } }
+    {
+        self.reads += 1;
+        self.awaited = Some(node);
+        let body = Body::Read {
+            bucket: self.row,
+            only: None,
+        };
+        self.origin.message(node, body)
+    }
+
+    /// The Apply to a node.
+    fn apply_to(&mut self, alloc: Global, node: u8) -> Result<Message, NoMemory>
+        requires { self.old.applies < 32 }
+        ensures message { IfOk result (λ sent.
+            sent ≡ message_of self.old.origin node (Body.Apply self.old.row self.old.union)) }
+        ensures state { OnOk result
+            (self.new ≡ record self.old { applies = self.old.applies + 1; awaited = Some node }) }
+        ensures err { OnErr result (self.new ≡ self.old) }
+    {
+        let body = Body::Apply {
+            bucket: self.row,
+            entries: self.union.copy(alloc)?,
+        };
+        self.applies += 1;
+        self.awaited = Some(node);
+        Ok(self.origin.message(node, body))
+    }
+
+    /// Takes the reply to the message that was sent last, or that none came; only `Answer` counts. The
+    /// only error is want of memory.
+    pub fn answer(&mut self, alloc: Global, node: u8, reply: Option<&Reply>) -> Result<(), NoMemory>
+        requires asked { self.old.awaited ≡ Some node }
+        requires node { node < 32 }
+        ensures read { self.old.applies ≡ 0
+            → OnOk result (self.new ≡ after_read self.old node (option_copied reply.entry)) }
+        ensures apply { 0 < self.old.applies
+            → OnOk result (IsAfterApply self.old self.new node (option_copied reply.entry)) }
+        ensures err { OnErr result (self.new ≡ self.old) }
+    {
+        if self.applies > 0 {
+            self.take_apply(node, shown::is_answer(reply));
+            return Ok(());
+        }
+        shown::take_reply(alloc, &mut self.shown, &mut self.union, node, reply)?;
+        self.awaited = None;
+        Ok(())
+    }
+
+    /// Takes whether a node answered the Apply.
+    fn take_apply(&mut self, node: u8, answered: bool)
+        requires { node < 32 }
+        ensures holders { (n : ℕ)
+            → has_node self.new.holders n ≡ (has_node self.old.holders n || (answered && n == node)) }
+        ensures rest { self.new ≡ record self.old { awaited = None; holders = self.new.holders } }
+    {
+        self.holders = with_if(self.holders, node, answered);
+        self.awaited = None;
+    }
+
+    /// The node whose answer is to be told before the next message, if one is.
+    pub fn awaited(&self) -> Option<u8>
+        ensures { result ≡ self.now.awaited }
+    {
+        self.awaited
+    }
+
+    /// The union of the answers; none exactly while a reader hasn't answered. Takes no memory.
+    pub fn union(&self) -> Option<&EntryMap>
+        ensures some { IfSome result (λ union. union.now ≡ self.now.union) }
+        ensures whole { IfSome result (λ union. HaveAllShown self.now.readers self.now.shown) }
+        ensures none { IfNone result (HaveAllShown self.now.readers self.now.shown → ⊥) }
+    {
+        if shown::have_all(self.readers, &self.shown) {
+            Some(&self.union)
+        } else {
+            None
+        }
+    }
+
+    /// The receivers that answered the Apply.
+    pub fn holders(&self) -> NodeSet
+        ensures { result ≡ self.now.holders }
+    {
+        self.holders
+    }
+
+    /// The nodes whose answers to the Read showed an entry.
+    pub fn givers(&self) -> NodeSet
+        ensures { (node : ℕ) → node < 32 → has_node result node ≡ did_give node self.now.shown }
+    {
+        shown::givers(&self.shown)
+    }
+
+    /// The pieces that a node's answer showed; none where it didn't answer.
+    pub fn pieces_of(&self, node: u8) -> &[Piece]
+        ensures { result.now ≡ pieces_by node self.now.shown }
+    {
+        shown::pieces_by(node, &self.shown)
+    }
+}
+
+/// A set, with a node too where a test holds.
+fn with_if(set: NodeSet, node: u8, test: bool) -> NodeSet
+    requires { node < 32 }
+    ensures { (n : ℕ) → has_node result n ≡ (has_node set n || (test && n == node)) }
+{
+    if test { set.with(node) } else { set }
+}
