@@ -3,7 +3,7 @@ use Rattle.std.proofs.Common.{◌≡◌, ℕ, ◌<◌, Bool, true, false, List, 
 use Rattle.std.proofs.Common.{nat_lt, arith}
 use Rattle.std.proofs.lemmas.Bool.Decides.{nat_tests}
 use Rattle.doc_types.specs.SchemaCodes.{Types}
-use Rattle.feed_lines.specs.Meaning.{longest}
+use Rattle.io_ends.specs.declared.sizes.TheConstants.{LONGEST}
 use Rattle.cell_session.specs.Asking.{asked_of}
 use Rattle.cell_session.specs.declared.asked.Asked.TheVariants as command
 
@@ -11,6 +11,6 @@ chosen : {X : Type 0} (t : Bool) (a b : X) → t ≡ true → (if t then a else 
 chosen true a b h = refl
 chosen false a b h = cc
 
-pub long_command : (types : Types) (bytes : List ℕ) → longest < length bytes → asked_of types bytes ≡ command.TooLong
+pub long_command : (types : Types) (bytes : List ℕ) → LONGEST < length bytes → asked_of types bytes ≡ command.TooLong
 unfolding asked_of
-long_command types bytes long = chosen (nat_lt longest (length bytes)) _ _ (grind (arith, nat_tests))
+long_command types bytes long = chosen (nat_lt LONGEST (length bytes)) _ _ (grind (arith, nat_tests))

@@ -1,7 +1,8 @@
 -- What a line of a session asks for.
 use Rattle.std.specs.Prelude.{ℕ, List, length, Result, Ok, Err, nat_lt, if◌then◌else◌}
 use Rattle.doc_types.specs.SchemaCodes.{Types}
-use Rattle.feed_lines.specs.Meaning.{longest, line_said}
+use Rattle.io_ends.specs.declared.sizes.TheConstants.{LONGEST}
+use Rattle.feed_lines.specs.Meaning.{line_said}
 use Rattle.feed_lines.specs.declared.command.Cause.{Cause}
 use Rattle.feed_lines.specs.declared.command.Command.{Command}
 use Rattle.feed_lines.specs.declared.command.Command.TheVariants as said
@@ -15,4 +16,4 @@ asked_by (Err why) = asked.Bad why
 
 -- what a line asks for under a schema
 unfoldable pub asked_of : Types → List ℕ → Asked
-asked_of types bytes = if nat_lt longest (length bytes) then asked.TooLong else asked_by (line_said types bytes)
+asked_of types bytes = if nat_lt LONGEST (length bytes) then asked.TooLong else asked_by (line_said types bytes)

@@ -3,7 +3,8 @@ ghost use Rattle.cell_session.specs.Asking.{asked_by, asked_of};
 ghost use Rattle.feed_lines.specs.Meaning.{line_said};
 
 use doc_types::Schema;
-use feed_lines::{Cause, Command, LONGEST, LineFault, read_line};
+use feed_lines::{Cause, Command, LineFault, read_line};
+use io_ends::LONGEST;
 use messages::Operation;
 use std::alloc::Global;
 use value_lists::NoMemory;

@@ -22,4 +22,4 @@ mod reading;
 mod shape;
 
 pub use command::{Cause, Command, LineFault};
-pub use reading::{LONGEST, read_line};
+pub use reading::read_line;

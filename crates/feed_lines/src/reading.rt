@@ -17,13 +17,11 @@ use doc_types::Schema;
 use doc_updates::Update;
 use document_ids::DocId;
 use documents::{Document, DocumentFault};
+use io_ends::LONGEST;
 use messages::{OpKind, Operation};
 use serde_json::Value;
 use std::alloc::Global;
 use value_lists::TryCopy;
-
-/// The most bytes of a line, without its line feed.
-pub const LONGEST: usize = 65_536;
 
 fn is_blank_byte(byte: u8) -> bool
     ensures { result ≡ is_blank byte }
