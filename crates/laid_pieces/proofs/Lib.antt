@@ -9,3 +9,4 @@ pub mod KeyLaws
 pub mod ToldLaws
 pub mod SerialLaws
 pub mod FreshLaws
+pub mod KeptLaws

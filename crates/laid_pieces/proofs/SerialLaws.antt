@@ -36,7 +36,7 @@ none-filter test keep (p ∷ ps) h = let parts = or_false (test p) _ h in by_tes
 -- ---- nothing that is not there comes with an older serial than the new one
 
 module _ (b : Low) (s t : ℕ) (older : s < t) where
-  fresh : (p : Piece) → p.serial ≡ t → is_piece b s p ≡ false
+  pub fresh : (p : Piece) → p.serial ≡ t → is_piece b s p ≡ false
   fresh p e = and_none (same_bucket p.bucket b) (p.serial == s) (ap (λ x. x == s) e ∙ not_eq s t older)
 
   none-map : (f : Piece → Piece) → ((p : Piece) → is_piece b s p ≡ false → is_piece b s (f p) ≡ false) → (ps : List Piece) → list_any (is_piece b s) ps ≡ false → list_any (is_piece b s) (map f ps) ≡ false
@@ -63,7 +63,7 @@ module _ (b : Low) (s t : ℕ) (older : s < t) where
           by_test true = fresh (record { bucket = p.bucket; serial = t; ready = true }) refl
           by_test false = e
 
-  none-parts : (k : ℕ) (from to : Low) (r : Bool) → list_any (is_piece b s) (parts k from to t r) ≡ false
+  pub none-parts : (k : ℕ) (from to : Low) (r : Bool) → list_any (is_piece b s) (parts k from to t r) ≡ false
   none-parts zero from to r = ap (λ x. x || false) (fresh (record { bucket = from; serial = t; ready = r }) refl)
   none-parts (suc k) from to r = by_test (covers (first_child from) to) (none-parts k (first_child from) to r) (none-parts k (second_child from) to r)
     where
