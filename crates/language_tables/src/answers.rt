@@ -56,6 +56,9 @@ impl World {
 fn document(alloc: Global, schema: &Schema, id: &str, fields: &str) -> Result<Document> {
     let id = DocId::parse(alloc, id)?;
     let fields = Value::from_str(alloc, fields)?;
+    if !fields.is_object() {
+        return Err(anyhow!("the fields are no object"));
+    }
     Ok(Document::from_json(alloc, id, &fields, schema)?)
 }
 

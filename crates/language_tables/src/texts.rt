@@ -12,7 +12,10 @@ pub fn cut<'a>(alloc: Global, line: &'a str) -> Result<(&'a str, usize, String)>
 pub fn expanded(alloc: Global, text: &str) -> Result<String> {
     let mut said = String::new(alloc);
     let mut rest = text;
-    while let Some((before, behind)) = rest.split_once('\\') {
+    for _ in 0..u64::MAX {
+        let Some((before, behind)) = rest.split_once('\\') else {
+            break;
+        };
         said.push_str(before)?;
         rest = escape(&mut said, behind)?;
     }
