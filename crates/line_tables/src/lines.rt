@@ -5,6 +5,22 @@ use feed_lines::{Cause, Command, LineFault, read_line};
 use messages::OpKind;
 use std::alloc::Global;
 
+/// A cause in a word.
+fn word_of_cause(cause: Cause) -> &'static str {
+    match cause {
+        Cause::Json => "json",
+        Cause::Object => "object",
+        Cause::Unbuilt => "unbuilt",
+        Cause::Key => "key",
+        Cause::Id => "id",
+        Cause::Type => "type",
+        Cause::Field => "field",
+        Cause::Value => "value",
+        Cause::Size => "size",
+        Cause::Condition => "condition",
+    }
+}
+
 /// What a line of the default schema asks for, or its cause, in a word.
 fn word_of(alloc: Global, line: &[u8]) -> anyhow::Result<&'static str> {
     let schema = Schema::from_json(alloc, DEFAULT_SCHEMA)?;
@@ -17,18 +33,7 @@ fn word_of(alloc: Global, line: &[u8]) -> anyhow::Result<&'static str> {
             OpKind::Get => "a get",
         },
         Err(LineFault::NoMemory) => "no memory",
-        Err(LineFault::BadLine { cause }) => match cause {
-            Cause::Json => "json",
-            Cause::Object => "object",
-            Cause::Unbuilt => "unbuilt",
-            Cause::Key => "key",
-            Cause::Id => "id",
-            Cause::Type => "type",
-            Cause::Field => "field",
-            Cause::Value => "value",
-            Cause::Size => "size",
-            Cause::Condition => "condition",
-        },
+        Err(LineFault::BadLine { cause }) => word_of_cause(cause),
     })
 }
 
