@@ -21,20 +21,27 @@ fn word_of_cause(cause: Cause) -> &'static str {
     }
 }
 
+/// What is asked for, in a word.
+fn word_of_kind(kind: &OpKind) -> &'static str {
+    match kind {
+        OpKind::Put(_) => "a put",
+        OpKind::Update(_) => "an update",
+        OpKind::Remove => "a remove",
+        OpKind::Get => "a get",
+    }
+}
+
 /// What a line of the default schema asks for, or its cause, in a word.
-fn word_of(alloc: Global, line: &[u8]) -> anyhow::Result<&'static str> {
+fn word_of(alloc: Global, line: &[u8]) -> anyhow::Result<String> {
     let schema = Schema::from_json(alloc, DEFAULT_SCHEMA)?;
-    Ok(match read_line(alloc, line, &schema) {
-        Ok(Command::Blank) => "blank",
-        Ok(Command::Feed { operation }) => match operation.kind {
-            OpKind::Put(_) => "a put",
-            OpKind::Update(_) => "an update",
-            OpKind::Remove => "a remove",
-            OpKind::Get => "a get",
-        },
-        Err(LineFault::NoMemory) => "no memory",
-        Err(LineFault::BadLine { cause }) => word_of_cause(cause),
-    })
+    match read_line(alloc, line, &schema) {
+        Ok(Command::Blank) => Ok(String::from_str(alloc, "blank")?),
+        Ok(Command::Feed { operation }) => {
+            Ok(String::from_str(alloc, word_of_kind(&operation.kind))?)
+        }
+        Err(LineFault::NoMemory) => Ok(String::from_str(alloc, "no memory")?),
+        Err(LineFault::BadLine { cause }) => { Ok(String::from_str(alloc, word_of_cause(cause))?) }
+    }
 }
 
 #[test]
@@ -61,7 +68,8 @@ fn lines_ask_for_operations(rt: HostRuntime) -> anyhow::Result<()> {
         ),
     ];
     for (line, wanted) in cases {
-        assert_eq!(rt; word_of(rt.alloc(), line.as_bytes())?, wanted, "at {line}");
+        let came = word_of(rt.alloc(), line.as_bytes())?;
+        assert_eq!(rt; came.as_str(), wanted, "at {line}");
     }
     Ok(())
 }
@@ -133,12 +141,11 @@ fn bad_lines_have_their_first_cause(rt: HostRuntime) -> anyhow::Result<()> {
         ),
     ];
     for (line, wanted) in cases {
-        assert_eq!(rt; word_of(rt.alloc(), line.as_bytes())?, wanted, "at {line}");
+        let came = word_of(rt.alloc(), line.as_bytes())?;
+        assert_eq!(rt; came.as_str(), wanted, "at {line}");
     }
-    assert_eq!(rt;
-        word_of(rt.alloc(), b"{\"get\":\"id:ns:music::\xff\"}")?,
-        "json"
-    );
+    let came = word_of(rt.alloc(), b"{\"get\":\"id:ns:music::\xff\"}")?;
+    assert_eq!(rt; came.as_str(), "json");
     Ok(())
 }
 
@@ -166,11 +173,8 @@ fn size_is_tested_last(rt: HostRuntime) -> anyhow::Result<()> {
     ];
     for (others, count, wanted) in cases {
         let line = put_text(alloc, others, count)?;
-        assert_eq!(rt;
-            word_of(alloc, line.as_bytes())?,
-            wanted,
-            "at {others}{count}"
-        );
+        let came = word_of(alloc, line.as_bytes())?;
+        assert_eq!(rt; came.as_str(), wanted, "at {others}{count}");
     }
     Ok(())
 }
