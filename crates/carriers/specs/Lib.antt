@@ -1,0 +1,3 @@
+-- What a caller needs: `Fates`; `Plans` says what a carrier with plans keeps.
+pub mod Fates
+pub mod Plans
