@@ -1,12 +1,12 @@
 -- A piece that a change does not meet stays, with its serial.
-use Rattle.std.proofs.Common.{◌≡◌, ◌==◌, ◌&&◌, ◌||◌, not, ℕ, zero, suc, ◌+◌, ◌-◌, ◌<◌, Bool, true, false, cond, List, [], ◌∷◌, ◌++◌, map, filter, refl, sym, ap, ap₂, ◌∙◌, nat_lt}
+use Rattle.std.proofs.Common.{◌≡◌, ◌==◌, ◌&&◌, ◌||◌, not, ℕ, ◌-◌, ◌<◌, Bool, true, false, cond, List, [], ◌∷◌, ◌++◌, map, filter, refl, sym, ap, ap₂, ◌∙◌, nat_lt}
 use mathlib.Core.Bool.{true≢false}
 use Rattle.std.specs.List.{list_any}
 use Rattle.std.proofs.lemmas.List.Folds.{list_any-append}
-use Rattle.bucket_ids.specs.Buckets.{Low, IsBucket, covers, has_key}
+use Rattle.bucket_ids.specs.Buckets.{Low, IsBucket, covers}
 use Rattle.bucket_ids.specs.Paths.{first_path}
 use Rattle.pieces.specs.declared.piece.Piece.{Piece}
-use Rattle.laid_pieces.specs.Pieces.{same_bucket, meets, is_piece, is_over, is_inside, is_exactly, has_key_of, does_meet, with_serial, renewed, ready_at, split_at, join_at, with_piece, apply_at, without, parts}
+use Rattle.laid_pieces.specs.Pieces.{same_bucket, meets, is_piece, is_over, is_inside, is_exactly, does_meet, with_serial, renewed, ready_at, split_at, join_at, with_piece, apply_at, without, parts}
 use Rattle.laid_pieces.proofs.PieceLaws.{bucket-same, meets-refl}
 use Rattle.laid_pieces.proofs.SerialLaws.{fresh, none-parts}
 

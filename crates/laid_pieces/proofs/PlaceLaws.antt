@@ -25,16 +25,6 @@ drop_drop n (suc i) [] = nothing n ∙ sym (ap (λ m. drop m []) (let e : suc i 
     nothing (suc m) = refl
 drop_drop n (suc i) (x ∷ xs) = drop_drop n i xs ∙ sym (ap (λ m. drop m (x ∷ xs)) (let e : suc i + n ≡ suc (i + n) = omega arith in e))
 
-pub to_end : (n : ℕ) (xs : List Piece) → take (length xs - n) (drop n xs) ≡ drop n xs
-to_end zero [] = refl
-to_end zero (x ∷ xs) = ap (λ m. take m (x ∷ xs)) (let e : suc (length xs) - 0 ≡ suc (length xs) = omega arith in e) ∙ ap (λ ys. x ∷ ys) (take_all xs)
-  where
-    take_all : (xs : List Piece) → take (length xs) xs ≡ xs
-    take_all [] = refl
-    take_all (x ∷ xs) = ap (λ ys. x ∷ ys) (take_all xs)
-to_end (suc n) [] = ap (λ m. take {A = Piece} m []) (let e : zero - suc n ≡ 0 = omega arith in e)
-to_end (suc n) (x ∷ xs) = ap (λ m. take m (drop n xs)) (let e : suc (length xs) - suc n ≡ length xs - n = omega arith in e) ∙ to_end n xs
-
 -- ---- tests that ask for more than meeting
 pub over_sub : (b : Low) (p : Piece) → does_meet b p ≡ false → is_over b p ≡ false
 over_sub b p h = (or_false (covers p.bucket b) (covers b p.bucket) h).0

@@ -1,5 +1,5 @@
 -- A serial comes once.
-use Rattle.std.proofs.Common.{◌≡◌, ◌≢◌, ◌==◌, ◌&&◌, ◌||◌, not, ℕ, zero, suc, ◌+◌, ◌-◌, ◌<◌, ◌≤◌, Bool, true, false, cond, List, [], ◌∷◌, ◌++◌, map, filter, refl, sym, ap, ap₂, ◌∙◌, arith, eqb, eqb-true, nat_lt, inl, inr}
+use Rattle.std.proofs.Common.{◌≡◌, ◌==◌, ◌&&◌, ◌||◌, not, ℕ, zero, suc, ◌+◌, ◌-◌, ◌<◌, ◌≤◌, Bool, true, false, cond, List, [], ◌∷◌, ◌++◌, map, filter, refl, sym, ap, ap₂, ◌∙◌, arith, eqb, eqb-true, nat_lt, inl, inr}
 use mathlib.Core.Bool.{true≢false}
 use Rattle.std.specs.List.{list_any}
 use Rattle.std.proofs.lemmas.Bool.{cases_lt}
@@ -7,11 +7,11 @@ use Rattle.std.proofs.lemmas.List.Folds.{list_any-append}
 use Rattle.bucket_ids.specs.Buckets.{Low, covers, first_child, second_child}
 use Rattle.bucket_ids.specs.Paths.{first_path}
 use Rattle.pieces.specs.declared.piece.Piece.{Piece}
-use Rattle.laid_pieces.specs.Pieces.{same_bucket, is_piece, is_over, is_inside, is_exactly, has_key_of, does_meet, with_serial, renewed, ready_at, split_at, join_at, with_piece, apply_at, without, parts}
+use Rattle.laid_pieces.specs.Pieces.{same_bucket, is_piece, is_over, is_inside, is_exactly, has_key_of, does_meet, with_serial, renewed, ready_at, split_at, join_at, with_piece, apply_at, parts}
 use Rattle.laid_pieces.specs.Holdings.{Holding, AreUpTo}
 use Rattle.laid_pieces.specs.Lives.{Change, Store, Apply, Delete, Split, Join, Ready, Activate, after_change, life, names}
 use Rattle.laid_pieces.proofs.PieceLaws.{or_false, both}
-use Rattle.laid_pieces.proofs.Serials.{AreUpTo-renewed, AreUpTo-ready, AreUpTo-split, AreUpTo-join, AreUpTo-filter, AreUpTo-more}
+use Rattle.laid_pieces.proofs.Serials.{AreUpTo-renewed, AreUpTo-ready, AreUpTo-split, AreUpTo-join, AreUpTo-filter}
 use Rattle.laid_pieces.proofs.ApplyLaws.{AreUpTo-apply}
 
 not_eq : (x y : ℕ) → x < y → (y == x) ≡ false

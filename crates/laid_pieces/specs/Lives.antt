@@ -1,9 +1,9 @@
 -- The life of a node's pieces: the accepted changes, newest first, and what they leave.
-use Rattle.std.specs.Prelude.{◌≡◌, ◌&&◌, ◌==◌, ℕ, Bool, true, not, List, [], ◌∷◌}
+use Rattle.std.specs.Prelude.{◌&&◌, ◌==◌, ℕ, Bool, not, List, [], ◌∷◌}
 use Rattle.std.specs.List.{list_any}
 use Rattle.bucket_ids.specs.Buckets.{Low}
 use Rattle.pieces.specs.declared.piece.Piece.{Piece}
-use Rattle.laid_pieces.specs.Pieces.{is_piece, has_key_of, does_meet, is_over, is_inside, is_exactly}
+use Rattle.laid_pieces.specs.Pieces.{is_piece, has_key_of, does_meet}
 use Rattle.laid_pieces.specs.Holdings.{Holding, no_pieces, after_store, after_apply, after_split, after_join, after_ready, after_activate, after_delete}
 
 pub data Change : Type 0 where

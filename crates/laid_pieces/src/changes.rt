@@ -1,5 +1,5 @@
-ghost use Rattle.std.specs.Prelude.{◌≡◌, ◌≤◌, ◌-◌, ◌++◌, OnOk, IfOk, true, false};
-ghost use Rattle.std.specs.List.{list_any};
+ghost use Rattle.std.specs.Prelude.{◌≡◌, ◌≤◌, ◌-◌, ◌++◌, OnOk, OnErr, true, false, length};
+ghost use Rattle.std.specs.List.{list_any, splice};
 ghost use Rattle.bucket_ids.specs.Buckets.{IsBucket};
 ghost use Rattle.laid_pieces.specs.Pieces.{parts, split_at, join_at, apply_at, is_over, is_inside};
 ghost use Rattle.laid_pieces.specs.Places.{IsFirstOver, IsRunInside};
@@ -48,23 +48,40 @@ fn push_parts(
     push_parts(all, second, to, serial, ready)
 }
 
-/// The pieces, where the one at a place, which covers a bucket, is split until the bucket is a piece.
+/// Puts others in the place of the pieces from one place to another; those behind are moved, none is copied.
+/// The only error is want of memory.
+fn replace_between(
+    pieces: &mut Vec<Piece>,
+    from: usize,
+    to: usize,
+    others: Vec<Piece>,
+) -> Result<(), NoMemory>
+    requires rising { from ≤ to }
+    requires within { to ≤ length pieces.old.items }
+    ensures ok { OnOk result (pieces.new.items ≡ splice pieces.old.items from to others.items) }
+    ensures err { OnErr result (pieces.new.items ≡ pieces.old.items) }
+{
+    pieces.splice(from..to, others)?;
+    Ok(())
+}
+
+/// Splits the piece at a place, which covers a bucket, until the bucket is a piece. The only error is want of
+/// memory.
 pub fn split_pieces(
     alloc: Global,
-    pieces: &[Piece],
+    pieces: &mut Vec<Piece>,
     at: usize,
     bucket: Bucket,
     serial: u64,
-) -> Result<Vec<Piece>, NoMemory>
-    requires { IsFirstOver bucket pieces.now at }
-    ensures { IfOk result (λ all. all.items ≡ split_at bucket serial pieces.now) }
+) -> Result<(), NoMemory>
+    requires { IsFirstOver bucket pieces.old.items at }
+    ensures ok { OnOk result (pieces.new.items ≡ split_at bucket serial pieces.old.items) }
+    ensures err { OnErr result (pieces.new.items ≡ pieces.old.items) }
 {
-    let mut all = Vec::with_capacity(alloc, pieces.len())?;
-    all.extend_from_slice(&pieces[..at])?;
     let piece = pieces[at];
-    push_parts(&mut all, piece.bucket, bucket, serial, piece.ready)?;
-    all.extend_from_slice(&pieces[at + 1..])?;
-    Ok(all)
+    let mut parts = Vec::new(alloc);
+    push_parts(&mut parts, piece.bucket, bucket, serial, piece.ready)?;
+    replace_between(pieces, at, at + 1, parts)
 }
 
 /// Whether any of the pieces is ready.
@@ -79,63 +96,59 @@ fn is_any_ready(pieces: &[Piece]) -> bool
     false
 }
 
-/// The pieces, where those inside a bucket are one.
+/// Makes the pieces inside a bucket one. The only error is want of memory.
 pub fn join_pieces(
     alloc: Global,
-    pieces: &[Piece],
+    pieces: &mut Vec<Piece>,
     from: usize,
     to: usize,
     bucket: Bucket,
     serial: u64,
-) -> Result<Vec<Piece>, NoMemory>
-    requires { IsRunInside bucket pieces.now from to }
-    ensures { IfOk result (λ all. all.items ≡ join_at bucket serial pieces.now) }
+) -> Result<(), NoMemory>
+    requires { IsRunInside bucket pieces.old.items from to }
+    ensures ok { OnOk result (pieces.new.items ≡ join_at bucket serial pieces.old.items) }
+    ensures err { OnErr result (pieces.new.items ≡ pieces.old.items) }
 {
     let ready = is_any_ready(&pieces[from..to]);
-    let mut all = Vec::with_capacity(alloc, pieces.len())?;
-    all.extend_from_slice(&pieces[..from])?;
-    all.push(Piece {
+    let mut joined = Vec::new(alloc);
+    joined.push(Piece {
         bucket,
         serial,
         ready,
     })?;
-    all.extend_from_slice(&pieces[to..])?;
-    Ok(all)
+    replace_between(pieces, from, to, joined)
 }
 
-/// The pieces with one more, which isn't ready.
-fn more_pieces(
-    alloc: Global,
-    pieces: &[Piece],
-    bucket: Bucket,
-    serial: u64,
-) -> Result<Vec<Piece>, NoMemory>
-    requires laid { IsLaid 0 pieces.now }
-    requires over { list_any (is_over bucket) pieces.now ≡ false }
-    requires inside { list_any (is_inside bucket) pieces.now ≡ false }
-    ensures { IfOk result (λ all. all.items ≡ apply_at bucket serial pieces.now) }
+/// Adds a piece, which isn't ready. The only error is want of memory.
+fn add_piece(pieces: &mut Vec<Piece>, bucket: Bucket, serial: u64) -> Result<(), NoMemory>
+    requires laid { IsLaid 0 pieces.old.items }
+    requires over { list_any (is_over bucket) pieces.old.items ≡ false }
+    requires inside { list_any (is_inside bucket) pieces.old.items ≡ false }
+    ensures ok { OnOk result (pieces.new.items ≡ apply_at bucket serial pieces.old.items) }
+    ensures err { OnErr result (pieces.new.items ≡ pieces.old.items) }
 {
     let at = place_for(pieces, bucket.run().0);
-    let mut all = Vec::with_capacity(alloc, pieces.len())?;
-    all.extend_from_slice(&pieces[..at])?;
-    all.push(Piece {
-        bucket,
-        serial,
-        ready: false,
-    })?;
-    all.extend_from_slice(&pieces[at..])?;
-    Ok(all)
+    pieces.insert(
+        at,
+        Piece {
+            bucket,
+            serial,
+            ready: false,
+        },
+    )?;
+    Ok(())
 }
 
-/// The pieces, where a bucket is made one of them.
-pub fn made_pieces(
+/// Makes a bucket one of the pieces. The only error is want of memory.
+pub fn make_piece(
     alloc: Global,
-    pieces: &[Piece],
+    pieces: &mut Vec<Piece>,
     bucket: Bucket,
     serial: u64,
-) -> Result<Vec<Piece>, NoMemory>
-    requires { IsLaid 0 pieces.now }
-    ensures pieces { IfOk result (λ all. all.items ≡ apply_at bucket serial pieces.now) }
+) -> Result<(), NoMemory>
+    requires { IsLaid 0 pieces.old.items }
+    ensures ok { OnOk result (pieces.new.items ≡ apply_at bucket serial pieces.old.items) }
+    ensures err { OnErr result (pieces.new.items ≡ pieces.old.items) }
     ensures valid { IsBucket bucket }
 {
     if let Some(at) = place_over(pieces, bucket) {
@@ -144,5 +157,5 @@ pub fn made_pieces(
     if let Some((from, to)) = run_inside(pieces, bucket) {
         return join_pieces(alloc, pieces, from, to, bucket, serial);
     }
-    more_pieces(alloc, pieces, bucket, serial)
+    add_piece(pieces, bucket, serial)
 }

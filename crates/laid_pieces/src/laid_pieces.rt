@@ -7,7 +7,7 @@ ghost use Rattle.laid_pieces.specs.Told.{IsTold, split_told, join_told, ready_to
 ghost use Rattle.laid_pieces.specs.Holdings.{IsHolding, no_pieces, after_store, after_apply, after_split, after_join, after_ready, after_activate, after_delete};
 ghost use Rattle.laid_pieces.specs.declared.fault.StoreFault.TheVariants as fault;
 
-use crate::changes::{join_pieces, made_pieces, split_pieces};
+use crate::changes::{join_pieces, make_piece, split_pieces};
 use crate::fault::StoreFault;
 use crate::laws::runs_are_known;
 use crate::places::{has_key, is_met, key_bucket, place_of, place_over, run_inside, run_of};
@@ -126,7 +126,8 @@ impl LaidPieces {
     {
         runs_are_known();
         let serial = self.serial + 1;
-        let pieces = made_pieces(alloc, &self.pieces, bucket, serial)?;
+        let mut pieces = copy_all(alloc, &self.pieces)?;
+        make_piece(alloc, &mut pieces, bucket, serial)?;
         Ok(LaidPieces { pieces, serial })
     }
 
@@ -143,11 +144,11 @@ impl LaidPieces {
         let Some(at) = place_over(&self.pieces, bucket) else {
             return Err(StoreFault::NoBucket);
         };
-        let Ok(pieces) = split_pieces(alloc, &self.pieces, at, bucket, self.serial + 1) else {
+        let serial = self.serial + 1;
+        let Ok(()) = split_pieces(alloc, &mut self.pieces, at, bucket, serial) else {
             return Err(StoreFault::NoMemory);
         };
-        self.serial += 1;
-        self.pieces = pieces;
+        self.serial = serial;
         Ok(())
     }
 
@@ -164,11 +165,11 @@ impl LaidPieces {
         let Some((from, to)) = run_inside(&self.pieces, bucket) else {
             return Err(StoreFault::NoBucket);
         };
-        let Ok(pieces) = join_pieces(alloc, &self.pieces, from, to, bucket, self.serial + 1) else {
+        let serial = self.serial + 1;
+        let Ok(()) = join_pieces(alloc, &mut self.pieces, from, to, bucket, serial) else {
             return Err(StoreFault::NoMemory);
         };
-        self.serial += 1;
-        self.pieces = pieces;
+        self.serial = serial;
         Ok(())
     }
 

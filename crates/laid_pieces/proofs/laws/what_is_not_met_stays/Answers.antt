@@ -1,4 +1,4 @@
-use Rattle.std.proofs.Common.{◌+◌, ◌<◌, arith}
+use Rattle.std.proofs.Common.{◌+◌, arith}
 use Rattle.bucket_ids.specs.Buckets.{has_key}
 use Rattle.laid_pieces.proofs.KeptLaws.{kept-renewed, kept-apply, kept-split, kept-join, kept-made_ready, kept-activate, kept-delete}
 use Rattle.laid_pieces.proofs.laws.what_is_not_met_stays.Goals as goal

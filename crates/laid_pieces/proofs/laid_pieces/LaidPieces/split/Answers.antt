@@ -13,9 +13,9 @@ returns-in_default-split_pieces-clause-told c =
     let some = rw c.deref.ensures.value at c.in-Some.ensures.some in
     rw (← c.self.view_is) (told-over c.args.bucket c.self.inside.pieces.items c.in-Some.at d some)
 
-pub invariant_of-self : goal.invariant_of-self
-invariant_of-self c =
-    let same : c.in-Ok.pieces.items ≡ split_at c.args.bucket (c.self.inside.serial + 1) c.self.inside.pieces.items = rw c.deref-2.ensures.value at c.in-Ok.ensures in
+pub invariant_of-self-2 : goal.invariant_of-self-2
+invariant_of-self-2 c =
+    let same : c.split_pieces.new.pieces.items ≡ split_at c.args.bucket (c.self.inside.serial + 1) c.self.inside.pieces.items = c.in-Ok.ensures.ok in
     record { laid = rw same (IsLaid-split c.runs_are_known.ensures c.args.bucket c.place_over.ensures.valid _ 0 _ c.self.invariant.laid); up_to = rw same (AreUpTo-split c.args.bucket _ _ c.self.invariant.up_to) }
 
 pub returns-clause-told : goal.returns-clause-told
@@ -26,5 +26,5 @@ returns-clause-told c =
 
 pub returns-clause-keys : goal.returns-clause-keys
 returns-clause-keys c = λ key small.
-    let same : c.in-Ok.pieces.items ≡ split_at c.args.bucket (c.self.inside.serial + 1) c.self.inside.pieces.items = rw c.deref-2.ensures.value at c.in-Ok.ensures in
+    let same : c.split_pieces.new.pieces.items ≡ split_at c.args.bucket (c.self.inside.serial + 1) c.self.inside.pieces.items = c.in-Ok.ensures.ok in
     rw (← c.self.view_is) (ap (holds key) same ∙ holds-split c.runs_are_known.ensures key small c.args.bucket c.place_over.ensures.valid _ 0 _ c.self.invariant.laid)
