@@ -5,5 +5,6 @@ pub mod ChunkLaws
 pub mod StoredLaws
 pub mod RunLaws
 pub mod MergeLaws
+pub mod RowLaws
 pub mod CountLaws
 pub mod StampLaws

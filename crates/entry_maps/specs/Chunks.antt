@@ -1,9 +1,10 @@
 -- Slots in rows: the rows joined are one list.
-use Rattle.std.specs.Prelude.{◌≡◌, ℕ, ◌+◌, ◌<◌, ◌≤◌, Bool, true, false, List, [], ◌∷◌, length, take}
+use Rattle.std.specs.Prelude.{◌≡◌, ℕ, ◌+◌, ◌<◌, ◌≤◌, Bool, true, false, List, [], ◌∷◌, length, take, drop, slice_range}
 use Rattle.std.specs.List.{All, AllWithin, HoldsAt, flat_map}
 use Rattle.entry_maps.specs.declared.slots.Slot.{Slot}
 use Rattle.entry_maps.specs.declared.chunks.Chunks.{Chunks}
 use Rattle.entry_maps.specs.declared.chunks.Spot.{Spot}
+use Rattle.entry_maps.specs.declared.rows.Rows.{Rows}
 use Rattle.entry_maps.specs.Order.{is_below}
 
 -- all slots, in order
@@ -14,6 +15,14 @@ flat c = flat_map (λ r. r.items) c.rows.items
 abbrev pub flat_before : Chunks → ℕ → List Slot
 flat_before c row = flat_map (λ r. r.items) (take row c.rows.items)
 
+-- the slots from this row on
+abbrev pub flat_behind : Chunks → ℕ → List Slot
+flat_behind c row = flat_map (λ r. r.items) (drop row c.rows.items)
+
+-- the slots of some rows
+abbrev pub flat_of : Chunks → Rows → List Slot
+flat_of c rows = flat_map (λ r. r.items) (slice_range c.rows.items rows.from rows.to)
+
 -- the place among all slots
 abbrev pub place : Chunks → Spot → ℕ
 place c spot = length (flat_before c spot.row) + spot.at
@@ -21,6 +30,11 @@ place c spot = length (flat_before c spot.row) + spot.at
 -- no row is empty
 abbrev pub AreSome : Chunks → Type 0
 AreSome c = All (λ r. 0 < length r.items) c.rows.items
+
+-- there are such rows
+pub record AreRows (c : Chunks) (rows : Rows) : Type 0 where
+  pub rising : rows.from ≤ rows.to
+  pub within : rows.to ≤ length c.rows.items
 
 -- the spot lies within its row or behind the slots of that row, or behind all rows
 pub record IsSpot (c : Chunks) (spot : Spot) : Type 0 where

@@ -1,7 +1,8 @@
 -- The order of slots: by path, and by id among those of one path.
-use Rattle.std.specs.Prelude.{ℕ, Bool, List}
+use Rattle.std.specs.Prelude.{◌≡◌, ℕ, Bool, List}
 use Rattle.std.specs.Ordering.{nat_cmp, on, then_cmp, is_lt}
 use Rattle.std.specs.declared.cmp.Ordering.{Ordering}
+use Rattle.std.specs.declared.cmp.Ordering.TheVariants.{Less}
 use Rattle.entry_maps.specs.declared.slots.Slot.{Slot}
 use Rattle.entry_maps.specs.EntryCodes.{id_cmp}
 
@@ -18,3 +19,7 @@ slot_cmp = on mark mark_cmp
 -- the slot stands below a path with an id
 abbrev pub is_below : ℕ → List ℕ → Slot → Bool
 is_below path id s = is_lt (mark_cmp (mark s) (path, id))
+
+-- one slot stands below another
+abbrev pub IsLower : Slot → Slot → Type 0
+IsLower a b = slot_cmp a b ≡ Less

@@ -85,8 +85,9 @@ impl Chunks {
         Ok(())
     }
 
-    /// Adds a slot behind all. The only error is want of memory.
-    pub fn append(&mut self, alloc: Global, slot: Slot) -> Result<(), NoMemory>
+    /// Adds a slot behind all, in a new row where the last one has this length. The only error is want of
+    /// memory.
+    pub fn append(&mut self, alloc: Global, long: usize, slot: Slot) -> Result<(), NoMemory>
         requires { AreSome self.old }
         ensures ok { OnOk result (flat self.new ≡ flat self.old ++ slot ∷ []) }
         ensures some { AreSome self.new }
@@ -95,7 +96,7 @@ impl Chunks {
         if rows > 0 {
             let row = rows - 1;
             let at = self.rows[row].len();
-            if at < 384 {
+            if at < long {
                 return self.insert_in(Spot { row, at }, slot);
             }
         }

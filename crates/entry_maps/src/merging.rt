@@ -1,11 +1,12 @@
-ghost use Rattle.std.specs.Prelude.{◌≡◌, ℕ, List, IfOk, OnOk, OnErr, Some, option_map};
+ghost use Rattle.std.specs.Prelude.{◌≡◌, ◌++◌, ◌≤◌, ◌^◌, ℕ, List, IfOk, OnOk, OnErr, Some, option_map};
 ghost use Rattle.std.specs.FinMap as fin;
-ghost use Rattle.entry_maps.specs.Chunks.{place, AreSome, IsSeat};
+ghost use Rattle.entry_maps.specs.Chunks.{place, AreSome, AreRows, IsSeat, flat_of, flat_before, flat_behind};
 ghost use Rattle.entry_maps.specs.Entries.{newer_of};
 ghost use Rattle.entry_maps.specs.Merging.{newer_slot, merged, next_of};
 ghost use Rattle.entry_maps.specs.Slots.{IsCounted, IsStored, slots_in, entries_of};
 
 use crate::chunks::{Chunks, Spot};
+use crate::rows::Rows;
 use crate::slots::Slot;
 use crate::stored::Stored;
 use std::alloc::Global;
@@ -75,26 +76,89 @@ fn next_of<'a>(one: Option<&'a Slot>, two: Option<&'a Slot>) -> Option<Taken<'a>
     }
 }
 
+/// How many slots a row gets where so many are laid in rows that are about as long as each other.
+fn row_length(slots: usize) -> usize
+    requires { slots ≤ 2 ^ 63 }
+{
+    let rows = slots / 384 + 1;
+    slots / rows + 1
+}
+
 impl Stored {
+    /// Adds copies of slots behind all. The only error is want of memory.
+    fn append_copies(&mut self, alloc: Global, slots: &[Slot]) -> Result<(), NoMemory>
+        requires { IsCounted self.old }
+        ensures ok { OnOk result (slots_in self.new ≡ slots_in self.old ++ slots.now) }
+        ensures counted { OnOk result (IsCounted self.new) }
+    {
+        for slot in slots {
+            self.append(alloc, 384, slot.copy(alloc)?)?;
+        }
+        Ok(())
+    }
+
+    /// Copies of the slots of some rows. The only error is want of memory.
+    fn rows_copied(&self, alloc: Global, rows: Rows) -> Result<Stored, NoMemory>
+        requires { AreRows self.now.list rows }
+        ensures slots { IfOk result (λ part. slots_in part ≡ flat_of self.now.list rows) }
+        ensures counted { IfOk result IsCounted }
+    {
+        let mut part = Stored::new(alloc);
+        for row in &self.list.rows[rows.from..rows.to] {
+            part.append_copies(alloc, row)?;
+        }
+        Ok(part)
+    }
+
     /// The entries of both maps, of each document the newer. The only error is want of memory.
     fn merged(&self, alloc: Global, other: &Stored) -> Result<Stored, NoMemory>
-        requires own { AreSome self.now.list }
-        requires other { AreSome other.now.list }
+        requires own { IsCounted self.now }
+        requires other { IsCounted other.now }
         ensures slots { IfOk result (λ both. slots_in both ≡ merged (slots_in self.now) (slots_in other.now)) }
         ensures counted { IfOk result IsCounted }
     {
+        let long = row_length(self.entries + other.entries);
         let mut both = Stored::new(alloc);
         let mut one = self.list.first();
         let mut two = other.list.first();
         while let Some(taken) = next_of(self.list.slot(one), other.list.slot(two)) {
-            both.append(alloc, taken.slot.copy(alloc)?)?;
+            both.append(alloc, long, taken.slot.copy(alloc)?)?;
             one = self.list.next_if(one, taken.own);
             two = other.list.next_if(two, taken.other);
         }
         Ok(both)
     }
 
-    /// Takes the entries of another map that are newer. The only error is want of memory.
+    /// Puts other slots in the place of those of some rows. The only error is want of memory.
+    fn replace_rows(&mut self, rows: Rows, part: &Stored, others: Stored) -> Result<(), NoMemory>
+        requires counted { IsCounted self.old }
+        requires rows { AreRows self.old.list rows }
+        requires part { slots_in part.now ≡ flat_of self.old.list rows }
+        requires part_counted { IsCounted part.now }
+        requires others { IsCounted others }
+        ensures ok { OnOk result (slots_in self.new ≡ flat_before self.old.list rows.from
+            ++ (slots_in others ++ flat_behind self.old.list rows.to)) }
+        ensures err { OnErr result (slots_in self.new ≡ slots_in self.old) }
+        ensures counted { IsCounted self.new }
+    {
+        let Stored {
+            list,
+            entries,
+            documents,
+        } = others;
+        let entries = self.entries - part.entries + entries;
+        let documents = self.documents - part.documents + documents;
+        if entries > 1 << 62 {
+            return Err(NoMemory);
+        }
+        self.list.replace_rows(rows, list)?;
+        self.entries = entries;
+        self.documents = documents;
+        Ok(())
+    }
+
+    /// Takes the entries of another map that are newer; rows that lie apart from the other map's entries stay
+    /// as they are. The only error is want of memory.
     pub fn merge(&mut self, alloc: Global, other: &Stored) -> Result<(), NoMemory>
         requires stored { IsStored self.old }
         requires other { IsStored other.now }
@@ -104,7 +168,13 @@ impl Stored {
         ensures err { OnErr result (entries_of (slots_in self.new) ≡ entries_of (slots_in self.old)) }
         ensures stored { IsStored self.new }
     {
-        *self = self.merged(alloc, other)?;
+        let Some(first) = other.list.slot(other.list.first()) else {
+            return Ok(());
+        };
+        let rows = self.list.rows_about(first, other.list.last());
+        let part = self.rows_copied(alloc, rows)?;
+        let both = part.merged(alloc, other)?;
+        self.replace_rows(rows, &part, both)?;
         Ok(())
     }
 }

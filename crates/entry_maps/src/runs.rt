@@ -59,7 +59,7 @@ impl Stored {
         let mut part = Stored::new(alloc);
         let mut seat = run.from;
         for _ in 0..run.entries {
-            part.append(alloc, self.list.at(seat).copy(alloc)?)?;
+            part.append(alloc, 384, self.list.at(seat).copy(alloc)?)?;
             seat = self.list.next(seat);
         }
         Ok(part)

@@ -60,8 +60,8 @@ impl Stored {
         }
     }
 
-    /// Adds a slot behind all. The only error is want of memory.
-    pub fn append(&mut self, alloc: Global, slot: Slot) -> Result<(), NoMemory>
+    /// Adds a slot behind all, in rows of a length. The only error is want of memory.
+    pub fn append(&mut self, alloc: Global, long: usize, slot: Slot) -> Result<(), NoMemory>
         requires { IsCounted self.old }
         ensures ok { OnOk result (slots_in self.new ≡ slots_in self.old ++ slot ∷ []) }
         ensures counted { OnOk result (IsCounted self.new) }
@@ -70,7 +70,7 @@ impl Stored {
             return Err(NoMemory);
         }
         let more = slot.entry.has_document();
-        self.list.append(alloc, slot)?;
+        self.list.append(alloc, long, slot)?;
         self.entries += 1;
         self.documents = counted(self.documents, false, more);
         Ok(())
