@@ -1,4 +1,5 @@
 use crate::decision::Decision;
+use crate::lists::BucketList;
 use crate::message::Message;
 use node_sets::NodeSet;
 use pieces::PieceList;
@@ -17,6 +18,8 @@ pub enum Job {
 pub enum Step {
     /// This message is sent; its answer, or that none came, is told before the next step.
     Send(Message),
+    /// The state is opened with these rows.
+    Open { rows: BucketList },
     /// This is decided.
     Decide(Decision),
     /// The job is over, and these nodes were asked and didn't answer.
