@@ -1,0 +1,85 @@
+ghost use Rattle.std.specs.Prelude.{◌≡◌, ◌&&◌, not, ℕ, ◌<◌, ◌≤◌, true, false, ◌++◌, OnOk, OnErr, IfSome, IfNone, IfOk};
+ghost use Rattle.node_sets.specs.Members.{has_node};
+ghost use Rattle.bucket_db.specs.Rows.{buckets_of};
+ghost use Rattle.distributor_part.specs.Steps.{IsLowest, did_show, buckets_shown};
+
+use bucket_db::Row;
+use bucket_ids::Bucket;
+use messages::{BucketList, NodePieces};
+use node_sets::NodeSet;
+use pieces::Piece;
+use std::alloc::Global;
+use value_lists::{Listed, NoMemory};
+
+/// The lowest member of a set.
+pub fn lowest_of(nodes: NodeSet) -> Option<u8>
+    ensures some { IfSome result (IsLowest nodes) }
+    ensures none { IfNone result ((node : ℕ) → has_node nodes node ≡ false) }
+{
+    for node in 0..32 {
+        if nodes.has(node) {
+            return Some(node);
+        }
+    }
+    None
+}
+
+/// The nodes that are to be asked: they serve, haven't answered and weren't asked in this job.
+pub fn to_ask(serving: NodeSet, answered: NodeSet, asked: NodeSet) -> NodeSet
+    ensures { (node : ℕ) → has_node result node
+        ≡ ((has_node serving node && not (has_node answered node)) && not (has_node asked node)) }
+{
+    serving.difference(answered).difference(asked)
+}
+
+/// Adds the buckets of pieces. After want of memory nothing has changed.
+pub fn add_buckets(shown: &mut Vec<Bucket>, pieces: &[Piece]) -> Result<(), NoMemory>
+    ensures ok { OnOk result (shown.new.items ≡ shown.old.items ++ buckets_shown pieces.now) }
+    ensures err { OnErr result (shown.new.items ≡ shown.old.items) }
+{
+    shown.reserve(pieces.len())?;
+    for piece in pieces {
+        let Ok(()) = shown.push(piece.bucket) else {
+            unreachable!();
+        };
+    }
+    Ok(())
+}
+
+/// The buckets of rows. The only error is want of memory.
+pub fn buckets_of(alloc: Global, rows: &[Row]) -> Result<BucketList, NoMemory>
+    ensures { IfOk result (λ buckets. buckets ≡ buckets_of rows.now) }
+{
+    let mut buckets = Vec::with_capacity(alloc, rows.len())?;
+    for row in rows {
+        buckets.push(row.bucket)?;
+    }
+    Ok(Listed::of(buckets))
+}
+
+/// Whether a node's answer is among those shown.
+fn did_show(shown: &[NodePieces], node: u8) -> bool
+    ensures { result ≡ did_show shown.now node }
+{
+    shown.iter().any(|seen| seen.node == node)
+}
+
+/// The nodes whose answers were shown.
+fn shown_by(shown: &[NodePieces]) -> NodeSet
+    ensures { (node : ℕ) → node < 32 → has_node result node ≡ did_show shown.now node }
+{
+    let mut nodes = NodeSet::none();
+    for node in 0..32 {
+        if did_show(shown, node) {
+            nodes = nodes.with(node);
+        }
+    }
+    nodes
+}
+
+/// The serving nodes whose answers weren't shown.
+pub fn silent(serving: NodeSet, shown: &[NodePieces]) -> NodeSet
+    ensures { (node : ℕ) → has_node result node ≡ (has_node serving node && not (did_show shown.now node)) }
+{
+    serving.difference(shown_by(shown))
+}

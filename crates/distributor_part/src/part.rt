@@ -1,0 +1,377 @@
+ghost use Rattle.std.specs.Prelude.{◌≡◌, ◌==◌, ◌||◌, ◌<◌, ◌≤◌, ℕ, Some, None, IsSome, IfOk, OnOk, OnErr, IfSome, is_some};
+ghost use Rattle.std.specs.Option.{option_copied};
+ghost use Rattle.bucket_ids.specs.Buckets.{IsIn};
+ghost use Rattle.node_sets.specs.Members.{has_node};
+ghost use Rattle.cluster_states.specs.Publishing.{serves};
+ghost use Rattle.messages.specs.Noting.{message_of};
+ghost use Rattle.bucket_db.specs.Rows.{AreRows, buckets_of};
+ghost use Rattle.distributor_part.specs.Parts.{Part, new_part, version_of, origin_of, rows_of, IsOwning, Prepares, key_in};
+ghost use Rattle.distributor_part.specs.Steps.{IsStep, IsToOpen, IsUnopened, IsOpening, IsAfterAnswer, IsRunning, IsRoundOver, IsClosed, IsRowOf, without_end};
+
+use crate::opening::{add_buckets, buckets_of, lowest_of, silent, to_ask};
+use crate::rules::Rules;
+use crate::stage::Stage;
+use crate::targets::targets_of;
+use bucket_db::{BucketDb, Row};
+use bucket_ids::Bucket;
+use cluster_states::ClusterState;
+use entry_maps::EntryMap;
+use messages::{Body, Decision, Job, NodePieces, Origin, Reply, Step};
+use node_sets::NodeSet;
+use std::alloc::Global;
+use std::marker::Model;
+use value_lists::NoMemory;
+
+/// What a distributor knows and does in a lane.
+#[derive(Drop)]
+pub struct DistributorPart {
+    number: u8,
+    lane: Bucket,
+    rules: Rules,
+    state: Option<ClusterState>,
+    answered: NodeSet,
+    shown: Vec<Bucket>,
+    asked: NodeSet,
+    awaited: Option<u8>,
+    rows: Option<BucketDb>,
+    stage: Stage,
+}
+
+impl Model for DistributorPart {
+    ghost use Rattle.distributor_part.specs.Parts.{Part, IsPart};
+
+    ghost Value = { Part };
+
+    ghost view = { λ p. record {
+      number = p.number;
+      lane = p.lane;
+      rules = p.rules;
+      state = p.state;
+      answered = p.answered;
+      shown = p.shown.items;
+      asked = p.asked;
+      awaited = p.awaited;
+      rows = p.rows;
+      stage = p.stage;
+    } };
+
+    ghost invariant = { λ p. IsPart p.lane p.awaited p.rows p.stage };
+}
+
+impl DistributorPart {
+    /// The part of a distributor that has heard no state; takes no memory. A lane's bucket has at most
+    /// 6 bits.
+    pub fn new(alloc: Global, number: u8, lane: Bucket, rules: Rules) -> DistributorPart
+        requires { lane.bits ≤ 6 }
+        ensures { result ≡ new_part number lane rules None }
+    {
+        DistributorPart {
+            number,
+            lane,
+            rules,
+            state: None,
+            answered: NodeSet::of(0),
+            shown: Vec::new(alloc),
+            asked: NodeSet::of(0),
+            awaited: None,
+            rows: None,
+            stage: Stage::Before,
+        }
+    }
+
+    /// Hears a state: rows, marks and all that was under way are forgotten. Takes no memory.
+    pub fn hear(&mut self, state: &ClusterState)
+        ensures { self.new ≡ new_part self.old.number self.old.lane self.old.rules (Some state.now) }
+    {
+        self.state = Some(*state);
+        self.answered = NodeSet::of(0);
+        self.shown.clear();
+        self.asked = NodeSet::of(0);
+        self.awaited = None;
+        self.rows = None;
+        self.stage = Stage::Before;
+    }
+
+    /// The state that was heard last, if one was.
+    pub fn state(&self) -> Option<ClusterState>
+        ensures { result ≡ self.now.state }
+    {
+        self.state
+    }
+
+    /// The version of that state, 0 before one is heard.
+    pub fn version(&self) -> u32
+        ensures { result ≡ version_of self.now.state }
+    {
+        match &self.state {
+            Some(state) => state.version(),
+            None => 0,
+        }
+    }
+
+    /// The nodes that have answered an Ask of the version.
+    pub fn answered(&self) -> NodeSet
+        ensures { result ≡ self.now.answered }
+    {
+        self.answered
+    }
+
+    /// Whether the state is opened.
+    pub fn is_opened(&self) -> bool
+        ensures { result ≡ is_some self.now.rows }
+    {
+        self.rows.is_some()
+    }
+
+    /// The rows in rising bucket number; none before the state is opened.
+    pub fn rows(&self) -> &[Row]
+        ensures list { result.now ≡ rows_of self.now.rows }
+        ensures whole { IfSome self.now.rows (λ d. AreRows self.now.lane (buckets_of d.rows)) }
+    {
+        match &self.rows {
+            Some(rows) => rows.rows(),
+            None => &[],
+        }
+    }
+
+    /// The place of the row that has a key of the lane, once the state is opened; takes no memory.
+    pub fn row_of(&self, key: u64) -> usize
+        requires opened { IsSome self.now.rows }
+        requires key { IsIn self.now.lane key }
+        ensures { IfSome self.now.rows (λ d. (row : Row) × IsRowOf d key result row) }
+    {
+        match &self.rows {
+            Some(rows) => rows.row_of(key),
+            None => unreachable!(),
+        }
+    }
+
+    /// The next step of a job. This distributor owns the lane; the answer to the message before was
+    /// told, and so was that a round is over. The only error is want of memory, and it comes only as the
+    /// state is to be opened.
+    pub fn next_step(&mut self, alloc: Global, job: Job) -> Result<Step, NoMemory>
+        requires job { Prepares self.old.lane job }
+        requires owner { IsOwning self.old }
+        requires told { self.old.awaited ≡ None }
+        requires over { IsRunning self.old.stage → ⊥ }
+        ensures step { IfOk result (λ step. IsStep self.old (key_in job) step self.new) }
+        ensures err { OnErr result (self.new ≡ self.old) }
+        ensures opening { OnErr result (IsToOpen self.old) }
+    {
+        let Job::Prepare { key } = job else {
+            unreachable!();
+        };
+        let Some(state) = self.state else {
+            unreachable!();
+        };
+        if self.rows.is_none() {
+            return self.ask_or_open(alloc, &state);
+        }
+        Ok(self.prepare_step(&state, key))
+    }
+
+    /// The next step where the state isn't opened yet.
+    fn ask_or_open(&mut self, alloc: Global, state: &ClusterState) -> Result<Step, NoMemory>
+        requires unopened { IsUnopened self.old state.now }
+        requires told { self.old.awaited ≡ None }
+        ensures step { (key : ℕ) → IfOk result (λ step. IsStep self.old key step self.new) }
+        ensures err { OnErr result (self.new ≡ self.old) }
+        ensures opening { OnErr result (IsToOpen self.old) }
+    {
+        let serving = state.serving();
+        if let Some(node) = lowest_of(to_ask(serving, self.answered, self.asked)) {
+            return Ok(self.ask(state.version(), node));
+        }
+        let missing = serving.difference(self.answered);
+        match lowest_of(missing) {
+            Some(_) => Ok(self.finish(missing)),
+            None => self.open(alloc),
+        }
+    }
+
+    /// The Ask to a node.
+    fn ask(&mut self, version: u32, node: u8) -> Step
+        requires { node < 32 }
+        ensures step { result ≡ Step.Send (message_of (origin_of self.old version) node Body.Ask) }
+        ensures marked { (n : ℕ) → has_node self.new.asked n ≡ (has_node self.old.asked n || n == node) }
+        ensures after { self.new ≡ record self.old { asked = self.new.asked; awaited = Some node } }
+    {
+        self.asked = self.asked.with(node);
+        self.awaited = Some(node);
+        let origin = Origin {
+            version,
+            lane: self.lane.low() as u8,
+            sender: self.number,
+        };
+        Step::Send(origin.message(node, Body::Ask))
+    }
+
+    /// Opens the state by the buckets that were shown.
+    fn open(&mut self, alloc: Global) -> Result<Step, NoMemory>
+        requires { self.old.stage ≡ Stage.Before }
+        ensures step { IfOk result (λ step. IsOpening self.old self.new step) }
+        ensures err { OnErr result (self.new ≡ self.old) }
+    {
+        let rows = BucketDb::of_answers(alloc, self.lane, &self.shown)?;
+        let buckets = buckets_of(alloc, rows.rows())?;
+        self.shown = Vec::new(alloc);
+        self.rows = Some(rows);
+        Ok(Step::Open { rows: buckets })
+    }
+
+    /// The next step for a key once the state is opened.
+    fn prepare_step(&mut self, state: &ClusterState, key: u64) -> Step
+        requires heard { self.old.state ≡ Some state.now }
+        requires opened { IsSome self.old.rows }
+        requires over { IsRunning self.old.stage → ⊥ }
+        requires key { IsIn self.old.lane key }
+        ensures { IsStep self.old key result self.new }
+    {
+        let stage = self.stage;
+        match &stage {
+            Stage::Before => self.prepare(state, key),
+            Stage::Over {
+                at,
+                complete,
+                missing,
+            } => self.end_round(*at, *complete, *missing),
+            Stage::Ended { missing } => self.finish(*missing),
+            Stage::Running { .. } => unreachable!(),
+        }
+    }
+
+    /// The first step for a key once the state is opened.
+    fn prepare(&mut self, state: &ClusterState, key: u64) -> Step
+        requires heard { self.old.state ≡ Some state.now }
+        requires opened { IsSome self.old.rows }
+        requires no_round { self.old.stage ≡ Stage.Before }
+        requires key { IsIn self.old.lane key }
+        ensures { IsStep self.old key result self.new }
+    {
+        let Some(rows) = &self.rows else {
+            unreachable!();
+        };
+        let at = rows.row_of(key);
+        let row = rows.rows()[at];
+        if row.complete.has_at_least(self.rules.acks) {
+            return self.finish(NodeSet::of(0));
+        }
+        let receivers = targets_of(self.rules.redundancy, state, &row);
+        self.stage = Stage::Running { at, receivers };
+        Step::Decide(Decision::RoundBegun {
+            bucket: row.bucket,
+            receivers,
+        })
+    }
+
+    /// The end of a round is decided, and its row has the marks.
+    fn end_round(&mut self, at: usize, complete: NodeSet, missing: NodeSet) -> Step
+        requires opened { IsSome self.old.rows }
+        requires over { self.old.stage ≡ Stage.Over at complete missing }
+        ensures { (key : ℕ) → IsStep self.old key result self.new }
+    {
+        let Some(rows) = &mut self.rows else {
+            unreachable!();
+        };
+        let row = rows.rows()[at];
+        rows.set_marks(at, row.complete.union(complete));
+        self.stage = Stage::Ended { missing };
+        Step::Decide(Decision::RoundEnded {
+            bucket: row.bucket,
+            complete,
+        })
+    }
+
+    /// The end of a job.
+    fn finish(&mut self, missing: NodeSet) -> Step
+        ensures step { result ≡ Step.Finished missing }
+        ensures after { self.new ≡ record self.old { asked = 0; stage = Stage.Before } }
+    {
+        self.asked = NodeSet::of(0);
+        self.stage = Stage::Before;
+        Step::Finished { missing }
+    }
+
+    /// Takes the reply of the node that was sent the last message, or that none came. The only error is
+    /// want of memory, and then nothing has changed.
+    pub fn answer(&mut self, node: u8, reply: Option<&Reply>) -> Result<(), NoMemory>
+        requires { self.old.awaited ≡ Some node }
+        ensures ok { OnOk result (IsAfterAnswer self.old self.new node (option_copied reply.entry)) }
+        ensures err { OnErr result (self.new ≡ self.old) }
+    {
+        if let Some(Reply::Answer { pieces, .. }) = reply {
+            add_buckets(&mut self.shown, pieces.items())?;
+            self.answered = self.answered.with(node);
+        }
+        self.awaited = None;
+        Ok(())
+    }
+
+    /// The round under way is over: the receivers that answered the Apply, the union, which is absent
+    /// where a Read wasn't answered, and what the answers to the Reads showed. Where there is no union it
+    /// takes no memory; the only error is want of memory, and then nothing has changed.
+    pub fn round_over(
+        &mut self,
+        complete: NodeSet,
+        union: Option<&EntryMap>,
+        shown: &[NodePieces],
+    ) -> Result<(), NoMemory>
+        requires { IsRunning self.old.stage }
+        ensures ok { OnOk result
+            (IsRoundOver self.old self.new complete (option_copied union.entry) shown.now) }
+        ensures err { OnErr result (self.new ≡ self.old) }
+        ensures free { OnErr result (IsSome (option_copied union.entry)) }
+    {
+        let &Stage::Running { at, receivers } = &self.stage else {
+            unreachable!();
+        };
+        let missing = match union {
+            Some(_) => receivers.difference(complete),
+            None => silent(self.serving(), shown),
+        };
+        self.stage = Stage::Over {
+            at,
+            complete,
+            missing,
+        };
+        Ok(())
+    }
+
+    /// The nodes that serve under the state that was heard, if one was.
+    fn serving(&self) -> NodeSet
+        ensures { IfSome self.now.state (λ state. (node : ℕ) → has_node result node ≡ serves state node) }
+    {
+        match &self.state {
+            Some(state) => state.serving(),
+            None => NodeSet::of(0),
+        }
+    }
+
+    /// An operation on a key was acknowledged: of the complete members of the key's row those that
+    /// didn't answer lose their mark. Takes no memory.
+    pub fn closed(&mut self, key: u64, answered: NodeSet)
+        requires opened { IsSome self.old.rows }
+        requires key { IsIn self.old.lane key }
+        ensures { IsClosed self.old self.new key answered }
+    {
+        let Some(rows) = &mut self.rows else {
+            unreachable!();
+        };
+        let at = rows.row_of(key);
+        let row = rows.rows()[at];
+        rows.set_marks(at, row.complete.intersection(answered));
+    }
+
+    /// The job under way ends before it is finished, for want of memory outside: the next one begins
+    /// from its start. A round that is under way, or whose end isn't decided, stays so. Takes no memory.
+    pub fn give_up(&mut self)
+        ensures { self.new
+            ≡ record self.old { asked = 0; awaited = None; stage = without_end self.old.stage } }
+    {
+        self.asked = NodeSet::of(0);
+        self.awaited = None;
+        if let Stage::Ended { .. } = self.stage {
+            self.stage = Stage::Before;
+        }
+    }
+}
