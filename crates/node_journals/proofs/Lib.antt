@@ -1,0 +1,14 @@
+pub mod Words
+pub mod Lists
+pub mod Bodies
+pub mod Standing
+pub mod Shapes
+pub mod Stamping
+pub mod Reading
+pub mod Replays
+pub mod Members
+pub mod Permits
+pub mod Taking
+pub mod Flying
+pub mod Regions
+pub mod Holding

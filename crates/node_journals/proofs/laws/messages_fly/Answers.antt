@@ -1,0 +1,5 @@
+use Rattle.node_journals.proofs.Flying.{flight-sent, flight-stays}
+use Rattle.node_journals.proofs.laws.messages_fly.Goals as goal
+
+pub returns : goal.returns
+returns c = record { sent = flight-sent; stays = flight-stays }

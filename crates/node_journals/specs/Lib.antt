@@ -1,0 +1,5 @@
+-- `NodeKeeping` says what it is for a node to be what a journal says, `Flights` what is known of a message that is
+-- on its way, `Replaying` what the laws say.
+pub mod NodeKeeping
+pub mod Flights
+pub mod Replaying
