@@ -12,3 +12,4 @@ pub mod Taking
 pub mod Flying
 pub mod Regions
 pub mod Holding
+pub mod Validity

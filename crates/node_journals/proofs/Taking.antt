@@ -25,6 +25,7 @@ use Rattle.lane_journals.specs.declared.event.LaneEvent.TheVariants.{Delivered}
 use Rattle.node_journals.specs.NodeKeeping.{NodeKeeps}
 use Rattle.node_journals.specs.Replaying.{IsTaken}
 use Rattle.node_journals.proofs.Bodies.{adopt-entries, adopt-pieces}
+use Rattle.node_journals.proofs.Validity.{SmallKeys, valid-taken}
 use Rattle.node_journals.proofs.Replays.{refused, too_old, answered}
 use Rattle.node_journals.proofs.Permits.{replies-no_bucket, replies-differs, replies-no_memory, replies-answer, names-shown}
 
@@ -34,14 +35,14 @@ record Leaves (J : List LaneEvent) (k : ℕ) (m : readers.Message) (y : Node) (r
   names : NamesReplied J k r
   keeps : NodeKeeps (Delivered k r ∷ J) m.receiver y
 
-module _ (laws : AreRuns) (S : Setting) (J : List LaneEvent) (k : ℕ) (message : Message) (x y : Node) (r : Reply) (t : IsTaken S J k message x y r) where
+module _ (laws : AreRuns) (small : SmallKeys) (S : Setting) (J : List LaneEvent) (k : ℕ) (message : Message) (x y : Node) (r : Reply) (t : IsTaken S J k message x y r) where
   abbrev m : readers.Message
   m = (t.flight).sending
 
   keeps-at : NodeKeeps J m.receiver x
   keeps-at = subst (λ n. NodeKeeps J n x) (sym (t.flight).receiver_is) t.keeps
 
-  treated : x.version ≤ m.version → (r : Reply) → Treats (adopt m.version x) message.body y r → Leaves J k m y (noted_reply r)
+  treated : x.version ≤ m.version → (w : Reply) → Treats (adopt m.version x) message.body y w → Leaves J k m y (noted_reply w)
   treated le (reply.Answer ps es) u =
       let accepted : told message.body x.pieces ≡ Accepted = ap (told message.body) (sym (adopt-pieces m.version x)) ∙ u.0 in
       let pieces_is : shown_pieces message.body x.pieces ≡ ps = sym (u.1.0 ∙ ap (shown_pieces message.body) (adopt-pieces m.version x)) in
@@ -52,7 +53,7 @@ module _ (laws : AreRuns) (S : Setting) (J : List LaneEvent) (k : ℕ) (message 
             (names-shown laws S J t.legal x m.receiver keeps-at k m (t.flight).was_sent refl message.body (t.flight).body_is le);
         keeps = subst (λ z. NodeKeeps (Delivered k (noted.Answer (shown_pieces message.body x.pieces) (stamps_of (shown_entries message.body x.entries))) ∷ J) m.receiver z) (sym u.1.1.1)
             (answered laws J k m (t.flight).was_sent message.body (t.flight).body_is ((t.flight).whole).bucket ((t.flight).whole).inside (t.flight).brings x keeps-at le accepted (stamps_of (shown_entries message.body x.entries))
-            (subst (λ z. IsReplica (stored z)) u.1.1.1 t.valid));
+            (subst (λ z. IsReplica (stored z)) u.1.1.1 (valid-taken laws small message (t.flight).whole x y r (t.keeps).valid t.takes)));
       }))
     where
       one : (other : readers.Message) → sent k (history J) ≡ Some other → m ≡ other

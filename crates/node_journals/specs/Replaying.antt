@@ -3,8 +3,7 @@ use Rattle.std.specs.Prelude.{◌≡◌, ℕ, false, List}
 use Rattle.messages.specs.declared.message.Message.{Message}
 use Rattle.messages.specs.declared.reply.Reply.{Reply}
 use Rattle.messages.specs.Noting.{noted_body, noted_reply}
-use Rattle.replica_store.specs.Replicas.{IsReplica}
-use Rattle.service_layer.specs.Nodes.{Node, stored}
+use Rattle.service_layer.specs.Nodes.{Node}
 use Rattle.service_layer.specs.Takes.{Takes}
 use Rattle.lane_journals.specs.Readers.{stopped}
 use Rattle.lane_journals.specs.Meanings.{history}
@@ -27,8 +26,6 @@ pub record IsTaken (S : Setting) (J : List LaneEvent) (number : ℕ) (m : Messag
   pub runs : stopped m.receiver (history J) ≡ false
   pub keeps : NodeKeeps J m.receiver x
   pub takes : Takes x m y r
-  -- which a node keeps of itself
-  pub valid : IsReplica (stored y)
 
 -- a law of each message that is taken
 abbrev pub OfTaken : (Setting → List LaneEvent → ℕ → Message → Node → Reply → Type 0) → Type 0

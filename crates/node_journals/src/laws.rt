@@ -18,6 +18,7 @@ ghost use Rattle.node_journals.specs.NodeKeeping.{NodeKeeps};
 ghost use Rattle.node_journals.specs.Flights.{Brings, IsWhole, IsInFlight};
 ghost use Rattle.node_journals.specs.Replaying.{IsNoDelivery, sending, delivered, OfTaken};
 
+use global_ids::laws::keys_locate;
 use laid_pieces::laws::runs_are_known;
 
 /// A node that took no message is what the empty journal says; what is no delivery leaves each node, and a
@@ -47,6 +48,7 @@ pub fn nodes_replay()
     ensures keeps { OfTaken (λ S J number m y r. NodeKeeps (delivered number r ∷ J) m.receiver y) }
 {
     runs_are_known();
+    keys_locate();
 }
 
 /// In the words of the journal: a node has a piece over just the keys that it holds, and its regions are over
