@@ -24,7 +24,7 @@ use Rattle.node_journals.specs.Flights.{meant, Brings, IsWhole, IsInFlight}
 use Rattle.node_journals.specs.Replaying.{sending}
 use Rattle.node_journals.proofs.Stamping.{content-is}
 
-entry-stays : (J : List LaneEvent) (e : LaneEvent) (s : Stamp) (x : Entry) → entry_at s J ≡ Some x → entry_at s (e ∷ J) ≡ Some x
+pub entry-stays : (J : List LaneEvent) (e : LaneEvent) (s : Stamp) (x : Entry) → entry_at s J ≡ Some x → entry_at s (e ∷ J) ≡ Some x
 entry-stays J (Wrote l y) s x h = or_else-some (entry_at s J) _ x h
 entry-stays J _ s x h = h
 
@@ -51,7 +51,7 @@ flight-stays J e k m f = record {
 }
 
 -- the noted body means what the body does
-noted-meant : (J : List LaneEvent) (x : Body) → Brings (λ s. entry_at s J) x → meaning_body J (noted_body x) ≡ meant x
+pub noted-meant : (J : List LaneEvent) (x : Body) → Brings (λ s. entry_at s J) x → meaning_body J (noted_body x) ≡ meant x
 noted-meant J (body.Store e) h = ap (λ o. plain.Store (id_at (id_in o)) e.stamp) h
 noted-meant J (body.Apply b m) h = let same : ◌≡◌ {A = plain.Content} (content J (stamps_of m)) (λ (id : Id). stamp_of (fin.get m id)) = λ i id. content-is J m h id i in ap (λ (u : plain.Content). plain.Apply b u) same
 noted-meant J body.Ask h = refl

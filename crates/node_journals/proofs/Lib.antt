@@ -13,3 +13,5 @@ pub mod Flying
 pub mod Regions
 pub mod Holding
 pub mod Validity
+pub mod Sending
+pub mod Lanes

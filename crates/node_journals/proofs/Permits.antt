@@ -83,7 +83,7 @@ only-is (Some x) id e g = by_test (eq_by_cmp id_cmp id x.id) refl (sym (get-inse
     by_test false f k = let none = sym (get-empty id_cmp id) ∙ k in cc
 
 -- what is shown is there
-shown-sub : (x : Body) (wrote : Stamp → Option Entry) (m : Entries) → AreWritten wrote m → (id : Id) (e : Entry) → fin.get (shown_entries x m) id ≡ Some e → fin.get m id ≡ Some e
+pub shown-sub : (x : Body) (wrote : Stamp → Option Entry) (m : Entries) → AreWritten wrote m → (id : Id) (e : Entry) → fin.get (shown_entries x m) id ≡ Some e → fin.get m id ≡ Some e
 shown-sub (body.Read b None) wrote m w id e g = by_test (in_bucket b id) (sym (shown_in b m id) ∙ g)
   where
     by_test : (t : Bool) → cond t (fin.get m id) None ≡ Some e → fin.get m id ≡ Some e

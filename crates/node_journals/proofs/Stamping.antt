@@ -77,17 +77,17 @@ agree a b false false h k = ap (λ (s : Stamp). Some s) (stamps_is a b (versions
     counts : is_before b a ≡ false → cond (nat_lt a.version b.version) true (cond (a.version == b.version) (nat_lt a.count b.count) false) ≡ false → a.count ≡ b.count
     counts h k = grind (arith, nat_tests)
 
-newer-picks : (e : Entry) (o : Option Entry) (t : Bool) → is_newer e o ≡ t → newer (Some e.stamp) (stamp_of o) ≡ cond t (Some e.stamp) (stamp_of o)
+pub newer-picks : (e : Entry) (o : Option Entry) (t : Bool) → is_newer e o ≡ t → newer (Some e.stamp) (stamp_of o) ≡ cond t (Some e.stamp) (stamp_of o)
 unfolding newer
 newer-picks e None true h = refl
 newer-picks e None false h = absurd (true≢false h)
 newer-picks e (Some x) t h = agree e.stamp x.stamp t (is_older e.stamp x.stamp) h refl
 
-newer-none : (o : Option Stamp) → newer None o ≡ o
+pub newer-none : (o : Option Stamp) → newer None o ≡ o
 unfolding newer
 newer-none o = refl
 
-stamp-cond : (t : Bool) (e : Entry) (o : Option Entry) → stamp_of (cond t (Some e) o) ≡ cond t (Some e.stamp) (stamp_of o)
+pub stamp-cond : (t : Bool) (e : Entry) (o : Option Entry) → stamp_of (cond t (Some e) o) ≡ cond t (Some e.stamp) (stamp_of o)
 stamp-cond true e o = refl
 stamp-cond false e o = refl
 
@@ -163,7 +163,7 @@ module _ (wrote : Stamp → Option Entry) where
           by_id id x false f g = h id x g
       by_newer false = h
 
-  written-apply : (m es : Entries) → AreWritten wrote es → AreWritten wrote m → AreWritten wrote (joined m es)
+  pub written-apply : (m es : Entries) → AreWritten wrote es → AreWritten wrote m → AreWritten wrote (joined m es)
   written-apply m es w h id x g = by_other (fin.get es id) refl (sym (get-joined m es id) ∙ g)
     where
       by_newer : (t : Bool) (e : Entry) → fin.get es id ≡ Some e → cond t (Some e) (fin.get m id) ≡ Some x → (x.id ≡ id) × (wrote x.stamp ≡ Some x)

@@ -6,7 +6,12 @@ use Rattle.entry_maps.specs.declared.entry.Entry.{Entry}
 use Rattle.messages.specs.declared.body.Body.{Body}
 use Rattle.messages.specs.declared.body.Body.TheVariants as body
 use Rattle.messages.specs.declared.message.Message.{Message}
+use Rattle.messages.specs.declared.reply.Reply.{Reply}
+use Rattle.messages.specs.declared.reply.Reply.TheVariants as reply
+use Rattle.replica_store.specs.Replicas.{LieIn}
 use Rattle.service_layer.specs.Takes.{IsInside}
+use Rattle.lane_journals.specs.Buckets.{key_of}
+use Rattle.lane_journals.specs.Naming.{exact_bucket}
 use Rattle.lane_journals.specs.Stamps.{Stamp}
 use Rattle.lane_journals.specs.Events as plain
 use Rattle.lane_journals.specs.Readers as readers
@@ -33,6 +38,17 @@ abbrev pub Brings : (Stamp → Option Entry) → Body → Type 0
 Brings wrote (body.Store e) = wrote e.stamp ≡ Some e
 Brings wrote (body.Apply b m) = AreWritten wrote m
 Brings wrote _ = Unit {0}
+
+-- so are those of an answer, and they lie where they were asked for
+abbrev pub BringsBack : (Stamp → Option Entry) → Body → Reply → Type 0
+BringsBack wrote (body.Read b None) (reply.Answer ps m) = AreWritten wrote m × LieIn b m
+BringsBack wrote x (reply.Answer ps m) = AreWritten wrote m
+BringsBack wrote x r = Unit {0}
+
+-- the Read of one document names the bucket of its key
+abbrev pub IsExact : Body → Type 0
+IsExact (body.Read b (Some id)) = b ≡ exact_bucket (key_of id)
+IsExact _ = Unit {0}
 
 -- what a body changes is a bucket
 abbrev pub NamesBucket : Body → Type 0

@@ -1,5 +1,5 @@
 -- What the laws say: nodes are what the journal of their lane says, and stay so.
-use Rattle.std.specs.Prelude.{◌≡◌, ℕ, false, List}
+use Rattle.std.specs.Prelude.{◌≡◌, ◌==◌, ℕ, false, List, if◌then◌else◌}
 use Rattle.messages.specs.declared.message.Message.{Message}
 use Rattle.messages.specs.declared.reply.Reply.{Reply}
 use Rattle.messages.specs.Noting.{noted_body, noted_reply}
@@ -38,3 +38,12 @@ delivered number r = Delivered number (noted_reply r)
 -- the event that sends the message
 abbrev pub sending : ℕ → Message → LaneEvent
 sending number m = Sent number m.version m.sender m.receiver (noted_body m.body)
+
+-- a lane: its journal is legal, and each node is what it says
+pub record Replays (S : Setting) (J : List LaneEvent) (nodes : ℕ → Node) : Type 0 where
+  pub legal : IsLegal S J
+  pub nodes_are : (n : ℕ) → NodeKeeps J n (nodes n)
+
+-- the nodes with another one in the place of one
+abbrev pub with_node : ℕ → Node → (ℕ → Node) → ℕ → Node
+with_node i y nodes n = if n == i then y else nodes n

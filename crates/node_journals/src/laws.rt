@@ -1,22 +1,34 @@
 //! Laws of nodes and journals; no function here does anything.
 
-ghost use Rattle.std.specs.Prelude.{◌≡◌, ◌≢◌, ◌↔◌, ℕ, true, List, [], ◌∷◌};
+ghost use Rattle.std.specs.Prelude.{◌≡◌, ◌≢◌, ◌↔◌, ℕ, true, false, List, [], ◌∷◌, Option};
+ghost use Rattle.std.specs.FinMap as fin;
 ghost use Rattle.std.specs.List.{list_any};
 ghost use Rattle.bucket_ids.specs.Buckets.{has_key};
 ghost use Rattle.laid_pieces.specs.Pieces as laid;
 ghost use Rattle.service_layer.specs.Nodes.{Node, new_node};
+ghost use Rattle.service_layer.specs.Takes.{Takes};
+ghost use Rattle.entry_maps.specs.declared.entry.Entry.{Entry};
+ghost use Rattle.entry_maps.specs.EntryCodes.{Entries};
+ghost use Rattle.entry_maps.specs.Stamps.{stamps_of};
+ghost use Rattle.entry_joins.specs.Joins.{joined};
 ghost use Rattle.messages.specs.declared.message.Message.{Message};
+ghost use Rattle.messages.specs.declared.reply.Reply.{Reply};
+ghost use Rattle.messages.specs.Noting.{noted_body};
 ghost use Rattle.messages.specs.declared.noted.NotedReply.{NotedReply};
-ghost use Rattle.lane_journals.specs.Readers.{holds};
+ghost use Rattle.lane_journals.specs.Stamps.{Stamp, newer};
+ghost use Rattle.lane_journals.specs.Buckets.{Id};
+ghost use Rattle.lane_journals.specs.Readers.{holds, stopped};
+ghost use Rattle.lane_journals.specs.Legal.{MaySend};
+ghost use Rattle.lane_journals.specs.States.{state_of};
 ghost use Rattle.lane_journals.specs.Facts.{InRegion};
-ghost use Rattle.lane_journals.specs.Meanings.{entry_at, history};
-ghost use Rattle.lane_journals.specs.Places.{Setting};
+ghost use Rattle.lane_journals.specs.Meanings.{entry_at, content, history};
+ghost use Rattle.lane_journals.specs.Places.{Setting, Owns, PlacedBody};
 ghost use Rattle.lane_journals.specs.KeptJournals.{IsLegal, IsLegalStep};
 ghost use Rattle.lane_journals.specs.declared.event.LaneEvent.{LaneEvent};
 ghost use Rattle.lane_journals.specs.declared.event.LaneEvent.TheVariants.{Delivered};
-ghost use Rattle.node_journals.specs.NodeKeeping.{NodeKeeps};
-ghost use Rattle.node_journals.specs.Flights.{Brings, IsWhole, IsInFlight};
-ghost use Rattle.node_journals.specs.Replaying.{IsNoDelivery, sending, delivered, OfTaken};
+ghost use Rattle.node_journals.specs.NodeKeeping.{stamp_of, AreWritten, NodeKeeps};
+ghost use Rattle.node_journals.specs.Flights.{meant, Brings, BringsBack, IsExact, IsWhole, IsInFlight};
+ghost use Rattle.node_journals.specs.Replaying.{IsNoDelivery, sending, delivered, OfTaken, Replays, with_node};
 
 use global_ids::laws::keys_locate;
 use laid_pieces::laws::runs_are_known;
@@ -32,8 +44,14 @@ pub fn nodes_wait()
         → NodeKeeps J n x → NodeKeeps (Delivered number r ∷ J) n x }
 {}
 
-/// A message is on its way once it is sent, and stays so whatever else happens.
+/// A message may be sent where the legal relation lets what it means be sent, from where its entries were
+/// written; it is on its way then, and stays so whatever else happens.
 pub fn messages_fly()
+    ensures may_go { (S : Setting) (J : List LaneEvent) (number : ℕ) (m : Message)
+        → Brings (λ s. entry_at s J) m.body → IsExact m.body
+        → MaySend (state_of (history J)) (history J) number m.version m.sender m.receiver (meant m.body)
+        → Owns S J m.sender m.version → PlacedBody S J m.version m.receiver (noted_body m.body)
+        → IsLegalStep S J (sending number m) }
     ensures sent { (S : Setting) (J : List LaneEvent) (number : ℕ) (m : Message)
         → IsLegalStep S J (sending number m) → Brings (λ s. entry_at s J) m.body → IsWhole m.body
         → IsInFlight (sending number m ∷ J) number m }
@@ -61,3 +79,33 @@ pub fn nodes_hold()
 {
     runs_are_known();
 }
+
+/// A lane whose journal is legal and replays to its nodes goes on so: it begins with none, any legal step
+/// but a delivery leaves it so, and a running node that takes a message that is on its way too.
+pub fn lanes_replay()
+    ensures begins { (S : Setting) → Replays S [] (λ n. new_node) }
+    ensures waits { (S : Setting) (J : List LaneEvent) (nodes : ℕ → Node) (e : LaneEvent) → Replays S J nodes
+        → IsNoDelivery e → IsLegalStep S J e → Replays S (e ∷ J) nodes }
+    ensures takes { (S : Setting) (J : List LaneEvent) (nodes : ℕ → Node) (number : ℕ) (m : Message) (y : Node) (r : Reply)
+        → Replays S J nodes → IsInFlight J number m → stopped m.receiver (history J) ≡ false
+        → Takes (nodes m.receiver) m y r
+        → Replays S (delivered number r ∷ J) (with_node m.receiver y nodes) }
+{
+    runs_are_known();
+    keys_locate();
+}
+
+/// The entries of an answer are those that were written with their stamps, and stay so; so are those of two
+/// maps that are joined, where of each document the newer stamp is held. What the stamps of such a map name
+/// is what it has.
+pub fn entries_are_written()
+    ensures shown { OfTaken (λ S J number m y r. BringsBack (λ s. entry_at s J) m.body r) }
+    ensures stay { (J : List LaneEvent) (e : LaneEvent) (m : Entries) → AreWritten (λ s. entry_at s J) m
+        → AreWritten (λ s. entry_at s (e ∷ J)) m }
+    ensures joined { (wrote : Stamp → Option Entry) (m other : Entries) → AreWritten wrote m → AreWritten wrote other
+        → AreWritten wrote (joined m other) }
+    ensures newer { (m other : Entries) (id : Id)
+        → stamp_of (fin.get (joined m other) id) ≡ newer (stamp_of (fin.get other id)) (stamp_of (fin.get m id)) }
+    ensures named { (J : List LaneEvent) (m : Entries) (id : Id) → AreWritten (λ s. entry_at s J) m
+        → content J (stamps_of m) id ≡ stamp_of (fin.get m id) }
+{}

@@ -4,7 +4,8 @@
 //! `x` is what the journal `J` says of node `n`: its version, of each document the entry that was written
 //! with the stamp that is held, its pieces and regions, and that each serial that was named is that of a
 //! piece just where nothing was accepted there since. It is a record over what readers read, so an event
-//! that they pass over leaves it. The laws of `laws` carry it from an empty journal over each event.
+//! that they pass over leaves it. The laws of `laws` carry it from an empty journal over each event, and
+//! `Replays` is the same of all nodes of a lane, with its journal legal.
 //!
 //! ```text
 //! let reply = node.take(&message);        // `Takes` says what it is
