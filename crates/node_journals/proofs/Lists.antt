@@ -1,5 +1,5 @@
 -- Members of lists and tests of lists.
-use Rattle.std.proofs.Common.{◌≡◌, ◌&&◌, ◌||◌, ◌⊎◌, inl, inr, ℕ, zero, suc, ◌<◌, Bool, true, false, cond, T, List, [], ◌∷◌, map, length, Some, refl, sym, ap, ◌∙◌, subst, arith, slice_index_or}
+use Rattle.std.proofs.Common.{◌≡◌, ◌&&◌, ◌||◌, ◌⊎◌, inl, inr, ℕ, zero, suc, ◌<◌, Bool, true, false, cond, T, List, [], ◌∷◌, map, filter, length, Some, refl, sym, ap, ◌∙◌, subst, arith, slice_index_or}
 use mathlib.Core.Bool.{true≢false}
 use Rattle.std.specs.List.{list_any, Contains}
 use Rattle.std.specs.Cmp.{IsTotalOrder, tied_itself}
@@ -11,6 +11,7 @@ use Rattle.std.specs.FinMap.{IsAntisymmetric, entries_sorted, get-entries, is_so
 use Rattle.std.specs.FinMap.Entries.{below_all}
 use Rattle.lane_journals.specs.Stamps.{Stamp}
 use Rattle.lane_journals.specs.Naming.{Each}
+use Rattle.node_journals.proofs.Words.{or-last}
 
 abbrev pub In : {A : Type 0} → A → List A → Type 0
 In x [] = ⊥
@@ -43,11 +44,20 @@ map-in f (y ∷ ys) x (inr h) = inr (map-in f ys x h)
 pub in-any : {A : Type 0} (test : A → Bool) (xs : List A) (x : A) → In x xs → test x ≡ true → list_any test xs ≡ true
 in-any test [] x h e = absurd h
 in-any test (y ∷ ys) x (inl is) e = ap (λ t. t || list_any test ys) (ap test is ∙ e)
-in-any test (y ∷ ys) x (inr h) e = or_last (test y) (in-any test ys x h e)
+in-any test (y ∷ ys) x (inr h) e = or-last (test y) (list_any test ys) (in-any test ys x h e)
+
+-- what is left of a list was there
+pub any-filtered : {A : Type 0} (test keep : A → Bool) (xs : List A) → list_any test (filter keep xs) ≡ true → list_any test xs ≡ true
+any-filtered test keep [] h = h
+any-filtered test keep (x ∷ xs) h = by_test (keep x) h (any-filtered test keep xs)
   where
-    or_last : (t : Bool) → list_any test ys ≡ true → (t || list_any test ys) ≡ true
-    or_last true i = refl
-    or_last false i = i
+    stay : (a : Bool) → (a || list_any test (filter keep xs)) ≡ true → (list_any test (filter keep xs) ≡ true → list_any test xs ≡ true) → (a || list_any test xs) ≡ true
+    stay true h ih = refl
+    stay false h ih = ih h
+
+    by_test : (t : Bool) → list_any test (cond t (x ∷ filter keep xs) (filter keep xs)) ≡ true → (list_any test (filter keep xs) ≡ true → list_any test xs ≡ true) → (test x || list_any test xs) ≡ true
+    by_test true h ih = stay (test x) h ih
+    by_test false h ih = or-last (test x) (list_any test xs) (ih h)
 
 pub any-in : {A : Type 0} (test : A → Bool) (xs : List A) → list_any test xs ≡ true → (x : A) × In x xs × (test x ≡ true)
 any-in test [] h = absurd (true≢false (sym h))
@@ -76,7 +86,7 @@ less Less p = refl
 less Equal p = absurd p
 less Greater p = absurd p
 
-equal : (o : Ordering) → is_eq o ≡ true → o ≡ Equal
+pub equal : (o : Ordering) → is_eq o ≡ true → o ≡ Equal
 equal Less e = absurd (true≢false (sym e))
 equal Equal e = refl
 equal Greater e = absurd (true≢false (sym e))

@@ -42,7 +42,7 @@ use Rattle.node_journals.specs.NodeKeeping.{was_read, stamp_of, AreWritten, Node
 use Rattle.node_journals.specs.Flights.{meant}
 use Rattle.node_journals.proofs.Words.{contains-is, key-is, inside-is, same-is, covers-is, meets-is, meets-turned, names-is}
 use Rattle.node_journals.proofs.Lists.{In, each-in}
-use Rattle.node_journals.proofs.Standing.{there-exact, accepted-delete, accepted-ready, accepted-split, accepted-join}
+use Rattle.node_journals.proofs.Standing.{accepted-some, there-exact, accepted-delete, accepted-ready, accepted-split, accepted-join}
 use Rattle.node_journals.proofs.Shapes.{contains-any, covers-any, inside-any, meets-any, piece-any, shapes-any}
 use Rattle.node_journals.proofs.Stamping.{id-tests, tied-ids, Named, named-of, named-written, content-is, shown_in}
 use Rattle.node_journals.proofs.Members.{shows-all, shows-whole, is_wrong, ready_covers-by, mark-over, unmarked-over}
@@ -187,16 +187,8 @@ module _ (laws : AreRuns) (S : Setting) (J : List LaneEvent) (legal : IsLegal S 
   -- ---- answers
 
   has : (B : Body) → told B ps ≡ Accepted → Has H n (meant B)
-  has (body.Read b (Some id)) e = holds-is id ∙ some-so (laid.holds (keys.key_of id) ps) e
-    where
-      some-so : (t : Bool) → where_some t ≡ Accepted → t ≡ true
-      some-so true e = refl
-      some-so false e = cc
-  has (body.Store y) e = holds-is y.id ∙ some-so (laid.holds (keys.key_of y.id) ps) e
-    where
-      some-so : (t : Bool) → where_some t ≡ Accepted → t ≡ true
-      some-so true e = refl
-      some-so false e = cc
+  has (body.Read b (Some id)) e = holds-is id ∙ accepted-some (laid.holds (keys.key_of id) ps) e
+  has (body.Store y) e = holds-is y.id ∙ accepted-some (laid.holds (keys.key_of y.id) ps) e
   has body.Ask e = tt
   has (body.Read b None) e = tt
   has (body.Apply b es) e = tt

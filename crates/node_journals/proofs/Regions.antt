@@ -13,16 +13,12 @@ use Rattle.lane_journals.specs.Legal.{Replies, MayDeliver, Legal}
 use Rattle.lane_journals.proofs.Basics.{sent-stays, Accepted-stays, accepted-cases, accepted-sent, sent_before, version-grows}
 use Rattle.lane_journals.proofs.BucketLaws.{covers-contains}
 use Rattle.node_journals.specs.NodeKeeping.{activated_regions, regions}
-use Rattle.node_journals.proofs.Words.{covers-is}
+use Rattle.node_journals.proofs.Words.{or-last, covers-is}
 
 abbrev pub within : ℕ → List Bucket → Bool
 within key rs = list_any (λ b. contains b key) rs
 
 -- ---- one region more
-
-or_last : (x y : Bool) → y ≡ true → (x || y) ≡ true
-or_last true y h = refl
-or_last false y h = h
 
 covering : (b : Bucket) (key : ℕ) → contains b key ≡ true → (rs : List Bucket) → list_any (λ r. ids.covers r b) rs ≡ true → within key rs ≡ true
 covering b key i [] h = absurd (true≢false (sym h))
@@ -30,7 +26,7 @@ covering b key i (r ∷ rs) h = by_test (ids.covers r b) refl h (covering b key 
   where
     by_test : (t : Bool) → ids.covers r b ≡ t → (t || list_any (λ r. ids.covers r b) rs) ≡ true → (list_any (λ r. ids.covers r b) rs ≡ true → within key rs ≡ true) → (contains r key || within key rs) ≡ true
     by_test true e h ih = ap (λ t. t || within key rs) (covers-contains r b key (covers-is r b ∙ e) i)
-    by_test false e h ih = or_last (contains r key) (within key rs) (ih h)
+    by_test false e h ih = or-last (contains r key) (within key rs) (ih h)
 
 dropped : (b : Bucket) (key : ℕ) (rs : List Bucket) → (contains b key || within key (filter (λ r. not (ids.covers b r)) rs)) ≡ (contains b key || within key rs)
 dropped b key [] = refl
@@ -99,7 +95,7 @@ not_lt : (a b : ℕ) → nat_lt a b ≡ false → max b a ≡ a
 not_lt a b e = grind (arith, nat_tests)
 
 grown : (key : ℕ) (r : Reply) (y : Body) (rs : List Bucket) → within key rs ≡ true → within key (replied r y rs) ≡ true
-grown key (Answer x names) (Activate b) rs h = within-region b key rs ∙ or_last (contains b key) (within key rs) h
+grown key (Answer x names) (Activate b) rs h = within-region b key rs ∙ or-last (contains b key) (within key rs) h
 grown key (Answer x names) Ask rs h = h
 grown key (Answer x names) (Read b) rs h = h
 grown key (Answer x names) (ReadDoc i) rs h = h

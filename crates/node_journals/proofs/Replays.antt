@@ -1,5 +1,5 @@
 -- A node is what the journal says, after an event.
-use Rattle.std.proofs.Common.{◌≡◌, ◌≢◌, ◌&&◌, ◌||◌, ℕ, ◌+◌, ◌<◌, ◌≤◌, max, nat_lt, Bool, true, false, cond, List, [], ◌∷◌, map, filter, refl, sym, ap, ap₂, ◌∙◌, subst, arith, None, Some, eqb, eq-eqb, eqb-true}
+use Rattle.std.proofs.Common.{◌≡◌, ◌≢◌, ◌&&◌, ℕ, ◌+◌, ◌<◌, ◌≤◌, max, nat_lt, Bool, true, false, cond, List, [], ◌∷◌, map, refl, sym, ap, ap₂, ◌∙◌, subst, arith, None, Some, eqb, eq-eqb, eqb-true}
 use mathlib.Core.Bool.{true≢false}
 use Rattle.std.proofs.lemmas.Bool.Decides.{nat_tests}
 use Rattle.std.specs.List.{list_any}
@@ -32,6 +32,7 @@ use Rattle.node_journals.specs.NodeKeeping.{adopted_regions, activated_regions, 
 use Rattle.node_journals.specs.Flights.{meant, Brings, NamesBucket}
 use Rattle.node_journals.specs.Replaying.{IsNoDelivery}
 use Rattle.node_journals.proofs.Words.{names-is}
+use Rattle.node_journals.proofs.Lists.{any-filtered}
 use Rattle.node_journals.proofs.Bodies.{entries_by, pieces_by, by-version, by-entries, by-pieces, by-regions, by-serial, adopt-entries, adopt-pieces, adopt-serial, adopt-regions, adopt-version}
 use Rattle.node_journals.proofs.Shapes.{after-alike, shapes-after}
 use Rattle.node_journals.proofs.Standing.{touches, still-is, untouched-is, read_by-is, there-low, gone, kept}
@@ -225,23 +226,7 @@ module _ (J : List LaneEvent) (k : ℕ) (m : Message) (was_sent : sent k (histor
 -- what an answer shows is there, and its body changes no piece
 pub shown-there : (x : Body) (t : ℕ) (ps : List Piece) (b : Bucket) (s : ℕ) → list_any (is_piece b s) (shown_pieces x ps) ≡ true → (list_any (is_piece b s) ps ≡ true) × (pieces_by x t ps ≡ ps)
 shown-there body.Ask t ps b s h = (h, refl)
-shown-there (body.Read c None) t ps b s h = (met ps h, refl)
-  where
-    keep : (a : Bool) (ps : List Piece) → (a || list_any (is_piece b s) (filter (does_meet c) ps)) ≡ true → (list_any (is_piece b s) (filter (does_meet c) ps) ≡ true → list_any (is_piece b s) ps ≡ true) → (a || list_any (is_piece b s) ps) ≡ true
-    keep true ps h ih = refl
-    keep false ps h ih = ih h
-
-    last_of : (a : Bool) (ps : List Piece) → list_any (is_piece b s) ps ≡ true → (a || list_any (is_piece b s) ps) ≡ true
-    last_of true ps h = refl
-    last_of false ps h = h
-
-    by_test : (y : Bool) (p : Piece) (ps : List Piece) → list_any (is_piece b s) (cond y (p ∷ filter (does_meet c) ps) (filter (does_meet c) ps)) ≡ true → (list_any (is_piece b s) (filter (does_meet c) ps) ≡ true → list_any (is_piece b s) ps ≡ true) → list_any (is_piece b s) (p ∷ ps) ≡ true
-    by_test true p ps h ih = keep (is_piece b s p) ps h ih
-    by_test false p ps h ih = last_of (is_piece b s p) ps (ih h)
-
-    met : (ps : List Piece) → list_any (is_piece b s) (filter (does_meet c) ps) ≡ true → list_any (is_piece b s) ps ≡ true
-    met [] h = h
-    met (p ∷ ps) h = by_test (does_meet c p) p ps h (met ps)
+shown-there (body.Read c None) t ps b s h = (any-filtered (is_piece b s) (does_meet c) ps h, refl)
 shown-there (body.Read c (Some id)) t ps b s h = absurd (true≢false (sym h))
 shown-there (body.Store e) t ps b s h = absurd (true≢false (sym h))
 shown-there (body.Apply c es) t ps b s h = absurd (true≢false (sym h))

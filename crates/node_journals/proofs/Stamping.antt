@@ -5,8 +5,6 @@ use Rattle.std.proofs.lemmas.Bool.Decides.{nat_tests}
 use Rattle.std.specs.Cmp.{tied_itself}
 use Rattle.std.specs.Cmp.Lexicographic.{nat_list_cmp_total}
 use Rattle.std.specs.Ordering.{eq_by_cmp, is_eq}
-use Rattle.std.specs.declared.cmp.Ordering.{Ordering}
-use Rattle.std.specs.declared.cmp.Ordering.TheVariants.{Less, Equal, Greater}
 use Rattle.std.specs.FinMap as fin
 use Rattle.std.specs.FinMap.{get-insert, get-retain_keys, slice_cmp-IsAntisymmetric, nat_cmp-IsAntisymmetric, IsAntisymmetric}
 use Rattle.stamps.specs.Order.{is_before}
@@ -30,19 +28,14 @@ use Rattle.lane_journals.proofs.Ids.{same_id-true, same_id-eq}
 use Rattle.node_journals.specs.NodeKeeping.{stamp_of, AreWritten}
 use Rattle.node_journals.specs.Flights.{meant, Brings}
 use Rattle.node_journals.proofs.Words.{inside-is}
-use Rattle.node_journals.proofs.Lists.{In, in-contains, contains-in, in-map, map-in, value-get, get-value}
+use Rattle.node_journals.proofs.Lists.{In, equal, in-contains, contains-in, in-map, map-in, value-get, get-value}
 use Rattle.node_journals.proofs.Bodies.{entries_by}
 
 ids_same : IsAntisymmetric id_cmp
 ids_same = slice_cmp-IsAntisymmetric nat_cmp-IsAntisymmetric
 
-equal_of : (o : Ordering) → is_eq o ≡ true → o ≡ Equal
-equal_of Less e = absurd (true≢false (sym e))
-equal_of Equal e = refl
-equal_of Greater e = absurd (true≢false (sym e))
-
 pub tied-ids : (a b : Id) → eq_by_cmp id_cmp a b ≡ true → a ≡ b
-tied-ids a b e = ids_same a b (equal_of _ e)
+tied-ids a b e = ids_same a b (equal _ e)
 
 -- the two tests of ids agree
 pub id-tests : (a b : Id) → eq_by_cmp id_cmp b a ≡ same_id a b
@@ -50,7 +43,7 @@ id-tests a b = by_tests (eq_by_cmp id_cmp b a) (same_id a b) refl refl
   where
     by_tests : (x y : Bool) → eq_by_cmp id_cmp b a ≡ x → same_id a b ≡ y → x ≡ y
     by_tests true true e f = refl
-    by_tests true false e f = let is : a ≡ b = sym (ids_same b a (equal_of _ e)) in absurd (true≢false (sym (same_id-eq a b is) ∙ f))
+    by_tests true false e f = let is : a ≡ b = sym (ids_same b a (equal _ e)) in absurd (true≢false (sym (same_id-eq a b is) ∙ f))
     by_tests false true e f =
         let is = same_id-true a b f in
         absurd (true≢false (sym (ap (λ x. eq_by_cmp id_cmp b x) is ∙ ap is_eq (tied_itself nat_list_cmp_total b)) ∙ e))
@@ -159,7 +152,7 @@ module _ (wrote : Stamp → Option Entry) where
           by_id : (id : Id) (x : Entry) (y : Bool) → eq_by_cmp id_cmp id e.id ≡ y → cond y (Some e) (fin.get m id) ≡ Some x → (x.id ≡ id) × (wrote x.stamp ≡ Some x)
           by_id id x true f g =
               let is : e ≡ x = cc in
-              subst (λ (z : Entry). (z.id ≡ id) × (wrote z.stamp ≡ Some z)) is (sym (ids_same id e.id (equal_of _ f)), w)
+              subst (λ (z : Entry). (z.id ≡ id) × (wrote z.stamp ≡ Some z)) is (sym (ids_same id e.id (equal _ f)), w)
           by_id id x false f g = h id x g
       by_newer false = h
 

@@ -28,7 +28,8 @@ use Rattle.lane_journals.specs.Events as plain
 use Rattle.lane_journals.specs.Readers.{still, untouched, is_read}
 use Rattle.node_journals.specs.NodeKeeping.{read_by}
 use Rattle.node_journals.specs.Flights.{meant, NamesBucket}
-use Rattle.node_journals.proofs.Words.{contains-is, key-is, meets-is, meets-turned}
+use Rattle.node_journals.proofs.Words.{or-last, contains-is, key-is, meets-is, meets-turned}
+use Rattle.node_journals.proofs.Lists.{any-filtered}
 use Rattle.node_journals.proofs.Bodies.{pieces_by}
 
 -- ---- which buckets a body touches
@@ -130,33 +131,13 @@ there-holds : (b : Bucket) (s key : ℕ) → has_key b key ≡ true → (ps : Li
 there-holds b s key has [] h = absurd (true≢false (sym h))
 there-holds b s key has (p ∷ ps) h = by_test (is_piece b s p) refl h (there-holds b s key has ps)
   where
-    or_last : (x : Bool) → holds key ps ≡ true → (x || holds key ps) ≡ true
-    or_last true e = refl
-    or_last false e = e
-
     by_test : (t : Bool) → is_piece b s p ≡ t → (t || list_any (is_piece b s) ps) ≡ true → (list_any (is_piece b s) ps ≡ true → holds key ps ≡ true) → (has_key p.bucket key || holds key ps) ≡ true
     by_test true e h ih = ap (λ x. has_key x key || holds key ps) (exact_of b s p e) ∙ ap (λ x. x || holds key ps) has
-    by_test false e h ih = or_last (has_key p.bucket key) (ih h)
-
-without-sub : (c b : Bucket) (s : ℕ) (ps : List Piece) → list_any (is_piece b s) (without c ps) ≡ true → list_any (is_piece b s) ps ≡ true
-without-sub c b s [] h = h
-without-sub c b s (p ∷ ps) h = by_test (is_exactly c p) h (without-sub c b s ps)
-  where
-    or_last : (x : Bool) → list_any (is_piece b s) ps ≡ true → (x || list_any (is_piece b s) ps) ≡ true
-    or_last true e = refl
-    or_last false e = e
-
-    keep : (x : Bool) → (x || list_any (is_piece b s) (without c ps)) ≡ true → (list_any (is_piece b s) (without c ps) ≡ true → list_any (is_piece b s) ps ≡ true) → (x || list_any (is_piece b s) ps) ≡ true
-    keep true h ih = refl
-    keep false h ih = ih h
-
-    by_test : (t : Bool) → list_any (is_piece b s) (cond (not t) (p ∷ without c ps) (without c ps)) ≡ true → (list_any (is_piece b s) (without c ps) ≡ true → list_any (is_piece b s) ps ≡ true) → (is_piece b s p || list_any (is_piece b s) ps) ≡ true
-    by_test true h ih = or_last (is_piece b s p) (ih h)
-    by_test false h ih = keep (is_piece b s p) h ih
+    by_test false e h ih = or-last (has_key p.bucket key) (holds key ps) (ih h)
 
 -- ---- each body
 
-accepted-some : (t : Bool) → where_some t ≡ Accepted → t ≡ true
+pub accepted-some : (t : Bool) → where_some t ≡ Accepted → t ≡ true
 accepted-some true h = refl
 accepted-some false h = cc
 
@@ -202,7 +183,7 @@ module _ (laws : AreRuns) (last : ℕ) (ps : List Piece) (is_laid : IsLaid 0 ps)
     where
       by_test : (x : Bool) → list_any (is_piece b s) (without c ps) ≡ x → x ≡ false
       by_test true e =
-          let vb = there-valid b s 0 ps is_laid (without-sub c b s ps e) in
+          let vb = there-valid b s 0 ps is_laid (any-filtered (is_piece b s) (λ p. not (is_exactly c p)) ps e) in
           let k = met_key c b vc vb met in
           let kept : holds k.0 (without c ps) ≡ true = there-holds b s k.0 k.3 (without c ps) e in
           let lost : holds k.0 (without c ps) ≡ false = holds-delete laws k.0 k.1 c vc 0 ps is_laid (there-exact c t ps there) ∙ ap (λ x. not x && holds k.0 ps) k.2 in

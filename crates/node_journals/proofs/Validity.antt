@@ -1,11 +1,11 @@
 -- A node that takes a message stays a valid store.
-use Rattle.std.proofs.Common.{◌≡◌, ◌||◌, inl, inr, ℕ, ◌+◌, ◌^◌, ◌<◌, Bool, true, false, List, refl, sym, ◌∙◌, subst, arith}
+use Rattle.std.proofs.Common.{◌≡◌, inl, inr, ℕ, ◌+◌, ◌^◌, ◌<◌, List, sym, ◌∙◌, subst, arith}
 use Rattle.bucket_ids.specs.Buckets.{has_key}
 use Rattle.global_ids.specs.Keys.{key_of}
 use Rattle.entry_joins.proofs.JoinLaws.{get-joined}
 use Rattle.laid_pieces.specs.Pieces.{holds, has_key_of, does_meet}
 use Rattle.laid_pieces.specs.Runs.{AreRuns}
-use Rattle.laid_pieces.specs.Told.{Accepted, where_some}
+use Rattle.laid_pieces.specs.Told.{Accepted}
 use Rattle.laid_pieces.proofs.Laid.{IsLaid-renewed, IsLaid-ready, IsLaid-filter, IsLaid-split, IsLaid-join}
 use Rattle.laid_pieces.proofs.Serials.{AreUpTo-renewed, AreUpTo-ready, AreUpTo-filter, AreUpTo-split, AreUpTo-join}
 use Rattle.laid_pieces.proofs.ApplyLaws.{IsLaid-apply, AreUpTo-apply}
@@ -21,19 +21,12 @@ use Rattle.service_layer.specs.Nodes.{Node, adopt, after_body, stored}
 use Rattle.service_layer.specs.Takes.{Takes, Treats, told}
 use Rattle.std.proofs.lemmas.Bool.{cases_lt}
 use Rattle.node_journals.specs.Flights.{IsWhole}
+use Rattle.node_journals.proofs.Words.{or-last}
 use Rattle.node_journals.proofs.Bodies.{adopt-entries, adopt-pieces, adopt-serial}
-use Rattle.node_journals.proofs.Standing.{there-exact, accepted-delete, accepted-join}
+use Rattle.node_journals.proofs.Standing.{accepted-some, there-exact, accepted-delete, accepted-join}
 
 abbrev pub SmallKeys : Type 0
 SmallKeys = (text : List ℕ) → key_of text < 2 ^ 58
-
-some-so : (t : Bool) → where_some t ≡ Accepted → t ≡ true
-some-so true e = refl
-some-so false e = cc
-
-or_right : (x y : Bool) → y ≡ true → (x || y) ≡ true
-or_right true y e = refl
-or_right false y e = e
 
 module _ (laws : AreRuns) (small : SmallKeys) where
   pub valid-after : (x : Body) → IsWhole x → (n : Node) → told x n.pieces ≡ Accepted → IsReplica (stored n) → IsReplica (stored (after_body x n))
@@ -42,7 +35,7 @@ module _ (laws : AreRuns) (small : SmallKeys) where
   valid-after (body.Store e) w n a h = record {
     holding = record { laid = IsLaid-renewed (has_key_of (key_of e.id)) (n.serial + 1) 0 n.pieces (h.holding).laid; up_to = AreUpTo-renewed (has_key_of (key_of e.id)) n.serial n.pieces (h.holding).up_to };
     held = AreHeld-more small _ n.pieces _ (λ key k i. holds-renewed key (has_key_of (key_of e.id)) (n.serial + 1) n.pieces ∙ i)
-        (AreHeld-store n.entries e n.pieces (some-so (holds (key_of e.id) n.pieces) a) h.held);
+        (AreHeld-store n.entries e n.pieces (accepted-some (holds (key_of e.id) n.pieces) a) h.held);
   }
   valid-after (body.Apply b es) w n a h = record {
     holding = record { laid = IsLaid-apply laws b w.bucket (n.serial + 1) n.pieces (h.holding).laid; up_to = AreUpTo-apply b n.serial n.pieces (h.holding).up_to };
@@ -58,7 +51,7 @@ module _ (laws : AreRuns) (small : SmallKeys) where
   }
   valid-after (body.Join b) w n a h = record {
     holding = record { laid = IsLaid-join laws b w.bucket (n.serial + 1) 0 (omega arith) n.pieces (h.holding).laid; up_to = AreUpTo-join b n.serial n.pieces (h.holding).up_to };
-    held = AreHeld-more small n.entries n.pieces _ (λ key k i. holds-join laws key k b w.bucket (n.serial + 1) 0 n.pieces (h.holding).laid (accepted-join b n.pieces a) ∙ or_right (has_key b key) (holds key n.pieces) i) h.held;
+    held = AreHeld-more small n.entries n.pieces _ (λ key k i. holds-join laws key k b w.bucket (n.serial + 1) 0 n.pieces (h.holding).laid (accepted-join b n.pieces a) ∙ or-last (has_key b key) (holds key n.pieces) i) h.held;
   }
   valid-after (body.Ready b) w n a h = record {
     holding = record { laid = IsLaid-ready b (n.serial + 1) 0 n.pieces (h.holding).laid; up_to = AreUpTo-ready b n.serial n.pieces (h.holding).up_to };

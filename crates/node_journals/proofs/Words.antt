@@ -25,6 +25,10 @@ or-comm true false = refl
 or-comm false true = refl
 or-comm false false = refl
 
+pub or-last : (x y : Bool) → y ≡ true → (x || y) ≡ true
+or-last true y h = refl
+or-last false y h = h
+
 pub contains-is : (b : Bucket) (key : ℕ) → contains b key ≡ has_key b key
 unfolding contains
 contains-is b key = refl
