@@ -15,3 +15,4 @@ pub mod Holding
 pub mod Validity
 pub mod Sending
 pub mod Lanes
+pub mod Writing

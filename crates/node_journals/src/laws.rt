@@ -1,6 +1,6 @@
 //! Laws of nodes and journals; no function here does anything.
 
-ghost use Rattle.std.specs.Prelude.{◌≡◌, ◌≢◌, ◌↔◌, ℕ, true, false, List, [], ◌∷◌, Option};
+ghost use Rattle.std.specs.Prelude.{◌≡◌, ◌≢◌, ◌↔◌, ℕ, true, false, List, [], ◌∷◌, Option, Some};
 ghost use Rattle.std.specs.FinMap as fin;
 ghost use Rattle.std.specs.List.{list_any};
 ghost use Rattle.bucket_ids.specs.Buckets.{has_key};
@@ -25,7 +25,7 @@ ghost use Rattle.lane_journals.specs.Meanings.{entry_at, content, history};
 ghost use Rattle.lane_journals.specs.Places.{Setting, Owns, PlacedBody};
 ghost use Rattle.lane_journals.specs.KeptJournals.{IsLegal, IsLegalStep};
 ghost use Rattle.lane_journals.specs.declared.event.LaneEvent.{LaneEvent};
-ghost use Rattle.lane_journals.specs.declared.event.LaneEvent.TheVariants.{Delivered};
+ghost use Rattle.lane_journals.specs.declared.event.LaneEvent.TheVariants.{Wrote, Delivered};
 ghost use Rattle.node_journals.specs.NodeKeeping.{stamp_of, AreWritten, NodeKeeps};
 ghost use Rattle.node_journals.specs.Flights.{meant, Brings, BringsBack, IsExact, IsWhole, IsInFlight};
 ghost use Rattle.node_journals.specs.Replaying.{IsNoDelivery, sending, delivered, OfTaken, Replays, with_node};
@@ -95,10 +95,14 @@ pub fn lanes_replay()
     keys_locate();
 }
 
-/// The entries of an answer are those that were written with their stamps, and stay so; so are those of two
-/// maps that are joined, where of each document the newer stamp is held. What the stamps of such a map name
-/// is what it has.
+/// An entry that a line writes is that of its stamp, whatever was written before. The entries of an answer are
+/// those that were written with their stamps, and stay so; so are those of two maps that are joined, where
+/// of each document the newer stamp is held. What the stamps of such a map name is what it has.
 pub fn entries_are_written()
+    ensures wrote { (S : Setting) (J : List LaneEvent) → IsLegal S J → (line : ℕ) (e : Entry)
+        → IsLegalStep S J (Wrote line e) → entry_at e.stamp (Wrote line e ∷ J) ≡ Some e }
+    ensures stamped { (S : Setting) (J : List LaneEvent) → IsLegal S J → (s : Stamp) (e : Entry)
+        → entry_at s J ≡ Some e → e.stamp ≡ s }
     ensures shown { OfTaken (λ S J number m y r. BringsBack (λ s. entry_at s J) m.body r) }
     ensures stay { (J : List LaneEvent) (e : LaneEvent) (m : Entries) → AreWritten (λ s. entry_at s J) m
         → AreWritten (λ s. entry_at s (e ∷ J)) m }

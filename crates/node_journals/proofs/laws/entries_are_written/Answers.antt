@@ -1,10 +1,13 @@
 use Rattle.node_journals.proofs.Flying.{entry-stays}
 use Rattle.node_journals.proofs.Stamping.{written-apply, content-is}
+use Rattle.node_journals.proofs.Writing.{entry-written, entry-stamped}
 use Rattle.node_journals.proofs.Sending.{taken-back, stamps-join}
 use Rattle.node_journals.proofs.laws.entries_are_written.Goals as goal
 
 pub returns : goal.returns
 returns c = record {
+  wrote = entry-written;
+  stamped = entry-stamped;
   shown = taken-back;
   stay = λ J e m h id x g. let w = h id x g in (w.0, entry-stays J e x.stamp x w.1);
   joined = λ wrote m other h k. written-apply wrote m other k h;
