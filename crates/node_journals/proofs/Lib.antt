@@ -16,3 +16,4 @@ pub mod Validity
 pub mod Sending
 pub mod Lanes
 pub mod Writing
+pub mod Uniting

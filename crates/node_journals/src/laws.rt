@@ -1,10 +1,11 @@
 //! Laws of nodes and journals; no function here does anything.
 
-ghost use Rattle.std.specs.Prelude.{◌≡◌, ◌≢◌, ◌↔◌, ℕ, true, false, List, [], ◌∷◌, Option, Some};
+ghost use Rattle.std.specs.Prelude.{◌≡◌, ◌≢◌, ◌↔◌, ◌==◌, ◌||◌, ℕ, Bool, true, false, List, [], ◌∷◌, Option, Some};
 ghost use Rattle.std.specs.FinMap as fin;
 ghost use Rattle.std.specs.List.{list_any};
 ghost use Rattle.bucket_ids.specs.Buckets.{has_key};
 ghost use Rattle.laid_pieces.specs.Pieces as laid;
+ghost use Rattle.replica_store.specs.Replicas.{LieIn};
 ghost use Rattle.service_layer.specs.Nodes.{Node, new_node};
 ghost use Rattle.service_layer.specs.Takes.{Takes};
 ghost use Rattle.entry_maps.specs.declared.entry.Entry.{Entry};
@@ -16,9 +17,10 @@ ghost use Rattle.messages.specs.declared.reply.Reply.{Reply};
 ghost use Rattle.messages.specs.Noting.{noted_body};
 ghost use Rattle.messages.specs.declared.noted.NotedReply.{NotedReply};
 ghost use Rattle.lane_journals.specs.Stamps.{Stamp, newer};
-ghost use Rattle.lane_journals.specs.Buckets.{Id};
-ghost use Rattle.lane_journals.specs.Readers.{holds, stopped};
-ghost use Rattle.lane_journals.specs.Legal.{MaySend};
+ghost use Rattle.lane_journals.specs.Buckets.{Bucket, Id};
+ghost use Rattle.lane_journals.specs.Events.{Event};
+ghost use Rattle.lane_journals.specs.Readers.{Journal, Given, answer, running, round_of, holds, stopped};
+ghost use Rattle.lane_journals.specs.Legal.{MaySend, MayUnite};
 ghost use Rattle.lane_journals.specs.States.{state_of};
 ghost use Rattle.lane_journals.specs.Facts.{InRegion};
 ghost use Rattle.lane_journals.specs.Meanings.{entry_at, content, history};
@@ -29,6 +31,7 @@ ghost use Rattle.lane_journals.specs.declared.event.LaneEvent.TheVariants.{Wrote
 ghost use Rattle.node_journals.specs.NodeKeeping.{stamp_of, AreWritten, NodeKeeps};
 ghost use Rattle.node_journals.specs.Flights.{meant, Brings, BringsBack, IsExact, IsWhole, IsInFlight};
 ghost use Rattle.node_journals.specs.Replaying.{IsNoDelivery, sending, delivered, OfTaken, Replays, with_node};
+ghost use Rattle.node_journals.specs.Unions.{Gave, IsUnion};
 
 use global_ids::laws::keys_locate;
 use laid_pieces::laws::runs_are_known;
@@ -112,4 +115,19 @@ pub fn entries_are_written()
         → stamp_of (fin.get (joined m other) id) ≡ newer (stamp_of (fin.get other id)) (stamp_of (fin.get m id)) }
     ensures named { (J : List LaneEvent) (m : Entries) (id : Id) → AreWritten (λ s. entry_at s J) m
         → content J (stamps_of m) id ≡ stamp_of (fin.get m id) }
+{}
+
+/// The union of a round, answer by answer: it begins with nothing, whatever happens leaves it, and an answer
+/// of one node more is joined to it. Once it has those of all nodes of the version it may be sent.
+pub fn answers_unite()
+    ensures begins { (v r : ℕ) (H : Journal) → IsUnion v r H (λ n. false) fin.empty }
+    ensures stays { (v r : ℕ) (H : Journal) (e : Event) (did : ℕ → Bool) (u : Entries) → IsUnion v r H did u
+        → IsUnion v r (e ∷ H) did u }
+    ensures joins { (v r : ℕ) (H : Journal) (did : ℕ → Bool) (u : Entries) (n : ℕ) (g : Given) (es : Entries)
+        → IsUnion v r H did u → answer v r n H ≡ Some g → Gave g es
+        → IsUnion v r H (λ m. m == n || did m) (joined u es) }
+    ensures lies { (b : Bucket) (u es : Entries) → LieIn b u → LieIn b es → LieIn b (joined u es) }
+    ensures unites { (P : ℕ → ℕ → Bool) (H : Journal) (v : ℕ) (b : Bucket) (did : ℕ → Bool) (u : Entries)
+        → running v b H ≡ true → IsUnion v (round_of v b H) H did u → ((n : ℕ) → P v n ≡ true → did n ≡ true)
+        → MayUnite P H v b (λ id. stamp_of (fin.get u id)) }
 {}
