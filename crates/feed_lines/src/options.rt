@@ -1,8 +1,8 @@
-ghost use Rattle.std.specs.Prelude.{◌≡◌, Some, option_map};
+ghost use Rattle.std.specs.Prelude.{◌≡◌, ◌&&◌, Some, option_map};
 ghost use Rattle.serde_json.specs.Find.{as_bool, as_str};
 ghost use Rattle.serde_json.specs.View.{view};
 ghost use Rattle.feed_lines.specs.Meaning.{or_false, create_in, text_condition, condition_said, before_size, cause_by, fault_by, Gives};
-ghost use Rattle.feed_lines.specs.Tests.{is_text_if, is_truth_if, has_options, beside_of};
+ghost use Rattle.feed_lines.specs.Tests.{is_text_if, is_truth_if};
 
 use crate::command::{Cause, LineFault};
 use doc_selection::{Selection, SelectionFault};
@@ -30,11 +30,12 @@ fn is_truth_if(value: Option<&Value>) -> bool
     }
 }
 
-/// Whether `condition` is a text and `create` a truth value, where they are there.
-pub fn has_options(line: &Value) -> bool
-    ensures { result ≡ has_options (beside_of (view line.now)) }
+/// Whether what `condition` and `create` say is a text and a truth value, where they are there.
+pub fn are_options(condition: Option<&Value>, create: Option<&Value>) -> bool
+    ensures { result ≡ (is_text_if (option_map (λ v. view v.now) condition.entry)
+        && is_truth_if (option_map (λ v. view v.now) create.entry)) }
 {
-    is_text_if(line.get("condition")) && is_truth_if(line.get("create"))
+    is_text_if(condition) && is_truth_if(create)
 }
 
 /// What `create` says; it is false where it isn't there.

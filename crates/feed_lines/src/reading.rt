@@ -11,7 +11,7 @@ ghost use Rattle.feed_lines.specs.declared.keys.Verb.TheVariants as verb;
 
 use crate::command::{Cause, Command, LineFault};
 use crate::keys::Verb;
-use crate::options::{condition_said, create_in, fault_by, has_options};
+use crate::options::{are_options, condition_said, create_in, fault_by};
 use crate::shape::{has_right_keys, id_in, is_built, verb_of};
 use doc_types::Schema;
 use doc_updates::Update;
@@ -205,7 +205,9 @@ fn id_command(
 ) -> Result<Command, LineFault>
     ensures { Gives result (id_said schema.now verb id (beside_of (view line.now))) }
 {
-    let right = has_options(line);
+    let condition = line.get("condition");
+    let create = line.get("create");
+    let right = are_options(condition, create);
     let kind = match kind_said(alloc, verb, &id, line.get("fields"), schema) {
         Ok(kind) => kind,
         Err(fault) => return Err(fault_by(right, fault)),
@@ -213,17 +215,16 @@ fn id_command(
     if !right {
         return Err(bad(Cause::Value));
     }
-    let condition = match condition_said(alloc, line.get("condition"), schema) {
+    let condition = match condition_said(alloc, condition, schema) {
         Ok(condition) => condition,
         Err(fault) => return Err(fault),
     };
-    let create = create_in(line.get("create"));
     Ok(Command::Feed {
         operation: Operation {
             id,
             kind,
             condition,
-            create,
+            create: create_in(create),
         },
     })
 }

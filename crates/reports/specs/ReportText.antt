@@ -53,18 +53,26 @@ field_fault_text line word field = line_text (member (codes "fault") (string wor
 unfoldable pub size_fault_text : ℕ → ℕ → List ℕ
 size_fault_text line size = line_text (member (codes "fault") (string (codes "toolarge")) (with_result line (codes "badupdate") (member (codes "size") (number (unsigned size)) no_members)))
 
-unfoldable pub no_memory_text : ℕ → List ℕ
-no_memory_text line = line_text (with_result line (codes "nomemory") no_members)
+-- a result alone
+unfoldable pub result_text : ℕ → List ℕ → List ℕ
+result_text line word = line_text (with_result line word no_members)
 
 abbrev pub bad_update_text : ℕ → UpdateFault → List ℕ
 bad_update_text line (fault.ZeroDivisor field) = field_fault_text line (codes "zerodivisor") field
 bad_update_text line (fault.Overflow field) = field_fault_text line (codes "overflow") field
 bad_update_text line (fault.TooMany field) = field_fault_text line (codes "toomany") field
 bad_update_text line (fault.TooLarge size) = size_fault_text line size
-bad_update_text line fault.NoMemory = no_memory_text line
+bad_update_text line fault.NoMemory = result_text line (codes "nomemory")
 
-unfoldable pub too_long_text : ℕ → List ℕ
-too_long_text line = line_text (with_result line (codes "toolong") no_members)
+unfoldable pub too_few_text : ℕ → ℕ → ℕ → ℕ → List ℕ
+too_few_text line answered needed absent =
+    line_text (member (codes "absent") (number (unsigned absent)) (member (codes "answered") (number (unsigned answered))
+        (member (codes "line") (number (unsigned line)) (member (codes "needed") (number (unsigned needed)) (member (codes "result") (string (codes "toofew")) no_members)))))
+
+unfoldable pub owned_elsewhere_text : ℕ → ℕ → ℕ → List ℕ
+owned_elsewhere_text line owner version =
+    line_text (member (codes "line") (number (unsigned line)) (member (codes "owner") (number (unsigned owner))
+        (member (codes "result") (string (codes "notowner")) (member (codes "version") (number (unsigned version)) no_members))))
 
 -- the word of a cause
 abbrev pub cause_text : Cause → List ℕ
@@ -90,8 +98,11 @@ report_text line (answer.Missing seen) = missing_text line seen
 report_text line answer.Nothing = nothing_text line
 report_text line (answer.ConditionFailed seen) = condition_failed_text line seen
 report_text line (answer.BadUpdate why) = bad_update_text line why
+report_text line (answer.TooFew answered needed absent) = too_few_text line answered needed absent
+report_text line (answer.OwnedElsewhere owner version) = owned_elsewhere_text line owner version
+report_text line answer.NoMemory = result_text line (codes "nomemory")
 report_text line (answer.BadLine why) = bad_line_text line why
-report_text line answer.TooLong = too_long_text line
+report_text line answer.TooLong = result_text line (codes "toolong")
 
 unfoldable pub usage_text : List ℕ
 usage_text = line_text (member (codes "result") (string (codes "usage")) no_members)

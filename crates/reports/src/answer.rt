@@ -32,6 +32,19 @@ pub enum Answer {
     BadUpdate {
         fault: UpdateFault,
     },
+    /// So many nodes answered where so many were needed; the absent one is the first to look for.
+    TooFew {
+        answered: u8,
+        needed: u8,
+        absent: u8,
+    },
+    /// The document's lane belongs to another distributor under this version.
+    OwnedElsewhere {
+        owner: u8,
+        version: u32,
+    },
+    /// The operation wanted memory.
+    NoMemory,
     /// The line can't be dealt with.
     BadLine {
         cause: Cause,

@@ -5,7 +5,7 @@
 use cell_session::{Cluster, Status, run_one};
 use io_ends::{StdSink, StdSource};
 use std::process::ExitCode;
-use std::{env, io};
+use std::{env, io, mem};
 
 fn main(rt: HostRuntime) -> ExitCode {
     let mut source = StdSource::new(rt.stdin());
@@ -15,6 +15,8 @@ fn main(rt: HostRuntime) -> ExitCode {
         Ok(words) => run_one(rt.alloc(), &words, &mut source, &mut sink, &mut cluster),
         Err(_) => Status::NoMemory,
     };
+    // the process ends here, and what the lanes hold goes with it
+    mem::forget(cluster);
     ExitCode::from(status.number())
 }
 
