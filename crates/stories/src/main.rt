@@ -1,15 +1,12 @@
 //! Runs the worked sessions of `data/` through the top call of the product, over ends in memory, and
-//! prints one line for each. `data/index` names them; a new story is a new file and a line there.
+//! prints one line for each, and then what a session leaves. `data/index` names them; a new story is a new
+//! file and a line there.
 #![tactic(auto)]
 
-#[cfg(test)]
-mod faults;
-#[cfg(test)]
-mod large_maps;
-#[cfg(test)]
-mod maps;
+mod left;
 mod story;
 
+use crate::left::print_left;
 use crate::story::Story;
 use anyhow::Result;
 use cell_session::{Cluster, run_one};
@@ -38,6 +35,7 @@ fn main(rt: HostRuntime) -> Result<ExitCode> {
             println!(rt; "came status {status} and\n{}", shown(&output))?;
         }
     }
+    print_left(&rt)?;
     Ok(ExitCode::from(failed))
 }
 
@@ -45,13 +43,19 @@ fn main(rt: HostRuntime) -> Result<ExitCode> {
 fn tell(alloc: Global, story: &Story) -> Result<(Vec<u8>, u8)> {
     let mut input = Vec::new(alloc);
     input.extend_from_slice(&story.input)?;
-    let mut source = MemorySource::new(input, Vec::new(alloc));
-    let mut sink = MemorySink::new(alloc, Vec::new(alloc));
+    let mut source = MemorySource::new(input, copied(alloc, &story.reads)?);
+    let mut sink = MemorySink::new(alloc, copied(alloc, &story.writes)?);
     let mut cluster = Cluster::empty(alloc);
     let status = run_one(alloc, &story.words, &mut source, &mut sink, &mut cluster);
     let mut output = Vec::new(alloc);
     output.extend_from_slice(sink.bytes())?;
     Ok((output, status.number()))
+}
+
+fn copied(alloc: Global, calls: &[u64]) -> Result<Vec<u64>> {
+    let mut copy = Vec::new(alloc);
+    copy.extend_from_slice(calls)?;
+    Ok(copy)
 }
 
 /// The bytes as text, where they are text.

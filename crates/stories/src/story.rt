@@ -8,6 +8,10 @@ pub struct Story {
     pub words: Vec<String>,
     /// The bytes that it reads.
     pub input: Vec<u8>,
+    /// The calls of the source that fail, from 0.
+    pub reads: Vec<u64>,
+    /// The calls of the sink that fail.
+    pub writes: Vec<u64>,
     /// The bytes that it must write.
     pub output: Vec<u8>,
     /// The exit status that it must end with.
@@ -29,10 +33,23 @@ impl Story {
         Ok(Story {
             words,
             input: expand(alloc, input)?,
+            reads: calls(alloc, input, "%source_fails ")?,
+            writes: calls(alloc, input, "%sink_fails ")?,
             output: expand(alloc, output)?,
             status: status.parse::<u8>()?,
         })
     }
+}
+
+/// The numbers of the lines that begin with a word.
+fn calls(alloc: Global, lines: &str, word: &str) -> Result<Vec<u64>> {
+    let mut calls = Vec::new(alloc);
+    for line in lines.lines() {
+        if let Some(call) = line.strip_prefix(word) {
+            calls.push(call.parse::<u64>()?)?;
+        }
+    }
+    Ok(calls)
 }
 
 /// The bytes of these lines. Of a line that begins with a word behind `%`:
@@ -41,7 +58,8 @@ impl Story {
 /// - `%count N TEXT` for N lines of a text, each with its number from 1 in the place of `#`;
 /// - `%long N` for a line of N letters x;
 /// - `%bytes B ..` for these bytes, without a line feed;
-/// - `%open` takes the last line feed away, so that the next line goes on there.
+/// - `%open` takes the last line feed away, so that the next line goes on there;
+/// - `%source_fails N` and `%sink_fails N` stand for nothing: call N of that end fails.
 fn expand(alloc: Global, lines: &str) -> Result<Vec<u8>> {
     let mut bytes = Vec::new(alloc);
     for line in lines.lines() {
@@ -75,7 +93,7 @@ fn push(bytes: &mut Vec<u8>, line: &str) -> Result<()> {
         }
     } else if line == "%open" {
         bytes.pop();
-    } else {
+    } else if !line.starts_with("%source_fails ") && !line.starts_with("%sink_fails ") {
         bytes.extend_from_slice(line.as_bytes())?;
         bytes.push(b'\n')?;
     }
