@@ -1,9 +1,9 @@
-//! Tables of lines: what is asked for, and the first cause of a bad line.
-
+use anyhow::{Result, anyhow};
 use doc_types::{DEFAULT_SCHEMA, Schema};
 use feed_lines::{Cause, Command, LineFault, read_line};
 use messages::OpKind;
 use std::alloc::Global;
+use std::fs;
 
 /// A cause in a word.
 fn word_of_cause(cause: Cause) -> &'static str {
@@ -31,150 +31,47 @@ fn word_of_kind(kind: &OpKind) -> &'static str {
     }
 }
 
-/// What a line of the default schema asks for, or its cause, in a word.
-fn word_of(alloc: Global, line: &[u8]) -> anyhow::Result<String> {
-    let schema = Schema::from_json(alloc, DEFAULT_SCHEMA)?;
-    match read_line(alloc, line, &schema) {
-        Ok(Command::Blank) => Ok(String::from_str(alloc, "blank")?),
-        Ok(Command::Feed { operation }) => {
-            Ok(String::from_str(alloc, word_of_kind(&operation.kind))?)
+/// What a line asks for, or its cause, in a word.
+fn word_of(alloc: Global, schema: &Schema, line: &[u8]) -> &'static str {
+    match read_line(alloc, line, schema) {
+        Ok(Command::Blank) => "blank",
+        Ok(Command::Feed { operation }) => word_of_kind(&operation.kind),
+        Err(LineFault::NoMemory) => "no memory",
+        Err(LineFault::BadLine { cause }) => word_of_cause(cause),
+    }
+}
+
+/// The bytes that a line of the table stands for: `%title N FIELDS` for a put with these fields and a title
+/// of N letters, `%byte LINE` for a line with the byte 255 in the place of each `#`.
+fn bytes_of(alloc: Global, line: &str) -> Result<Vec<u8>> {
+    let mut bytes = Vec::new(alloc);
+    if let Some(rest) = line.strip_prefix("%title ") {
+        let (count, fields) = rest.split_once(' ').ok_or(anyhow!("no fields"))?;
+        bytes.extend_from_slice(b"{\"put\":\"id:ns:music::a\",\"fields\":{")?;
+        bytes.extend_from_slice(fields.as_bytes())?;
+        bytes.extend_from_slice(b"\"title\":\"")?;
+        for _ in 0..count.parse::<u32>()? {
+            bytes.push(b'x')?;
         }
-        Err(LineFault::NoMemory) => Ok(String::from_str(alloc, "no memory")?),
-        Err(LineFault::BadLine { cause }) => { Ok(String::from_str(alloc, word_of_cause(cause))?) }
+        bytes.extend_from_slice(b"\"}}")?;
+    } else if let Some(rest) = line.strip_prefix("%byte ") {
+        for byte in rest.bytes() {
+            bytes.push(if byte == b'#' { 255 } else { byte })?;
+        }
+    } else {
+        bytes.extend_from_slice(line.as_bytes())?;
     }
+    Ok(bytes)
 }
 
-#[test]
-fn lines_ask_for_operations(rt: HostRuntime) -> anyhow::Result<()> {
-    let cases = [
-        ("", "blank"),
-        (" \t\r", "blank"),
-        ("{\"put\":\"id:ns:music::a\",\"fields\":{}}", "a put"),
-        (
-            " {\"fields\":{\"year\":1}, \"put\":\"id:ns:music::a\"}\r",
-            "a put",
-        ),
-        ("{\"update\":\"id:ns:music::a\",\"fields\":{}}", "an update"),
-        (
-            "{\"update\":\"id:ns:music::a\",\"fields\":{\"year\":{\"divide\":0}}}",
-            "an update",
-        ),
-        ("{\"remove\":\"id:ns:music:g=x:a\"}", "a remove"),
-        ("{\"get\":\"id:ns:music:n=7:a:b\"}", "a get"),
-        ("{\"get\":5,\"get\":\"id:ns:music::a\"}", "a get"),
-        (
-            "{\"put\":\"id:ns:music::a\",\"fields\":5,\"fields\":{\"year\":null}}",
-            "a put",
-        ),
-    ];
-    for (line, wanted) in cases {
-        let came = word_of(rt.alloc(), line.as_bytes())?;
-        assert_eq!(rt; came.as_str(), wanted, "at {line}");
-    }
-    Ok(())
-}
-
-#[test]
-fn bad_lines_have_their_first_cause(rt: HostRuntime) -> anyhow::Result<()> {
-    let cases = [
-        ("{", "json"),
-        ("{\"get\":\"id:ns:music::a\"}}", "json"),
-        ("[]", "object"),
-        ("5", "object"),
-        ("{}", "object"),
-        ("{\"via\":1}", "object"),
-        ("{\"visit\":true}", "object"),
-        ("{\"Get\":\"id:ns:music::a\"}", "object"),
-        ("{\"get\":\"id:ns:music::a\",\"put\":1,\"via\":1}", "object"),
-        ("{\"get\":\"id:ns:music::a\",\"search\":\"x\"}", "object"),
-        ("{\"search\":\"x\"}", "unbuilt"),
-        ("{\"state\":5,\"zoo\":1}", "unbuilt"),
-        ("{\"maintain\":true}", "unbuilt"),
-        ("{\"barrier\":true}", "unbuilt"),
-        ("{\"stop\":1}", "unbuilt"),
-        ("{\"start\":1}", "unbuilt"),
-        ("{\"net\":{}}", "unbuilt"),
-        ("{\"get\":5,\"via\":1,\"zoo\":1}", "unbuilt"),
-        ("{\"put\":5,\"condition\":5}", "key"),
-        ("{\"remove\":5,\"create\":true}", "key"),
-        ("{\"get\":5,\"deaf\":[]}", "unbuilt"),
-        ("{\"get\":5,\"zoo\":1}", "key"),
-        ("{\"get\":5,\"fields\":{}}", "key"),
-        ("{\"remove\":\"bad\",\"fields\":{}}", "key"),
-        ("{\"put\":\"bad\"}", "key"),
-        ("{\"update\":\"id:ns:music::a\"}", "key"),
-        ("{\"get\":5}", "id"),
-        ("{\"get\":null}", "id"),
-        ("{\"get\":\"bad\"}", "id"),
-        ("{\"get\":\"id:ns:book:n=01:a\"}", "id"),
-        ("{\"put\":\"bad\",\"fields\":5}", "id"),
-        ("{\"get\":\"id:ns:book::a\"}", "type"),
-        ("{\"remove\":\"id:ns:Music::a\"}", "type"),
-        ("{\"put\":\"id:ns:book::a\",\"fields\":{\"zoo\":1}}", "type"),
-        ("{\"update\":\"id:ns:book::a\",\"fields\":5}", "type"),
-        (
-            "{\"put\":\"id:ns:music::a\",\"fields\":{\"zoo\":1,\"year\":\"x\"}}",
-            "field",
-        ),
-        (
-            "{\"update\":\"id:ns:music::a\",\"fields\":{\"year\":5,\"zoo\":5}}",
-            "field",
-        ),
-        ("{\"put\":\"id:ns:music::a\",\"fields\":5}", "value"),
-        ("{\"put\":\"id:ns:music::a\",\"fields\":null}", "value"),
-        ("{\"update\":\"id:ns:music::a\",\"fields\":[]}", "value"),
-        (
-            "{\"put\":\"id:ns:music::a\",\"fields\":{\"year\":\"x\"}}",
-            "value",
-        ),
-        (
-            "{\"put\":\"id:ns:music::a\",\"fields\":{\"year\":1.0}}",
-            "value",
-        ),
-        (
-            "{\"put\":\"id:ns:music::a\",\"fields\":{\"year\":1e2}}",
-            "value",
-        ),
-        (
-            "{\"update\":\"id:ns:music::a\",\"fields\":{\"year\":1}}",
-            "value",
-        ),
-    ];
-    for (line, wanted) in cases {
-        let came = word_of(rt.alloc(), line.as_bytes())?;
-        assert_eq!(rt; came.as_str(), wanted, "at {line}");
-    }
-    let came = word_of(rt.alloc(), b"{\"get\":\"id:ns:music::\xff\"}")?;
-    assert_eq!(rt; came.as_str(), "json");
-    Ok(())
-}
-
-/// A put of a title of so many letters, with some other fields.
-fn put_text(alloc: Global, others: &str, count: u32) -> anyhow::Result<String> {
-    let mut text = format!(in alloc;
-        "{{\"put\":\"id:ns:music::a\",\"fields\":{{{others}\"title\":\""
-    )?;
-    for _ in 0..count {
-        text.push('x')?;
-    }
-    text.push_str("\"}}")?;
-    Ok(text)
-}
-
-#[test]
-fn size_is_tested_last(rt: HostRuntime) -> anyhow::Result<()> {
+/// Prints what each line of the table asks for.
+pub fn print_lines(rt: &HostRuntime) -> Result<()> {
     let alloc = rt.alloc();
-    let cases = [
-        ("", 65_523, "a put"),
-        ("", 65_524, "size"),
-        ("\"year\":1,", 65_511, "a put"),
-        ("\"year\":1,", 65_512, "size"),
-        ("\"year\":1.0,", 65_524, "value"),
-    ];
-    for (others, count, wanted) in cases {
-        let line = put_text(alloc, others, count)?;
-        let came = word_of(alloc, line.as_bytes())?;
-        assert_eq!(rt; came.as_str(), wanted, "at {others}{count}");
+    let schema = Schema::from_json(alloc, DEFAULT_SCHEMA)?;
+    let text = fs::read_to_string(rt, "lines")?;
+    for line in text.split('\n') {
+        let bytes = bytes_of(alloc, line)?;
+        println!(rt; "{}: {line}", word_of(alloc, &schema, &bytes))?;
     }
     Ok(())
 }
