@@ -79,6 +79,9 @@ drawn_ends J k (outcome.ConditionFailed seen) h none = none
 drawn_ends J k (outcome.Found t) h none = absurd h
 drawn_ends J k (outcome.Missing seen) h none = absurd h
 drawn_ends J k (outcome.BadUpdate fault) h none = none
+drawn_ends J k (outcome.TooFew answered needed absent) h none = absurd h
+drawn_ends J k (outcome.OwnedElsewhere owner version) h none = absurd h
+drawn_ends J k outcome.NoMemory h none = absurd h
 
 begun_ends : (J : Journal) (k d v : ℕ) (id : List ℕ) (stamp : Option Stamp) (ending : Outcome) → MayEnd J k ending → MayEnd (event.Begun k d v id stamp ∷ J) k ending
 begun_ends J k d v id stamp (outcome.Acked s) h = h
@@ -87,6 +90,9 @@ begun_ends J k d v id stamp (outcome.Missing seen) h = h
 begun_ends J k d v id stamp (outcome.Nothing seen) h = h
 begun_ends J k d v id stamp (outcome.ConditionFailed seen) h = h
 begun_ends J k d v id stamp (outcome.BadUpdate fault) h = h
+begun_ends J k d v id stamp (outcome.TooFew answered needed absent) h = absurd h
+begun_ends J k d v id stamp (outcome.OwnedElsewhere owner version) h = absurd h
+begun_ends J k d v id stamp outcome.NoMemory h = absurd h
 
 pub legal_read : (s : Setting) (J : Journal) (k : ℕ) (id : List ℕ) (ending : Outcome) → IsLegal J → IsClosed J → events_of k J ≡ [] → ending ≡ seen_outcome (fin.get (store_of J) id) → IsLegal (read_events s k id ending ++ J)
 legal_read s J k id ending legal closed fresh is =

@@ -252,6 +252,9 @@ closed_same J J' j v k (Some (outcome.Missing seen)) legal line is = refl
 closed_same J J' j v k (Some (outcome.Nothing seen)) legal line is = refl
 closed_same J J' j v k (Some (outcome.ConditionFailed seen)) legal line is = refl
 closed_same J J' j v k (Some (outcome.BadUpdate fault)) legal line is = refl
+closed_same J J' j v k (Some (outcome.TooFew answered needed absent)) legal line is = refl
+closed_same J J' j v k (Some (outcome.OwnedElsewhere owner version)) legal line is = refl
+closed_same J J' j v k (Some outcome.NoMemory) legal line is = refl
 closed_same J J' j v k (Some (outcome.Found t)) legal line is =
     let was = closed-found J j t legal is in
     ap (λ o. outcome_answer (outcome.Found t) o) (line.entries t was.0 was.1 ∙ sym was.1)

@@ -60,6 +60,9 @@ drawn_answer (outcome.ConditionFailed seen) J shown h = refl
 drawn_answer (outcome.Found t) J shown h = absurd h
 drawn_answer (outcome.Missing seen) J shown h = absurd h
 drawn_answer (outcome.BadUpdate fault) J shown h = refl
+drawn_answer (outcome.TooFew answered needed absent) J shown h = absurd h
+drawn_answer (outcome.OwnedElsewhere owner version) J shown h = absurd h
+drawn_answer outcome.NoMemory J shown h = absurd h
 
 -- the answer to a deed is that of its outcome, by the document's newest entry after it
 deed_answer : (s : Setting) (J : Journal) (k : ℕ) (id : List ℕ) (deed : Deed) → IsLegal J → events_of k J ≡ [] → IsFit (fin.get (store_of J) id) deed

@@ -74,6 +74,9 @@ IsDrawn (outcome.ConditionFailed seen) = Unit {0}
 IsDrawn (outcome.Found stamp) = ⊥
 IsDrawn (outcome.Missing seen) = ⊥
 IsDrawn (outcome.BadUpdate fault) = Unit {0}
+IsDrawn (outcome.TooFew answered needed absent) = ⊥
+IsDrawn (outcome.OwnedElsewhere owner version) = ⊥
+IsDrawn outcome.NoMemory = ⊥
 
 -- a deed that an operation which saw this may do
 abbrev pub IsFit : Option Entry → Deed → Type 0

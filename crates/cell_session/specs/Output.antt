@@ -32,6 +32,9 @@ outcome_answer (outcome.Missing seen) entry = Some (answer.Missing seen)
 outcome_answer (outcome.Nothing seen) entry = Some answer.Nothing
 outcome_answer (outcome.ConditionFailed seen) entry = Some (answer.ConditionFailed seen)
 outcome_answer (outcome.BadUpdate fault) entry = Some (answer.BadUpdate fault)
+outcome_answer (outcome.TooFew answered needed absent) entry = Some (answer.TooFew answered needed absent)
+outcome_answer (outcome.OwnedElsewhere owner version) entry = Some (answer.OwnedElsewhere owner version)
+outcome_answer outcome.NoMemory entry = Some answer.NoMemory
 
 -- the entry that an outcome speaks of: what was written with the stamp that was found
 abbrev pub entry_of : Outcome → Journal → Option Entry
@@ -41,6 +44,9 @@ entry_of (outcome.Missing seen) J = None
 entry_of (outcome.Nothing seen) J = None
 entry_of (outcome.ConditionFailed seen) J = None
 entry_of (outcome.BadUpdate fault) J = None
+entry_of (outcome.TooFew answered needed absent) J = None
+entry_of (outcome.OwnedElsewhere owner version) J = None
+entry_of outcome.NoMemory J = None
 
 -- the answer that a line's closing is
 abbrev pub closed_answer : Option Outcome → Journal → Option Answer

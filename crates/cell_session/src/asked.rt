@@ -23,10 +23,10 @@ pub enum Asked {
 }
 
 /// What a line of at most 65,536 bytes asks for.
-fn short_asked(alloc: Global, schema: &Schema, bytes: &[u8]) -> Result<Asked, NoMemory>
+fn short_asked(alloc: Global, schema: &Schema, bits: u8, bytes: &[u8]) -> Result<Asked, NoMemory>
     ensures { IfOk result (λ asked. asked ≡ asked_by (line_said schema.now bytes.now)) }
 {
-    match read_line(alloc, bytes, schema) {
+    match read_line(alloc, bytes, schema, bits) {
         Ok(Command::Blank) => Ok(Asked::Blank),
         Ok(Command::Feed { operation }) => Ok(Asked::Feed { operation }),
         Err(LineFault::BadLine { cause }) => Ok(Asked::Bad { cause }),
@@ -34,13 +34,14 @@ fn short_asked(alloc: Global, schema: &Schema, bytes: &[u8]) -> Result<Asked, No
     }
 }
 
-/// What a line asks for, from its bytes without the line feed. The only error is want of memory.
+/// What a line asks for in a session of 2^bits lanes, from its bytes without the line feed. The only error
+/// is want of memory.
 #[tactic(auto, unfolding(crate::specs::Asking::asked_of))]
-pub fn asked_of(alloc: Global, schema: &Schema, bytes: &[u8]) -> Result<Asked, NoMemory>
+pub fn asked_of(alloc: Global, schema: &Schema, bits: u8, bytes: &[u8]) -> Result<Asked, NoMemory>
     ensures { IfOk result (λ asked. asked ≡ asked_of schema.now bytes.now) }
 {
     if bytes.len() > LONGEST {
         return Ok(Asked::TooLong);
     }
-    short_asked(alloc, schema, bytes)
+    short_asked(alloc, schema, bits, bytes)
 }

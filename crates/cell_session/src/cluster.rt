@@ -243,6 +243,19 @@ impl Cluster {
             Outcome::ConditionFailed { seen } => Ok(Some(Answer::ConditionFailed { seen })),
             Outcome::BadUpdate { fault } => Ok(Some(Answer::BadUpdate { fault })),
             Outcome::Found { stamp } => found_answer(alloc, self.entry_at(key, id), stamp),
+            Outcome::TooFew {
+                answered,
+                needed,
+                absent,
+            } => Ok(Some(Answer::TooFew {
+                answered,
+                needed,
+                absent,
+            })),
+            Outcome::OwnedElsewhere { owner, version } => {
+                Ok(Some(Answer::OwnedElsewhere { owner, version }))
+            }
+            Outcome::NoMemory => Ok(Some(Answer::NoMemory)),
         }
     }
 }

@@ -17,10 +17,11 @@ pub enum Step {
     Over { status: Status },
 }
 
-/// The next line's command under a schema, or how the session ends.
+/// The next line's command under a schema in a session of 2^bits lanes, or how the session ends.
 pub fn next_command<S: Source>(
     alloc: Global,
     schema: &Schema,
+    bits: u8,
     reader: &mut LineReader,
     source: &mut S,
     line: &mut Vec<u8>,
@@ -34,7 +35,7 @@ pub fn next_command<S: Source>(
     ensures cause { CausedBySource result S.last (S.faults source.old) (S.faults source.new) }
 {
     match reader.next(source, line) {
-        Next::Line { number } => line_command(alloc, schema, number, line),
+        Next::Line { number } => line_command(alloc, schema, bits, number, line),
         Next::TooLong { number } => Step::Command {
             number,
             command: Asked::TooLong,
@@ -55,10 +56,10 @@ pub fn next_command<S: Source>(
 }
 
 /// The command of a line that was read.
-fn line_command(alloc: Global, schema: &Schema, number: u32, line: &[u8]) -> Step
+fn line_command(alloc: Global, schema: &Schema, bits: u8, number: u32, line: &[u8]) -> Step
     ensures { IsOfLine schema.now result number line.now }
 {
-    let Ok(command) = asked_of(alloc, schema, line) else {
+    let Ok(command) = asked_of(alloc, schema, bits, line) else {
         return Step::Over {
             status: Status::NoMemory,
         };

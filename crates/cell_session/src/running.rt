@@ -122,7 +122,15 @@ fn run_lines<S: Source, K: Sink>(
     };
     let mut line = Vec::new(alloc);
     loop {
-        let (number, command) = match next_command(alloc, schema, &mut reader, source, &mut line) {
+        let step = next_command(
+            alloc,
+            schema,
+            setting.bits,
+            &mut reader,
+            source,
+            &mut line,
+        );
+        let (number, command) = match step {
             Step::Command { number, command } => (number, command),
             Step::Over { status } => return status,
         };

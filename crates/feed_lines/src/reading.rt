@@ -287,9 +287,15 @@ fn text_command(alloc: Global, bytes: &[u8], schema: &Schema) -> Result<Command,
 }
 
 /// What a line asks for, from its bytes without the line feed; a bad line has the first cause that
-/// holds of it.
+/// holds of it. There are 2^bits lanes: only a line that plans messages names one, and such lines are
+/// among those that aren't built.
 #[tactic(auto, unfolding(crate::specs::Meaning::line_said))]
-pub fn read_line(alloc: Global, bytes: &[u8], schema: &Schema) -> Result<Command, LineFault>
+pub fn read_line(
+    alloc: Global,
+    bytes: &[u8],
+    schema: &Schema,
+    _bits: u8,
+) -> Result<Command, LineFault>
     ensures { Gives result (line_said schema.now bytes.now) }
 {
     if is_blank_line(bytes) {

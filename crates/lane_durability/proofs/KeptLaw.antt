@@ -21,9 +21,9 @@ use Rattle.lane_journals.specs.Places.{Setting, state_in, Owns, IsAmongFirst, Is
 use Rattle.lane_journals.specs.Endings.{HasSeen, IsDocument, NoDocument, FellShort, OpeningFellShort, RoundFellShort, UnionFellShort, ReadsFellShort, StoresFellShort, UnpreparedFellShort, PreparedFellShort, MayEnd, Ended}
 use Rattle.lane_journals.specs.KeptJournals.{IsLegal}
 use Rattle.pieces.specs.declared.piece.Piece.{Piece}
-use Rattle.lane_journals.specs.declared.outcome.Outcome.{Outcome}
-use Rattle.lane_journals.specs.declared.outcome.Outcome.TheVariants.{Acked, Nothing, Found, Missing, ConditionFailed, BadUpdate, TooFew, OwnedElsewhere}
-use Rattle.lane_journals.specs.declared.outcome.Outcome.TheVariants as outcome
+use Rattle.messages.specs.declared.outcome.Outcome.{Outcome}
+use Rattle.messages.specs.declared.outcome.Outcome.TheVariants.{Acked, Nothing, Found, Missing, ConditionFailed, BadUpdate, TooFew, OwnedElsewhere}
+use Rattle.messages.specs.declared.outcome.Outcome.TheVariants as outcome
 use Rattle.messages.specs.declared.decision.Decision.{Decision}
 use Rattle.messages.specs.declared.decision.Decision.TheVariants.{RoundBegun, RoundEnded, RowSplit, RowsJoined, ActiveOn, DeleteFrom, DeleteOver}
 use Rattle.messages.specs.declared.noted.NotedBody.{NotedBody}
@@ -432,7 +432,7 @@ module _ (S : Setting) (P : ℕ → ℕ → Bool) (v : ℕ) where
   elsewhere-below J d (outcome.Found s) lt p = absurd p
   elsewhere-below J d (outcome.Missing s) lt p = absurd p
   elsewhere-below J d (outcome.ConditionFailed s) lt p = absurd p
-  elsewhere-below J d outcome.BadUpdate lt p = absurd p
+  elsewhere-below J d (outcome.BadUpdate fault) lt p = absurd p
   elsewhere-below J d (outcome.TooFew a n x) lt p = absurd p
   elsewhere-below J d outcome.NoMemory lt p = absurd p
 
@@ -566,7 +566,7 @@ module _ (S : Setting) (P : ℕ → ℕ → Bool) (v : ℕ) where
       by_outcome (Found s) h = (h.0, seen' (Some s) h.1, record { entry = (h.2).entry; at = entry-below J l s (seen-low (history J) lJ line b s lt h.1) ∙ (h.2).at; document = (h.2).document })
       by_outcome (Missing seen) h = (h.0, seen' seen h.1, no_document-below J l seen h.2)
       by_outcome (ConditionFailed seen) h = (h.0, wrote' false h.1, seen' seen h.2)
-      by_outcome BadUpdate h = (h.0, wrote' false h.1, (h.2.0, seen' h.2.0 h.2.1))
+      by_outcome (BadUpdate fault) h = (h.0, wrote' false h.1, (h.2.0, seen' h.2.0 h.2.1))
       by_outcome (TooFew a n y) (inl h) = inl (unprepared a n y h)
       by_outcome (TooFew a n y) (inr h) = inr (ready a n y h)
       by_outcome (OwnedElsewhere owner w) h = absurd h

@@ -19,7 +19,7 @@ use Rattle.lane_journals.specs.Lives.{lane, setting, state_two, stamp_one, stamp
 use Rattle.messages.specs.declared.noted.NotedBody.TheVariants as body
 use Rattle.messages.specs.declared.noted.NotedReply.TheVariants as reply
 use Rattle.messages.specs.declared.decision.Decision.TheVariants as choice
-use Rattle.lane_journals.specs.declared.outcome.Outcome.TheVariants as outcome
+use Rattle.messages.specs.declared.outcome.Outcome.TheVariants as outcome
 use Rattle.lane_journals.specs.declared.event.LaneEvent.{LaneEvent}
 use Rattle.lane_journals.specs.declared.event.LaneEvent.TheVariants as event
 use Rattle.lane_journals.proofs.Order.{Le_refl}

@@ -11,8 +11,8 @@ use Rattle.lane_journals.specs.Legal.{EnoughRead}
 use Rattle.lane_journals.specs.States.{state_of}
 use Rattle.lane_journals.specs.Meanings.{entry_at, history, nodes}
 use Rattle.lane_journals.specs.Places.{Setting, receivers_of}
-use Rattle.lane_journals.specs.declared.outcome.Outcome.{Outcome}
-use Rattle.lane_journals.specs.declared.outcome.Outcome.TheVariants.{Acked, Nothing, Found, Missing, ConditionFailed, BadUpdate, TooFew, OwnedElsewhere, NoMemory}
+use Rattle.messages.specs.declared.outcome.Outcome.{Outcome}
+use Rattle.messages.specs.declared.outcome.Outcome.TheVariants.{Acked, Nothing, Found, Missing, ConditionFailed, BadUpdate, TooFew, OwnedElsewhere, NoMemory}
 use Rattle.lane_journals.specs.declared.event.LaneEvent.{LaneEvent}
 use Rattle.lane_journals.specs.declared.event.LaneEvent.TheVariants.{Closed}
 
@@ -96,7 +96,7 @@ MayEnd S J line b (Nothing seen) = IsSome b.stamp × IsUnwritten (history J) lin
 MayEnd S J line b (Found stamp) = (b.stamp ≡ None) × HasSeen S.acks (history J) line b (Some stamp) × IsDocument J stamp
 MayEnd S J line b (Missing seen) = (b.stamp ≡ None) × HasSeen S.acks (history J) line b seen × NoDocument J seen
 MayEnd S J line b (ConditionFailed seen) = IsSome b.stamp × IsUnwritten (history J) line × HasSeen S.acks (history J) line b seen
-MayEnd S J line b BadUpdate = IsSome b.stamp × IsUnwritten (history J) line × ((seen : Option Stamp) × HasSeen S.acks (history J) line b seen)
+MayEnd S J line b (BadUpdate fault) = IsSome b.stamp × IsUnwritten (history J) line × ((seen : Option Stamp) × HasSeen S.acks (history J) line b seen)
 MayEnd S J line b (TooFew answered needed absent) = UnpreparedFellShort S J line b answered needed absent ⊎ PreparedFellShort S.acks (history J) line b answered needed absent
 MayEnd S J line b (OwnedElsewhere owner version) = ⊥
 MayEnd S J line b NoMemory = Unit {0}

@@ -9,8 +9,8 @@ use Rattle.lane_journals.specs.Buckets.{Id, same_id, Bucket, same_bucket}
 use Rattle.lane_journals.specs.Events as plain
 use Rattle.lane_journals.specs.Events.{Content, Event, Body, Reply, Decision}
 use Rattle.lane_journals.specs.Readers.{Journal, or_else, only_if}
-use Rattle.lane_journals.specs.declared.outcome.Outcome.{Outcome}
-use Rattle.lane_journals.specs.declared.outcome.Outcome.TheVariants.{Acked, OwnedElsewhere}
+use Rattle.messages.specs.declared.outcome.Outcome.{Outcome}
+use Rattle.messages.specs.declared.outcome.Outcome.TheVariants.{Acked, OwnedElsewhere}
 use Rattle.pieces.specs.declared.piece.Piece.{Piece}
 use Rattle.messages.specs.declared.noted.NotedBody.{NotedBody}
 use Rattle.messages.specs.declared.noted.NotedBody.TheVariants.{Ask, Read, Store, Apply, Delete, Split, Join, Ready, Activate}

@@ -12,8 +12,8 @@ use Rattle.lane_journals.specs.Readers.{Journal, or_else, only_if, row_in, activ
 use Rattle.lane_journals.specs.Facts.{AnsweredReady, IsRow, IsMember}
 use Rattle.lane_journals.specs.States.{state_of}
 use Rattle.lane_journals.specs.Meanings.{history}
-use Rattle.lane_journals.specs.declared.outcome.Outcome.{Outcome}
-use Rattle.lane_journals.specs.declared.outcome.Outcome.TheVariants.{OwnedElsewhere}
+use Rattle.messages.specs.declared.outcome.Outcome.{Outcome}
+use Rattle.messages.specs.declared.outcome.Outcome.TheVariants.{OwnedElsewhere}
 use Rattle.messages.specs.declared.noted.NotedBody.{NotedBody}
 use Rattle.messages.specs.declared.noted.NotedBody.TheVariants.{Apply, Split, Join, Ready}
 use Rattle.messages.specs.declared.decision.Decision.{Decision}

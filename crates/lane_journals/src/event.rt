@@ -1,9 +1,8 @@
-use crate::outcome::Outcome;
 use bucket_ids::Bucket;
 use cluster_states::ClusterState;
 use document_ids::DocId;
 use entry_maps::Entry;
-use messages::{BucketList, Decision, NotedBody, NotedReply};
+use messages::{BucketList, Decision, NotedBody, NotedReply, Outcome};
 use node_sets::NodeSet;
 use stamps::Stamp;
 

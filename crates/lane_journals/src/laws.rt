@@ -12,7 +12,7 @@ ghost use Rattle.lane_journals.specs.Places.{Setting, state_in, published_states
 ghost use Rattle.lane_journals.specs.KeptJournals.{IsLegalStep, IsLegal};
 ghost use Rattle.lane_journals.specs.Lives.{OfDocuments, lane, setting, stamp_two, stamp_three, asked_one, life_one, life};
 ghost use Rattle.lane_journals.specs.WrongSteps.{IsRefused, opened_early, state_small, incomplete_read, activated_twice, acked_without_active, deleting_keeper};
-ghost use Rattle.lane_journals.specs.declared.outcome.Outcome.TheVariants.{Acked};
+ghost use Rattle.messages.specs.declared.outcome.Outcome.TheVariants.{Acked};
 ghost use Rattle.messages.specs.declared.decision.Decision.TheVariants.{ActiveOn, DeleteFrom};
 ghost use Rattle.lane_journals.specs.declared.event.LaneEvent.TheVariants.{Published, Prepared, Closed, Decided};
 ghost use Rattle.lane_journals.specs.Lives.{stamp_one};

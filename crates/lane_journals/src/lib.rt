@@ -15,9 +15,7 @@
 
 pub mod event;
 pub mod laws;
-pub mod outcome;
 
 pub use event::LaneEvent;
-pub use messages::{BucketList, Decision, NotedBody, NotedReply, StampList};
-pub use outcome::Outcome;
+pub use messages::{BucketList, Decision, NotedBody, NotedReply, Outcome, StampList};
 pub use pieces::{Piece, PieceList};

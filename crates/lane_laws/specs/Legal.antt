@@ -35,7 +35,8 @@ pub record MayWrite (J : Journal) (line : ℕ) (entry : Entry) : Type 0 where
   pub unwritten : wrote_in line J ≡ None
   pub unclosed : closed_in line J ≡ None
 
--- what an outcome asks of what the line wrote
+-- what an outcome asks of what the line wrote; where one node keeps the entries and no message is sent, no line is
+-- refused, comes to too few answers or closes for want of memory
 abbrev pub MayEnd : Journal → ℕ → Outcome → Type 0
 MayEnd J line (outcome.Acked stamp) = (entry : Entry) × ((wrote_in line J ≡ Some entry) × (entry.stamp ≡ stamp))
 MayEnd J line (outcome.Found stamp) = (wrote_in line J ≡ None) × ((entry : Entry) × (entry_at stamp J ≡ Some entry))
@@ -43,6 +44,9 @@ MayEnd J line (outcome.Missing seen) = wrote_in line J ≡ None
 MayEnd J line (outcome.Nothing seen) = wrote_in line J ≡ None
 MayEnd J line (outcome.ConditionFailed seen) = wrote_in line J ≡ None
 MayEnd J line (outcome.BadUpdate fault) = wrote_in line J ≡ None
+MayEnd J line (outcome.TooFew answered needed absent) = ⊥
+MayEnd J line (outcome.OwnedElsewhere owner version) = ⊥
+MayEnd J line outcome.NoMemory = ⊥
 
 -- a line that is begun closes once
 pub record MayClose (J : Journal) (line : ℕ) (ending : Outcome) : Type 0 where

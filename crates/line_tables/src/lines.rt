@@ -33,7 +33,7 @@ fn word_of_kind(kind: &OpKind) -> &'static str {
 
 /// What a line asks for, or its cause, in a word.
 fn word_of(alloc: Global, schema: &Schema, line: &[u8]) -> &'static str {
-    match read_line(alloc, line, schema) {
+    match read_line(alloc, line, schema, 4) {
         Ok(Command::Blank) => "blank",
         Ok(Command::Feed { operation }) => word_of_kind(&operation.kind),
         Err(LineFault::NoMemory) => "no memory",

@@ -12,13 +12,13 @@ use Rattle.messages.specs.declared.message.Message.{Message}
 use Rattle.messages.specs.declared.operation.Operation.{Operation}
 use Rattle.messages.specs.declared.operation.OpKind.{OpKind}
 use Rattle.messages.specs.declared.operation.OpKind.TheVariants.{Put, Update, Remove, Get}
+use Rattle.messages.specs.declared.outcome.Outcome.{Outcome}
 use Rattle.op_machine.specs.declared.plan.Plan.{Plan}
-use Rattle.op_machine.specs.declared.ending.Ending.{Ending}
-use Rattle.op_machine.specs.declared.ending.Verdict.{Verdict}
-use Rattle.op_machine.specs.declared.ending.Verdict.TheVariants.{Ends, Writes}
+use Rattle.op_machine.specs.declared.verdict.Verdict.{Verdict}
+use Rattle.op_machine.specs.declared.verdict.Verdict.TheVariants.{Ends, Writes}
 use Rattle.op_machine.specs.Nodes.{first_node}
 use Rattle.op_machine.specs.Judging.{looks, looks_by, judged, judged_by}
-use Rattle.op_machine.specs.Outcomes.{Answers, Next, Asks, Finishes, waits, read_verdict, verdict, reader, read_body, store_next, stored_ending, verdict_next, read_next, next_of, message_in, ending_in, store_to, store_message}
+use Rattle.op_machine.specs.Outcomes.{Answers, Next, Asks, Finishes, waits, read_verdict, verdict, reader, read_body, store_next, stored_outcome, verdict_next, read_next, next_of, message_in, outcome_in, store_to, store_message}
 use Rattle.op_machine.specs.Plans.{IsPlan, is_get}
 use Rattle.op_machine.specs.declared.machine.Standing.{Standing}
 use Rattle.op_machine.specs.Standings.{next_at, MayAnswer, IsTo, entry_in, due_by, due_entry, IsDue, IsSettled}
@@ -85,17 +85,17 @@ plain_writes : (o : Operation) (stamp : Option Stamp) → is_some stamp ≡ not 
 plain_writes o (Some s) stamped h = writes_by o.id o.kind o.condition o.create s h
 plain_writes o None stamped h = absurd (true≢false (sym (stamped ∙ ap not (no_get o.kind (is_some o.condition) h))))
 
-pub starts : (p : Plan) (reads stores : Answers) → IsPlan p → ((n : ℕ) → reads.told n ≡ false) → ((n : ℕ) → stores.told n ≡ false) → ending_in (next_of p reads stores) ≡ None
+pub starts : (p : Plan) (reads stores : Answers) → IsPlan p → ((n : ℕ) → reads.told n ≡ false) → ((n : ℕ) → stores.told n ≡ false) → outcome_in (next_of p reads stores) ≡ None
 starts p reads stores plan read stored = by (looks p.operation) refl
   where
-    by : (t : Bool) → looks p.operation ≡ t → ending_in (read_next (cond t (first_node (waits p reads)) None) p reads stores) ≡ None
-    by true e = let w = some_waits p reads plan read in ap (λ o. ending_in (read_next o p reads stores)) w.1
+    by : (t : Bool) → looks p.operation ≡ t → outcome_in (read_next (cond t (first_node (waits p reads)) None) p reads stores) ≡ None
+    by true e = let w = some_waits p reads plan read in ap (λ o. outcome_in (read_next o p reads stores)) w.1
     by false e =
         let w = some_waits p stores plan stored in
         let v = plain_writes p.operation p.stamp plan.stamped e in
-        ap (λ t. ending_in (verdict_next (cond t (read_verdict p reads) (judged p.operation p.stamp None)) p stores)) e
-        ∙ ap (λ x. ending_in (verdict_next x p stores)) v.1
-        ∙ ap (λ o. ending_in (store_next o p stores v.0)) w.1
+        ap (λ t. outcome_in (verdict_next (cond t (read_verdict p reads) (judged p.operation p.stamp None)) p stores)) e
+        ∙ ap (λ x. outcome_in (verdict_next x p stores)) v.1
+        ∙ ap (λ o. outcome_in (store_next o p stores v.0)) w.1
 
 -- ---- the next message
 
@@ -126,25 +126,25 @@ known_is p reads x over due = by (verdict p reads) (sym (ap (λ o. due_by o p re
     by (Ends y) e = absurd (cc)
     by (Writes w) e = cc
 
-pub settled_reading : (p : Plan) (reads stores : Answers) (n : ℕ) → reader p reads ≡ Some n → IsSettled p reads stores (record { entry = None; ending = None })
-settled_reading p reads stores n e = record { entry = sym (ap (λ o. due_by o p reads) e); ended = sym (ap (λ o. ending_in (read_next o p reads stores)) e) }
+pub settled_reading : (p : Plan) (reads stores : Answers) (n : ℕ) → reader p reads ≡ Some n → IsSettled p reads stores (record { entry = None; outcome = None })
+settled_reading p reads stores n e = record { entry = sym (ap (λ o. due_by o p reads) e); ended = sym (ap (λ o. outcome_in (read_next o p reads stores)) e) }
 
-pub settled_ends : (p : Plan) (reads stores : Answers) (x : Ending) → reader p reads ≡ None → Ends x ≡ verdict p reads → IsSettled p reads stores (record { entry = None; ending = Some x })
+pub settled_ends : (p : Plan) (reads stores : Answers) (x : Outcome) → reader p reads ≡ None → Ends x ≡ verdict p reads → IsSettled p reads stores (record { entry = None; outcome = Some x })
 settled_ends p reads stores x over v = record {
   entry = sym (ap (λ o. due_by o p reads) over ∙ ap entry_in (sym v));
-  ended = sym (ap (λ o. ending_in (read_next o p reads stores)) over ∙ ap (λ y. ending_in (verdict_next y p stores)) (sym v));
+  ended = sym (ap (λ o. outcome_in (read_next o p reads stores)) over ∙ ap (λ y. outcome_in (verdict_next y p stores)) (sym v));
 }
 
-ending_stored : (p : Plan) (stores : Answers) (x : Entry) (o : Option ℕ) → stored_ending o p stores x.stamp ≡ ending_in (store_next o p stores x)
-ending_stored p stores x (Some n) = refl
-ending_stored p stores x None = refl
+outcome_stored : (p : Plan) (stores : Answers) (x : Entry) (o : Option ℕ) → stored_outcome o p stores x.stamp ≡ outcome_in (store_next o p stores x)
+outcome_stored p stores x (Some n) = refl
+outcome_stored p stores x None = refl
 
-pub settled_writes : (p : Plan) (reads stores : Answers) (x : Entry) (ending : Option Ending) → reader p reads ≡ None → Writes x ≡ verdict p reads
-    → ending ≡ stored_ending (first_node (waits p stores)) p stores x.stamp → IsSettled p reads stores (record { entry = Some x; ending = ending })
-settled_writes p reads stores x ending over v e = record {
+pub settled_writes : (p : Plan) (reads stores : Answers) (x : Entry) (outcome : Option Outcome) → reader p reads ≡ None → Writes x ≡ verdict p reads
+    → outcome ≡ stored_outcome (first_node (waits p stores)) p stores x.stamp → IsSettled p reads stores (record { entry = Some x; outcome = outcome })
+settled_writes p reads stores x outcome over v e = record {
   entry = sym (ap (λ o. due_by o p reads) over ∙ ap entry_in (sym v));
-  ended = e ∙ ending_stored p stores x (first_node (waits p stores))
-      ∙ sym (ap (λ o. ending_in (read_next o p reads stores)) over ∙ ap (λ y. ending_in (verdict_next y p stores)) (sym v));
+  ended = e ∙ outcome_stored p stores x (first_node (waits p stores))
+      ∙ sym (ap (λ o. outcome_in (read_next o p reads stores)) over ∙ ap (λ y. outcome_in (verdict_next y p stores)) (sym v));
 }
 
 -- ---- who may answer

@@ -12,9 +12,8 @@ use Rattle.messages.specs.declared.operation.OpKind.TheVariants.{Put, Update, Re
 use Rattle.messages.specs.declared.operation.Operation.{Operation}
 use Rattle.messages.specs.declared.outcome.Outcome.{Outcome}
 use Rattle.messages.specs.declared.outcome.Outcome.TheVariants as outcome
-use Rattle.op_machine.specs.declared.ending.Ending.TheVariants.{Ended}
-use Rattle.op_machine.specs.declared.ending.Verdict.{Verdict}
-use Rattle.op_machine.specs.declared.ending.Verdict.TheVariants.{Ends, Writes}
+use Rattle.op_machine.specs.declared.verdict.Verdict.{Verdict}
+use Rattle.op_machine.specs.declared.verdict.Verdict.TheVariants.{Ends, Writes}
 
 -- a get and an update look at their document
 abbrev pub looks_by : OpKind → Bool
@@ -48,20 +47,20 @@ shown (Some e) = shown_body e.stamp e.body
 -- the effect is to be stored; a document that can't have the update ends the operation
 abbrev pub written_by : List ℕ → Stamp → Result (Option Contents) UpdateFault → Verdict
 written_by id s (Ok body) = Writes (record { stamp = s; id = id; body = body })
-written_by id s (Err fault) = Ends (Ended (outcome.BadUpdate fault))
+written_by id s (Err fault) = Ends (outcome.BadUpdate fault)
 
 abbrev pub written : Operation → Stamp → Option Entry → Verdict
 written o s seen = written_by o.id s (effect o.id o.kind (document_in seen))
 
 -- an operation that goes ahead: one without a stamp, a get, shows what it saw
 abbrev pub goes_on : Operation → Option Stamp → Option Entry → Verdict
-goes_on o None seen = Ends (Ended (shown seen))
+goes_on o None seen = Ends (shown seen)
 goes_on o (Some s) seen = written o s seen
 
 abbrev pub judged_by : Decided → Operation → Option Stamp → Option Entry → Verdict
 judged_by GoesAhead o s seen = goes_on o s seen
-judged_by ConditionFails o s seen = Ends (Ended (outcome.ConditionFailed (stamp_in seen)))
-judged_by DoesNothing o s seen = Ends (Ended (outcome.Nothing (stamp_in seen)))
+judged_by ConditionFails o s seen = Ends (outcome.ConditionFailed (stamp_in seen))
+judged_by DoesNothing o s seen = Ends (outcome.Nothing (stamp_in seen))
 
 -- a condition that fails comes first, then an update that does nothing and a get, then an update that can't be
 abbrev pub judged : Operation → Option Stamp → Option Entry → Verdict

@@ -1,4 +1,4 @@
--- What comes next in an operation: a message to one more recipient, or the ending. It depends on nothing but the plan
+-- What comes next in an operation: a message to one more recipient, or the outcome. It depends on nothing but the plan
 -- and what was answered; whatever keeps the answers, a machine or a journal, gives them as tests.
 use Rattle.std.specs.Prelude.{ℕ, Bool, true, not, ◌&&◌, nat_le, List, Option, None, Some, if◌then◌else◌}
 use Rattle.global_ids.specs.Keys.{key_of}
@@ -9,13 +9,12 @@ use Rattle.messages.specs.Noting.{message_of}
 use Rattle.messages.specs.declared.message.Message.{Message}
 use Rattle.messages.specs.declared.body.Body.{Body}
 use Rattle.messages.specs.declared.body.Body.TheVariants.{Read, Store}
-use Rattle.messages.specs.declared.outcome.Outcome.TheVariants.{Acked}
+use Rattle.messages.specs.declared.outcome.Outcome.{Outcome}
+use Rattle.messages.specs.declared.outcome.Outcome.TheVariants.{Acked, TooFew, NoMemory}
 use Rattle.op_machine.specs.declared.plan.Plan.{Plan}
 use Rattle.op_machine.specs.declared.tally.Tally.{Tally}
-use Rattle.op_machine.specs.declared.ending.Ending.{Ending}
-use Rattle.op_machine.specs.declared.ending.Ending.TheVariants.{Ended, TooFew, NoMemory}
-use Rattle.op_machine.specs.declared.ending.Verdict.{Verdict}
-use Rattle.op_machine.specs.declared.ending.Verdict.TheVariants.{Ends, Writes}
+use Rattle.op_machine.specs.declared.verdict.Verdict.{Verdict}
+use Rattle.op_machine.specs.declared.verdict.Verdict.TheVariants.{Ends, Writes}
 use Rattle.op_machine.specs.Nodes.{first_node, count_nodes}
 use Rattle.op_machine.specs.Judging.{looks, judged}
 
@@ -59,20 +58,20 @@ abbrev pub has_active : Option ℕ → (ℕ → Bool) → Bool
 has_active None answered = true
 has_active (Some a) answered = answered a
 
--- ---- endings
+-- ---- outcomes
 
 -- a node that wants memory is told in place of the count
-abbrev pub too_few : Plan → Answers → Ending
+abbrev pub too_few : Plan → Answers → Outcome
 too_few p a = if a.short then NoMemory else TooFew (count_nodes (counts p a)) p.acks (absent_of p.active (lacks p a))
 
 -- acknowledged exactly where enough recipients answered the Store, the active node among them if there is one
-abbrev pub stored : Plan → Answers → Stamp → Ending
-stored p a s = if has_enough p a && has_active p.active a.answered then Ended (Acked s) else too_few p a
+abbrev pub stored : Plan → Answers → Stamp → Outcome
+stored p a s = if has_enough p a && has_active p.active a.answered then Acked s else too_few p a
 
--- the ending by the Stores, once no recipient waits
-abbrev pub stored_ending : Option ℕ → Plan → Answers → Stamp → Option Ending
-stored_ending (Some n) p a s = None
-stored_ending None p a s = Some (stored p a s)
+-- the outcome by the Stores, once no recipient waits
+abbrev pub stored_outcome : Option ℕ → Plan → Answers → Stamp → Option Outcome
+stored_outcome (Some n) p a s = None
+stored_outcome None p a s = Some (stored p a s)
 
 -- what an operation that looks comes to once its Reads are over: too few answers come first
 abbrev pub read_verdict : Plan → Answers → Verdict
@@ -85,7 +84,7 @@ verdict p reads = if looks p.operation then read_verdict p reads else judged p.o
 
 pub data Next : Type 0 where
   Asks : Message → Next
-  Finishes : Ending → Next
+  Finishes : Outcome → Next
 
 -- the Read of one document names its key's bucket
 abbrev pub read_body : List ℕ → Body
@@ -116,9 +115,9 @@ abbrev pub message_in : Next → Option Message
 message_in (Asks m) = Some m
 message_in (Finishes x) = None
 
-abbrev pub ending_in : Next → Option Ending
-ending_in (Asks m) = None
-ending_in (Finishes x) = Some x
+abbrev pub outcome_in : Next → Option Outcome
+outcome_in (Asks m) = None
+outcome_in (Finishes x) = Some x
 
 -- the Store that comes next, if there is an entry
 abbrev pub store_to : Option ℕ → Plan → Entry → Option Message

@@ -6,9 +6,9 @@ use Rattle.messages.specs.declared.reply.Reply.{Reply}
 use Rattle.op_machine.specs.declared.plan.Plan.{Plan}
 use Rattle.op_machine.specs.declared.machine.Standing.{Standing}
 use Rattle.op_machine.specs.declared.settling.Settled.{Settled}
-use Rattle.op_machine.specs.declared.ending.Verdict.{Verdict}
-use Rattle.op_machine.specs.declared.ending.Verdict.TheVariants.{Ends, Writes}
-use Rattle.op_machine.specs.Outcomes.{Answers, answers_of, reader, verdict, Next, Asks, Finishes, next_of, ending_in}
+use Rattle.op_machine.specs.declared.verdict.Verdict.{Verdict}
+use Rattle.op_machine.specs.declared.verdict.Verdict.TheVariants.{Ends, Writes}
+use Rattle.op_machine.specs.Outcomes.{Answers, answers_of, reader, verdict, Next, Asks, Finishes, next_of, outcome_in}
 use Rattle.op_machine.specs.Plans.{IsPlan}
 use Rattle.op_machine.specs.Telling.{IsTold, IsNobody}
 
@@ -65,9 +65,9 @@ IsDue p reads (Some e) = due_entry p reads ≡ Some e
 
 pub record IsSettled (p : Plan) (reads stores : Answers) (t : Settled) : Type 0 where
   pub entry : t.entry ≡ due_entry p reads
-  pub ended : t.ending ≡ ending_in (next_of p reads stores)
+  pub ended : t.outcome ≡ outcome_in (next_of p reads stores)
 
 pub record IsMachine (s : Standing) (t : Settled) : Type 0 where
   pub plan : IsPlan s.plan
   pub entry : IsDue s.plan (answers_of s.reads) t.entry
-  pub ended : t.ending ≡ ending_in (next_at s)
+  pub ended : t.outcome ≡ outcome_in (next_at s)

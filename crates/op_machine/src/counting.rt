@@ -1,9 +1,8 @@
 ghost use Rattle.std.specs.Prelude.{◌≡◌};
 ghost use Rattle.node_sets.specs.Members.{has_node};
 ghost use Rattle.op_machine.specs.Nodes.{first_node, count_nodes};
-ghost use Rattle.op_machine.specs.Outcomes.{node_or_zero, absent_of, answers_of, waits, counts, lacks, has_enough, has_active, too_few, stored, stored_ending};
+ghost use Rattle.op_machine.specs.Outcomes.{node_or_zero, absent_of, answers_of, waits, counts, lacks, has_enough, has_active, too_few, stored, stored_outcome};
 
-use crate::ending::Ending;
 use crate::plan::Plan;
 use crate::tally::Tally;
 use messages::Outcome;
@@ -88,13 +87,13 @@ impl Plan {
     }
 
     /// How the operation ends where too few answered; takes no memory.
-    pub fn too_few(&self, tally: &Tally) -> Ending
+    pub fn too_few(&self, tally: &Tally) -> Outcome
         ensures { result ≡ too_few self.now (answers_of tally.now) }
     {
         if tally.short {
-            Ending::NoMemory
+            Outcome::NoMemory
         } else {
-            Ending::TooFew {
+            Outcome::TooFew {
                 answered: self.count(tally),
                 needed: self.acks,
                 absent: self.absent(tally),
@@ -103,22 +102,20 @@ impl Plan {
     }
 
     /// How the operation ends once all was told of its Stores.
-    fn stored(&self, stores: &Tally, stamp: Stamp) -> Ending
+    fn stored(&self, stores: &Tally, stamp: Stamp) -> Outcome
         ensures { result ≡ stored self.now (answers_of stores.now) stamp }
     {
         if self.has_enough(stores) && has_active(self.active, stores.answered) {
-            Ending::Ended {
-                outcome: Outcome::Acked { stamp },
-            }
+            Outcome::Acked { stamp }
         } else {
             self.too_few(stores)
         }
     }
 
     /// How the operation ends by its Stores, if all was told of them; takes no memory.
-    pub fn stored_ending(&self, stores: &Tally, stamp: Stamp) -> Option<Ending>
+    pub fn stored_outcome(&self, stores: &Tally, stamp: Stamp) -> Option<Outcome>
         ensures { let told = answers_of stores.now in
-            result ≡ stored_ending (first_node (waits self.now told)) self.now told stamp }
+            result ≡ stored_outcome (first_node (waits self.now told)) self.now told stamp }
     {
         match self.waiting(stores) {
             Some(_) => None,

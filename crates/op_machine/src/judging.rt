@@ -2,7 +2,7 @@ ghost use Rattle.std.specs.Prelude.{◌≡◌, IfOk, option_map};
 ghost use Rattle.std.specs.Option.{option_copied};
 ghost use Rattle.op_machine.specs.Judging.{document_in, stamp_in, shown_body, shown, written, goes_on, judged};
 
-use crate::ending::{Ending, Verdict};
+use crate::verdict::Verdict;
 use doc_updates::UpdateFault;
 use documents::Document;
 use entry_maps::Entry;
@@ -70,9 +70,7 @@ fn written(
         }),
         Err(UpdateFault::NoMemory) => Err(NoMemory),
         Err(fault) => Ok(Verdict::Ends {
-            ending: Ending::Ended {
-                outcome: Outcome::BadUpdate { fault },
-            },
+            outcome: Outcome::BadUpdate { fault },
         }),
     }
 }
@@ -89,9 +87,7 @@ fn goes_on(
     match stamp {
         Some(stamp) => written(alloc, operation, stamp, seen),
         None => Ok(Verdict::Ends {
-            ending: Ending::Ended {
-                outcome: shown(seen),
-            },
+            outcome: shown(seen),
         }),
     }
 }
@@ -115,7 +111,5 @@ pub fn judged(
             seen: stamp_in(seen),
         },
     };
-    Ok(Verdict::Ends {
-        ending: Ending::Ended { outcome },
-    })
+    Ok(Verdict::Ends { outcome })
 }

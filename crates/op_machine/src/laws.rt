@@ -4,11 +4,11 @@ ghost use Rattle.std.specs.Prelude.{◌≡◌, ◌<◌, ◌≤◌, ℕ, Bool, tr
 ghost use Rattle.op_machine.specs.Nodes.{first_node, count_nodes};
 ghost use Rattle.op_machine.specs.Lists.{Told, answers_in, IsTally};
 ghost use Rattle.op_machine.specs.declared.tally.Tally.{Tally};
-ghost use Rattle.op_machine.specs.Outcomes.{Next, answers_of, message_in, ending_in};
+ghost use Rattle.op_machine.specs.Outcomes.{Next, answers_of, message_in, outcome_in};
 
 /// An operation either asks a node or is over.
-pub fn a_message_or_the_ending()
-    ensures { (next : Next) → is_some (message_in next) ≡ not (is_some (ending_in next)) }
+pub fn a_message_or_the_outcome()
+    ensures { (next : Next) → is_some (message_in next) ≡ not (is_some (outcome_in next)) }
 {}
 
 /// The first node is the least that passes the test, and there is none exactly where no node passes; as

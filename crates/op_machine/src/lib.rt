@@ -2,7 +2,7 @@
 //!
 //! A contract sees an `OpMachine` as a `Standing`: the plan of the operation, and what was answered so far
 //! to its Reads and to its Stores. `specs/Outcomes.antt` says what comes next (`next_of`): a message to
-//! one more recipient, or the ending. The machine neither waits nor prints; whoever drives it hands each
+//! one more recipient, or the outcome. The machine neither waits nor prints; whoever drives it hands each
 //! message over and tells what was answered, or that nothing was.
 //!
 //! ```text
@@ -10,20 +10,20 @@
 //! while let Some(message) = machine.send(alloc)? {
 //!     machine.answer(alloc, message.receiver, reply.as_ref())?;
 //! }
-//! machine.outcome()                   // Some(Ending::Ended { outcome: Outcome::Acked { stamp } })
+//! machine.outcome()                   // Some(Outcome::Acked { stamp })
 //! ```
 #![tactic(auto)]
 
 pub mod counting;
-pub mod ending;
 pub mod judging;
 pub mod laws;
 pub mod machine;
 pub mod plan;
 pub mod settling;
 pub mod tally;
+pub mod verdict;
 
-pub use ending::{Ending, Verdict};
 pub use machine::{OpMachine, Standing};
 pub use plan::Plan;
 pub use tally::Tally;
+pub use verdict::Verdict;

@@ -1,15 +1,14 @@
 ghost use Rattle.std.specs.Prelude.{◌≡◌, ◌<◌, None, IfOk, OnOk, OnErr};
 ghost use Rattle.std.specs.Option.{option_copied};
-ghost use Rattle.op_machine.specs.Outcomes.{answers_of, reader, message_in, ending_in};
+ghost use Rattle.op_machine.specs.Outcomes.{answers_of, reader, message_in, outcome_in};
 ghost use Rattle.op_machine.specs.Plans.{IsPlan, plan_of};
 ghost use Rattle.op_machine.specs.Telling.{IsTold};
 ghost use Rattle.op_machine.specs.Standings.{next_at, IsBegun, IsAsked, MayAnswer, IsAnswered};
 
-use crate::ending::Ending;
 use crate::plan::Plan;
 use crate::settling::Settled;
 use crate::tally::Tally;
-use messages::{Message, Operation, Origin, Reply};
+use messages::{Message, Operation, Origin, Outcome, Reply};
 use node_sets::NodeSet;
 use stamps::Stamp;
 use std::alloc::Global;
@@ -77,16 +76,16 @@ impl OpMachine {
             },
             settled: Settled {
                 entry: None,
-                ending: None,
+                outcome: None,
             },
         }
     }
 
-    /// The ending, once there is no message to be sent or answered; takes no memory.
-    pub fn outcome(&self) -> Option<&Ending>
-        ensures { option_copied result ≡ ending_in (next_at self.now) }
+    /// The outcome, once there is no message to be sent or answered; takes no memory.
+    pub fn outcome(&self) -> Option<&Outcome>
+        ensures { option_copied result ≡ outcome_in (next_at self.now) }
     {
-        self.settled.ending.as_ref()
+        self.settled.outcome.as_ref()
     }
 
     /// The next message, or none where none is left. The only error is want of memory; nothing changes.

@@ -4,20 +4,20 @@ ghost use Rattle.messages.specs.Noting.{message_of};
 ghost use Rattle.op_machine.specs.Outcomes.{answers_of, reader, verdict, read_body, store_message};
 ghost use Rattle.op_machine.specs.Standings.{due_entry, IsDue, IsSettled};
 
-use crate::ending::{Ending, Verdict};
 use crate::judging::judged;
 use crate::plan::{Plan, looks, read_body};
 use crate::tally::Tally;
+use crate::verdict::Verdict;
 use entry_maps::Entry;
-use messages::{Body, Message};
+use messages::{Body, Message, Outcome};
 use std::alloc::Global;
 use value_lists::{NoMemory, TryCopy};
 
-/// What follows from what was told: the entry that is to be stored, and the ending.
+/// What follows from what was told: the entry that is to be stored, and the outcome.
 #[derive(Drop)]
 pub struct Settled {
     pub entry: Option<Entry>,
-    pub ending: Option<Ending>,
+    pub outcome: Option<Outcome>,
 }
 
 impl Plan {
@@ -42,7 +42,7 @@ impl Plan {
             judged(alloc, &self.operation, self.stamp, reads.seen.as_ref())
         } else {
             Ok(Verdict::Ends {
-                ending: self.too_few(reads),
+                outcome: self.too_few(reads),
             })
         }
     }
@@ -79,15 +79,15 @@ impl Plan {
         ensures { IfOk result (IsSettled self.now (answers_of reads.now) (answers_of stores.now)) }
     {
         match self.known_verdict(alloc, reads, known)? {
-            Verdict::Ends { ending } => Ok(Settled {
+            Verdict::Ends { outcome } => Ok(Settled {
                 entry: None,
-                ending: Some(ending),
+                outcome: Some(outcome),
             }),
             Verdict::Writes { entry } => {
-                let ending = self.stored_ending(stores, entry.stamp);
+                let outcome = self.stored_outcome(stores, entry.stamp);
                 Ok(Settled {
                     entry: Some(entry),
-                    ending,
+                    outcome,
                 })
             }
         }
@@ -108,7 +108,7 @@ impl Plan {
         match self.reader(reads) {
             Some(_) => Ok(Settled {
                 entry: None,
-                ending: None,
+                outcome: None,
             }),
             None => self.settle_over(alloc, reads, stores, known),
         }

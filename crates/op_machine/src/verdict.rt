@@ -1,0 +1,11 @@
+use entry_maps::Entry;
+use messages::Outcome;
+
+/// What an operation comes to by what it saw.
+#[derive(Debug, Drop)]
+pub enum Verdict {
+    /// It is over.
+    Ends { outcome: Outcome },
+    /// It goes ahead, and this entry is to be stored.
+    Writes { entry: Entry },
+}
