@@ -94,6 +94,18 @@ module _ (n : Node) where
   by-serial (body.Ready b) = omega arith
   by-serial (body.Activate b) = omega arith
 
+  -- a body draws one serial at most
+  pub by-one : (x : Body) → (after_body x n).serial ≤ n.serial + 1
+  by-one body.Ask = omega arith
+  by-one (body.Read b only) = omega arith
+  by-one (body.Store e) = omega arith
+  by-one (body.Apply b es) = omega arith
+  by-one (body.Delete b s) = omega arith
+  by-one (body.Split b) = omega arith
+  by-one (body.Join b) = omega arith
+  by-one (body.Ready b) = omega arith
+  by-one (body.Activate b) = omega arith
+
 -- ---- a node that takes a version
 
 abbrev grown : ℕ → Node → Node

@@ -28,12 +28,12 @@ use Rattle.lane_journals.specs.Meanings.{entry_at, names, meaning_reply, content
 use Rattle.lane_journals.specs.declared.event.LaneEvent.{LaneEvent}
 use Rattle.lane_journals.specs.declared.event.LaneEvent.TheVariants.{Wrote, Delivered}
 use Rattle.lane_journals.proofs.Basics.{or_else-some}
-use Rattle.node_journals.specs.NodeKeeping.{adopted_regions, activated_regions, regions, read_by, was_read, stamp_of, AreWritten, shape, SerialsAre, NodeKeeps}
+use Rattle.node_journals.specs.NodeKeeping.{adopted_regions, activated_regions, regions, read_by, was_read, accepts, stamp_of, AreWritten, shape, SerialsAre, NodeKeeps}
 use Rattle.node_journals.specs.Flights.{meant, Brings, NamesBucket}
 use Rattle.node_journals.specs.Replaying.{IsNoDelivery}
 use Rattle.node_journals.proofs.Words.{names-is}
 use Rattle.node_journals.proofs.Lists.{any-filtered}
-use Rattle.node_journals.proofs.Bodies.{entries_by, pieces_by, by-version, by-entries, by-pieces, by-regions, by-serial, adopt-entries, adopt-pieces, adopt-serial, adopt-regions, adopt-version}
+use Rattle.node_journals.proofs.Bodies.{entries_by, pieces_by, by-version, by-entries, by-pieces, by-regions, by-serial, by-one, adopt-entries, adopt-pieces, adopt-serial, adopt-regions, adopt-version}
 use Rattle.node_journals.proofs.Shapes.{after-alike, shapes-after}
 use Rattle.node_journals.proofs.Standing.{touches, still-is, untouched-is, read_by-is, there-low, gone, kept}
 use Rattle.node_journals.proofs.Stamping.{stamps-after, written-after}
@@ -49,6 +49,7 @@ begins n = record {
   regions_are = refl;
   serials = record { low = λ b s e. absurd (true≢false (sym e)); there = λ b s e. absurd (true≢false (sym e)) };
   read_serials = record { low = λ b s e. absurd (true≢false (sym e)); there = λ b s e. absurd (true≢false (sym e)) };
+  few = omega arith;
   valid = record { holding = record { laid = tt; up_to = tt }; held = λ id e g. let none = sym (get-empty id_cmp id) ∙ g in cc };
 }
 
@@ -62,6 +63,7 @@ waits J (Wrote l entry) n x i h = record {
   regions_are = h.regions_are;
   serials = h.serials;
   read_serials = h.read_serials;
+  few = h.few;
   valid = h.valid;
 }
 waits J _ n x i h = h
@@ -75,6 +77,7 @@ record Unmoved (J K : Journal) (n : ℕ) : Type 0 where
   standing : (b : Bucket) (s : ℕ) → stands n b s K ≡ stands n b s J
   shown : (b : Bucket) (s : ℕ) → was_read n b s K ≡ was_read n b s J
   open_to : (b : Bucket) (s : ℕ) → acceptable n b s K ≡ acceptable n b s J
+  many : accepts n K ≡ accepts n J
 
 stored_is : (x y : Node) → y.entries ≡ x.entries → y.pieces ≡ x.pieces → y.serial ≡ x.serial → stored x ≡ stored y
 stored_is x y e p s = let is : ◌≡◌ {A = Replica} (stored y) (stored x) = λ i. record { entries = e i; pieces = p i; serial = s i } in sym is
@@ -97,6 +100,7 @@ keeps-unmoved J k r n x y h u v g e p l = record {
   regions_are = g;
   serials = moved _ _ _ _ x.pieces y.pieces x.serial y.serial h.serials u.named u.standing p l;
   read_serials = moved _ _ _ _ x.pieces y.pieces x.serial y.serial h.read_serials u.shown u.open_to p l;
+  few = subst (λ t. t ≤ accepts n (history (Delivered k r ∷ J))) (sym l) (subst (λ t. x.serial ≤ t) (sym u.many) h.few);
   valid = subst IsReplica (stored_is x y e p l) h.valid;
 }
 
@@ -104,11 +108,11 @@ keeps-unmoved J k r n x y h u v g e p l = record {
 
 module _ (H : Journal) (k n : ℕ) (m : Message) (was_sent : sent k H ≡ Some m) (other : eqb m.receiver n ≡ false) where
   apart-unmoved : (r : plain.Reply) → Unmoved H (plain.Delivered k r ∷ H) n
-  apart-unmoved (plain.Answer x t) = record { stores = λ id. rw (was_sent, other) refl; shapes = rw (was_sent, other) refl; named = λ b s. rw (was_sent, other) refl; standing = λ b s. rw (was_sent, other) refl; shown = λ b s. rw (was_sent, other) refl; open_to = λ b s. rw (was_sent, other) refl }
-  apart-unmoved (plain.Newer w) = record { stores = λ id. refl; shapes = refl; named = λ b s. refl; standing = λ b s. refl; shown = λ b s. refl; open_to = λ b s. refl }
-  apart-unmoved plain.NoBucket = record { stores = λ id. refl; shapes = refl; named = λ b s. refl; standing = λ b s. refl; shown = λ b s. refl; open_to = λ b s. refl }
-  apart-unmoved plain.Differs = record { stores = λ id. refl; shapes = refl; named = λ b s. refl; standing = λ b s. refl; shown = λ b s. refl; open_to = λ b s. refl }
-  apart-unmoved plain.NoMemory = record { stores = λ id. refl; shapes = refl; named = λ b s. refl; standing = λ b s. refl; shown = λ b s. refl; open_to = λ b s. refl }
+  apart-unmoved (plain.Answer x t) = record { stores = λ id. rw (was_sent, other) refl; shapes = rw (was_sent, other) refl; named = λ b s. rw (was_sent, other) refl; standing = λ b s. rw (was_sent, other) refl; shown = λ b s. rw (was_sent, other) refl; open_to = λ b s. rw (was_sent, other) refl; many = rw (was_sent, other) refl }
+  apart-unmoved (plain.Newer w) = record { stores = λ id. refl; shapes = refl; named = λ b s. refl; standing = λ b s. refl; shown = λ b s. refl; open_to = λ b s. refl; many = refl }
+  apart-unmoved plain.NoBucket = record { stores = λ id. refl; shapes = refl; named = λ b s. refl; standing = λ b s. refl; shown = λ b s. refl; open_to = λ b s. refl; many = refl }
+  apart-unmoved plain.Differs = record { stores = λ id. refl; shapes = refl; named = λ b s. refl; standing = λ b s. refl; shown = λ b s. refl; open_to = λ b s. refl; many = refl }
+  apart-unmoved plain.NoMemory = record { stores = λ id. refl; shapes = refl; named = λ b s. refl; standing = λ b s. refl; shown = λ b s. refl; open_to = λ b s. refl; many = refl }
 
   apart-version : (r : plain.Reply) → version n (plain.Delivered k r ∷ H) ≡ version n H
   apart-version r = rw (was_sent, other) refl
@@ -138,10 +142,10 @@ IsRefusal _ = Unit {0}
 
 refused-unmoved : (J : List LaneEvent) (k n : ℕ) (r : NotedReply) → IsRefusal r → Unmoved (history J) (history (Delivered k r ∷ J)) n
 refused-unmoved J k n (noted.Answer ps ss) i = absurd i
-refused-unmoved J k n (noted.Newer w) i = record { stores = λ id. refl; shapes = refl; named = λ b s. refl; standing = λ b s. refl; shown = λ b s. refl; open_to = λ b s. refl }
-refused-unmoved J k n noted.NoBucket i = record { stores = λ id. refl; shapes = refl; named = λ b s. refl; standing = λ b s. refl; shown = λ b s. refl; open_to = λ b s. refl }
-refused-unmoved J k n noted.Differs i = record { stores = λ id. refl; shapes = refl; named = λ b s. refl; standing = λ b s. refl; shown = λ b s. refl; open_to = λ b s. refl }
-refused-unmoved J k n noted.NoMemory i = record { stores = λ id. refl; shapes = refl; named = λ b s. refl; standing = λ b s. refl; shown = λ b s. refl; open_to = λ b s. refl }
+refused-unmoved J k n (noted.Newer w) i = record { stores = λ id. refl; shapes = refl; named = λ b s. refl; standing = λ b s. refl; shown = λ b s. refl; open_to = λ b s. refl; many = refl }
+refused-unmoved J k n noted.NoBucket i = record { stores = λ id. refl; shapes = refl; named = λ b s. refl; standing = λ b s. refl; shown = λ b s. refl; open_to = λ b s. refl; many = refl }
+refused-unmoved J k n noted.Differs i = record { stores = λ id. refl; shapes = refl; named = λ b s. refl; standing = λ b s. refl; shown = λ b s. refl; open_to = λ b s. refl; many = refl }
+refused-unmoved J k n noted.NoMemory i = record { stores = λ id. refl; shapes = refl; named = λ b s. refl; standing = λ b s. refl; shown = λ b s. refl; open_to = λ b s. refl; many = refl }
 
 -- what readers read of the receiver
 module _ (H : Journal) (k : ℕ) (m : Message) (was_sent : sent k H ≡ Some m) where
@@ -175,6 +179,9 @@ module _ (H : Journal) (k : ℕ) (m : Message) (was_sent : sent k H ≡ Some m) 
 
     own-read : (b : Bucket) (s : ℕ) → was_read m.receiver b s (given ∷ H) ≡ read_by m.body nm b s (was_read m.receiver b s H)
     own-read b s = rw (was_sent, here) refl
+
+    own-many : accepts m.receiver (given ∷ H) ≡ accepts m.receiver H + 1
+    own-many = rw (was_sent, here) refl
 
     own-open : (b : Bucket) (s : ℕ) → acceptable m.receiver b s (given ∷ H) ≡ still m.body nm b s (acceptable m.receiver b s H)
     own-open b s = rw (was_sent, here) refl
@@ -331,6 +338,14 @@ module _ (laws : AreRuns) (J : List LaneEvent) (k : ℕ) (m : Message) (was_sent
       (λ b s e. sym (names-is shows b s) ∙ both_so (is_read (meant B)) (names shows b s) e)
       (λ b s. read-own b s ∙ read_by-is (meant B) (names shows) b s (was_read at b s H)) (λ b s. open-own b s ∙ still-is (meant B) (names shows) b s (acceptable at b s H)))
 
+  few-new : new.serial ≤ accepts at K
+  few-new =
+      let drawn : new.serial ≤ (adopt m.version x).serial + 1 = by-one (adopt m.version x) B in
+      let was : (adopt m.version x).serial ≡ x.serial = adopt-serial m.version x in
+      let many : accepts at K ≡ accepts at H + 1 = own-many H k m was_sent shown (names shows) in
+      let few : x.serial ≤ accepts at H = h.few in
+      omega (arith, drawn, was, many, few)
+
   pub answered : IsReplica (stored new) → NodeKeeps (Delivered k reply ∷ J) at new
   answered valid = record {
     version_is = by-version (adopt m.version x) B ∙ adopt-version-here J k m was_sent x h reply le;
@@ -343,5 +358,6 @@ module _ (laws : AreRuns) (J : List LaneEvent) (k : ℕ) (m : Message) (was_sent
     regions_are = by-regions (adopt m.version x) B ∙ ap (activated_regions (meant B)) (adopt-regions-here J k m was_sent x h) ∙ sym regions-own;
     serials = serials-new;
     read_serials = read-serials-new;
+    few = few-new;
     valid = valid;
   }

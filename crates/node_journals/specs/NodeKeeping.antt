@@ -1,6 +1,6 @@
 -- That a node is what the journal of its lane says: a record over what readers read, so that an event which the
 -- readers pass over leaves it as it is.
-use Rattle.std.specs.Prelude.{◌≡◌, ◌≤◌, ◌==◌, ℕ, Bool, true, false, nat_lt, List, [], ◌∷◌, map, Option, None, Some, if◌then◌else◌}
+use Rattle.std.specs.Prelude.{◌≡◌, ◌≤◌, ◌+◌, ◌==◌, ℕ, Bool, true, false, nat_lt, List, [], ◌∷◌, map, Option, None, Some, if◌then◌else◌}
 use Rattle.std.specs.List.{list_any}
 use Rattle.std.specs.FinMap as fin
 use Rattle.entry_maps.specs.declared.entry.Entry.{Entry}
@@ -17,7 +17,7 @@ use Rattle.lane_journals.specs.Pieces.{NodePiece, pieces}
 use Rattle.lane_journals.specs.Meanings.{entry_at, history}
 use Rattle.lane_journals.specs.declared.event.LaneEvent.{LaneEvent}
 
--- ---- two more readers
+-- ---- three more readers
 
 -- the regions of a node whose version is v, after a message came: a greater version drops them
 abbrev pub adopted_regions : ℕ → ℕ → Option Message → List Bucket → List Bucket
@@ -51,6 +51,16 @@ was_read n b s [] = false
 was_read n b s (Delivered k r ∷ J) = read_after n b s r (sent k J) (was_read n b s J)
 was_read n b s (_ ∷ J) = was_read n b s J
 
+abbrev pub accepts_after : ℕ → Reply → Option Message → ℕ → ℕ
+accepts_after n (Answer x names) (Some m) old = if m.receiver == n then old + 1 else old
+accepts_after n _ _ old = old
+
+-- how many messages the node accepted
+abbrev pub accepts : ℕ → Journal → ℕ
+accepts n [] = 0
+accepts n (Delivered k r ∷ J) = accepts_after n r (sent k J) (accepts n J)
+accepts n (_ ∷ J) = accepts n J
+
 -- ---- entries and pieces
 
 -- the stamp of an entry that may be there
@@ -78,7 +88,7 @@ pub record SerialsAre (was stand : Bucket → ℕ → Bool) (ps : List Piece) (l
 -- ---- a node
 
 -- a node has a version, of each document a stamp, just the entries that were written with these, pieces and regions
-pub record IsNodeOf (v : ℕ) (held : Id → Option Stamp) (wrote : Stamp → Option Entry) (ps : List NodePiece) (rs : List Bucket) (was stand was_shown stand_shown : Bucket → ℕ → Bool) (x : Node) : Type 0 where
+pub record IsNodeOf (v : ℕ) (held : Id → Option Stamp) (wrote : Stamp → Option Entry) (ps : List NodePiece) (rs : List Bucket) (was stand was_shown stand_shown : Bucket → ℕ → Bool) (many : ℕ) (x : Node) : Type 0 where
   pub version_is : x.version ≡ v
   pub stamps_are : (id : Id) → stamp_of (fin.get x.entries id) ≡ held id
   pub entries_are : AreWritten wrote x.entries
@@ -87,9 +97,11 @@ pub record IsNodeOf (v : ℕ) (held : Id → Option Stamp) (wrote : Stamp → Op
   -- a serial that an answer of any kind named, and one that the Read of a bucket showed
   pub serials : SerialsAre was stand x.pieces x.serial
   pub read_serials : SerialsAre was_shown stand_shown x.pieces x.serial
+  -- each accepted message draws one serial at most
+  pub few : x.serial ≤ many
   pub valid : IsReplica (stored x)
 
 -- the node is what the journal says of the node with this number
 abbrev pub NodeKeeps : List LaneEvent → ℕ → Node → Type 0
 NodeKeeps J n x = IsNodeOf (version n (history J)) (λ id. store n id (history J)) (λ s. entry_at s J) (pieces n (history J)) (regions n (history J))
-    (λ b s. was_named n b s (history J)) (λ b s. stands n b s (history J)) (λ b s. was_read n b s (history J)) (λ b s. acceptable n b s (history J)) x
+    (λ b s. was_named n b s (history J)) (λ b s. stands n b s (history J)) (λ b s. was_read n b s (history J)) (λ b s. acceptable n b s (history J)) (accepts n (history J)) x

@@ -1,6 +1,6 @@
 //! Laws of nodes and journals; no function here does anything.
 
-ghost use Rattle.std.specs.Prelude.{◌≡◌, ◌≢◌, ◌↔◌, ◌==◌, ◌||◌, ℕ, Bool, true, false, List, [], ◌∷◌, Option, Some};
+ghost use Rattle.std.specs.Prelude.{◌≡◌, ◌≢◌, ◌↔◌, ◌==◌, ◌||◌, ◌≤◌, ℕ, length, Bool, true, false, List, [], ◌∷◌, Option, Some};
 ghost use Rattle.std.specs.FinMap as fin;
 ghost use Rattle.std.specs.List.{list_any};
 ghost use Rattle.bucket_ids.specs.Buckets.{has_key};
@@ -73,12 +73,14 @@ pub fn nodes_replay()
 }
 
 /// In the words of the journal: a node has a piece over just the keys that it holds, and its regions are over
-/// just the keys of the Activates that it accepted at its version.
+/// just the keys of the Activates that it accepted at its version. It drew no more serials than there are
+/// events, so a lane knows that the next one finds room.
 pub fn nodes_hold()
     ensures keys { (S : Setting) (J : List LaneEvent) (n : ℕ) (x : Node) → IsLegal S J → NodeKeeps J n x
         → (key : ℕ) → holds n key (history J) ≡ laid.holds key x.pieces }
     ensures regions { (S : Setting) (J : List LaneEvent) (n : ℕ) (x : Node) → IsLegal S J → NodeKeeps J n x
         → (key : ℕ) → (list_any (λ b. has_key b key) x.regions ≡ true) ↔ InRegion x.version n key (history J) }
+    ensures serials { (J : List LaneEvent) (n : ℕ) (x : Node) → NodeKeeps J n x → x.serial ≤ length J }
 {
     runs_are_known();
 }
