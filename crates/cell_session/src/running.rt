@@ -122,14 +122,7 @@ fn run_lines<S: Source, K: Sink>(
     };
     let mut line = Vec::new(alloc);
     loop {
-        let step = next_command(
-            alloc,
-            schema,
-            setting.bits,
-            &mut reader,
-            source,
-            &mut line,
-        );
+        let step = next_command(alloc, schema, setting.bits, &mut reader, source, &mut line);
         let (number, command) = match step {
             Step::Command { number, command } => (number, command),
             Step::Over { status } => return status,

@@ -67,12 +67,12 @@ bad_update_text line fault.NoMemory = result_text line (codes "nomemory")
 unfoldable pub too_few_text : ℕ → ℕ → ℕ → ℕ → List ℕ
 too_few_text line answered needed absent =
     line_text (member (codes "absent") (number (unsigned absent)) (member (codes "answered") (number (unsigned answered))
-        (member (codes "line") (number (unsigned line)) (member (codes "needed") (number (unsigned needed)) (member (codes "result") (string (codes "toofew")) no_members)))))
+    (member (codes "line") (number (unsigned line)) (member (codes "needed") (number (unsigned needed)) (member (codes "result") (string (codes "toofew")) no_members)))))
 
 unfoldable pub owned_elsewhere_text : ℕ → ℕ → ℕ → List ℕ
 owned_elsewhere_text line owner version =
     line_text (member (codes "line") (number (unsigned line)) (member (codes "owner") (number (unsigned owner))
-        (member (codes "result") (string (codes "notowner")) (member (codes "version") (number (unsigned version)) no_members))))
+    (member (codes "result") (string (codes "notowner")) (member (codes "version") (number (unsigned version)) no_members))))
 
 -- the word of a cause
 abbrev pub cause_text : Cause → List ℕ
