@@ -1,5 +1,6 @@
 ghost use Rattle.std.specs.Prelude.{◌<◌, ◌≤◌, IfOk};
 ghost use Rattle.service_layer.specs.Takes.{IsInside};
+ghost use Rattle.replica_store.specs.Replicas.{LieIn};
 
 use crate::conversation::take;
 use crate::reading::read_entries;
@@ -7,9 +8,9 @@ use anyhow::{Result, anyhow};
 use bucket_ids::Bucket;
 use document_ids::DocId;
 use documents::Document;
-use entry_maps::Entry;
-use messages::Body;
-use service_layer::NodePart;
+use entry_maps::{Entry, EntryMap};
+use messages::{Body, Reply};
+use service_layer::{NodePart, Taken};
 use stamps::Stamp;
 use std::alloc::Global;
 use value_lists::TryCopy;
@@ -105,6 +106,33 @@ fn join_all(node: &mut NodePart, bits: u8) -> Result<u64>
     Ok(parts)
 }
 
+/// The entries that a node shows of a bucket.
+fn shown(node: &mut NodePart, bucket: Bucket) -> Result<EntryMap>
+    ensures { IfOk result (LieIn bucket) }
+{
+    let Taken { reply, noted: _ } = take(node, 1, Body::Read { bucket, only: None })?;
+    match reply {
+        Reply::Answer { pieces: _, entries } => Ok(entries.within(bucket)?),
+        _ => Err(anyhow!("no answer")),
+    }
+}
+
+/// Reads each part, and applies to it what it shows where `again`.
+fn read_all(node: &mut NodePart, bits: u8, again: bool) -> Result<u64>
+    requires some { 1 ≤ bits }
+    requires few { bits < 16 }
+{
+    let parts = 1u64 << bits;
+    for low in 0..parts {
+        let bucket = Bucket::new(bits, low);
+        let entries = shown(node, bucket)?;
+        if again {
+            take(node, 1, Body::Apply { bucket, entries })?;
+        }
+    }
+    Ok(parts)
+}
+
 /// Does a kind of work with so many entries, and says how many messages of it were taken.
 pub fn work(alloc: Global, kind: &str, count: u32) -> Result<u64> {
     let mut node = whole(alloc)?;
@@ -117,6 +145,14 @@ pub fn work(alloc: Global, kind: &str, count: u32) -> Result<u64> {
         "joins" => {
             split_all(&mut node, bits)?;
             join_all(&mut node, bits - 1)
+        }
+        "reads" => {
+            split_all(&mut node, bits)?;
+            read_all(&mut node, bits, false)
+        }
+        "applies" => {
+            split_all(&mut node, bits)?;
+            read_all(&mut node, bits, true)
         }
         _ => Err(anyhow!("no such work")),
     }

@@ -1,4 +1,4 @@
-use Rattle.std.proofs.Common.{◌≡◌, sym, subst}
+use Rattle.std.proofs.Common.{sym, subst}
 use Rattle.replica_store.specs.Replicas.{LieIn}
 use Rattle.node_tables.proofs.Inside.{lie_in}
 use Rattle.node_tables.proofs.reading.read_entries.Goals as goal
