@@ -1,4 +1,5 @@
-ghost use Rattle.std.specs.Prelude.{◌≡◌, IfOk, option_map};
+ghost use Rattle.std.specs.Prelude.{◌≡◌, IfOk, IsTrue, Option, None, option_map};
+ghost use Rattle.entry_maps.specs.declared.entry.Entry.{Entry};
 ghost use Rattle.std.specs.Option.{option_copied};
 ghost use Rattle.messages.specs.Meaning.{effect};
 ghost use Rattle.cell_session.specs.Deeds.{document_in, stamp_in, body_outcome, seen_outcome, deed_by, write_deed, deed_of, IsFit};
@@ -94,6 +95,21 @@ fn write_deed(alloc: Global, operation: &Operation, seen: Option<&Entry>) -> Res
                 seen: stamp_in(seen),
             },
         }),
+    }
+}
+
+/// Whether an operation does the same whatever it sees, as a put and a remove without a condition do; takes
+/// no memory.
+pub fn is_blind(operation: &Operation) -> bool
+    ensures same { IsTrue result → (seen : Option Entry) → deed_of operation.now seen ≡ deed_of operation.now None }
+    ensures fits { IsTrue result → (seen : Option Entry) → IsFit seen (deed_of operation.now None) }
+{
+    if operation.condition.is_some() {
+        return false;
+    }
+    match &operation.kind {
+        OpKind::Put(_) | OpKind::Remove => true,
+        OpKind::Update(_) | OpKind::Get => false,
     }
 }
 

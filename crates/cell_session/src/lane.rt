@@ -11,7 +11,7 @@ ghost use Rattle.cell_session.specs.LineEvents.{next_stamp};
 ghost use Rattle.cell_session.specs.Steps.{after_deed, after_operation, ending_of};
 ghost use Rattle.cell_session.specs.declared.deed.Deed.TheVariants as deed;
 
-use crate::deed::{Deed, deed_of};
+use crate::deed::{Deed, deed_of, is_blind};
 use crate::events::{append_draw, append_read, append_write, write_events};
 use crate::setting::Setting;
 use document_ids::DocId;
@@ -117,6 +117,10 @@ impl Lane {
             × (ending ≡ ending_of setting operation.now self.old)) }
         ensures err { OnErr result (self.new ≡ self.old) }
     {
+        if is_blind(operation) {
+            let deed = deed_of(alloc, operation, None)?;
+            return self.carry_out(alloc, setting, line, key, &operation.id, deed);
+        }
         let deed = deed_of(alloc, operation, self.entry_at(key, &operation.id))?;
         self.carry_out(alloc, setting, line, key, &operation.id, deed)
     }
