@@ -1,0 +1,37 @@
+use anyhow::Result;
+use carriers::{Carrier, Carriers, Fate, PerfectCarriers, PlanCarriers};
+use std::alloc::Global;
+
+/// A fate in words.
+fn told(alloc: Global, fate: Fate) -> Result<String> {
+    Ok(match fate {
+        Fate::Deliver => String::from_str(alloc, "deliver, ")?,
+        Fate::LoseRequest => String::from_str(alloc, "lose request, ")?,
+        Fate::LoseReply => String::from_str(alloc, "lose reply, ")?,
+        Fate::Twice => String::from_str(alloc, "twice, ")?,
+        Fate::Late(by) => format!(in alloc; "late {by}, ")?,
+    })
+}
+
+/// What a carrier with plans gives where fates are planned before the first message and before the third.
+pub fn planned(alloc: Global) -> Result<String> {
+    let mut carrier = PlanCarriers.make(alloc, 0)?;
+    let first = carrier.plan(&[Fate::LoseReply, Fate::Deliver, Fate::Twice])?;
+    let mut log = format!(in alloc; "planned {first}: ")?;
+    log.push_str(&told(alloc, carrier.fate(1))?)?;
+    log.push_str(&told(alloc, carrier.fate(2))?)?;
+    let second = carrier.plan(&[Fate::Late(2)])?;
+    log.push_str(&told(alloc, carrier.fate(3))?)?;
+    log.push_str(&told(alloc, carrier.fate(4))?)?;
+    log.push_str(&told(alloc, carrier.fate(5))?)?;
+    log.push_str(&format!(in alloc; "{second}")?)?;
+    Ok(log)
+}
+
+/// What a perfect carrier gives, which takes no plans.
+pub fn perfect(alloc: Global) -> Result<String> {
+    let mut carrier = PerfectCarriers.make(alloc, 0)?;
+    let taken = carrier.plan(&[Fate::Twice])?;
+    let first = told(alloc, carrier.fate(1))?;
+    Ok(format!(in alloc; "planned {taken}: {first}")?)
+}

@@ -1,0 +1,18 @@
+//! One distributor's part told from outside, and carriers: prints what a part decides, step by step, where
+//! answers come or don't, and the fates that carriers give.
+#![tactic(auto)]
+
+mod fates;
+mod steps;
+
+use anyhow::Result;
+
+fn main(rt: HostRuntime) -> Result<()> {
+    let alloc = rt.alloc();
+    println!(rt; "{}", steps::opening(alloc)?)?;
+    println!(rt; "{}", steps::rounds(alloc)?)?;
+    println!(rt; "{}", steps::one_replica(alloc)?)?;
+    println!(rt; "{}", fates::planned(alloc)?)?;
+    println!(rt; "{}", fates::perfect(alloc)?)?;
+    Ok(())
+}
