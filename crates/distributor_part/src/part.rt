@@ -92,6 +92,34 @@ impl DistributorPart {
         self.stage = Stage::Before;
     }
 
+    /// The distributor's number.
+    pub fn number(&self) -> u8
+        ensures { result ≡ self.now.number }
+    {
+        self.number
+    }
+
+    /// The lane's bucket.
+    pub fn lane(&self) -> Bucket
+        ensures { result ≡ self.now.lane }
+    {
+        self.lane
+    }
+
+    /// The node whose reply is to be told before the next step, if one is.
+    pub fn awaited(&self) -> Option<u8>
+        ensures { result ≡ self.now.awaited }
+    {
+        self.awaited
+    }
+
+    /// How far the round of the job is.
+    pub fn stage(&self) -> Stage
+        ensures { result ≡ self.now.stage }
+    {
+        self.stage
+    }
+
     /// The state that was heard last, if one was.
     pub fn state(&self) -> Option<ClusterState>
         ensures { result ≡ self.now.state }
