@@ -1,0 +1,5 @@
+pub mod Acting
+pub mod Partitions
+pub mod Pushes
+pub mod Openings
+pub mod Asking
