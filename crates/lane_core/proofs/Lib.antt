@@ -3,3 +3,4 @@ pub mod Partitions
 pub mod Pushes
 pub mod Openings
 pub mod Asking
+pub mod LaneSteps

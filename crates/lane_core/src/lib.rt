@@ -8,14 +8,20 @@
 //! this over a publication, a state that is heard, an Ask that is sent, taken, answered or lost, and the
 //! opening. A node or a part that isn't there yet counts as a new one.
 //!
-//! There is no lane that runs here yet, and no law of operations and rounds.
+//! A `LaneState` is these fields, and its calls append events one by one: a publication, an Ask that is sent,
+//! and a delivery whose reply isn't returned. Hearing, returns and the opening are laws yet, without a call;
+//! late messages, operations and rounds aren't there.
 //!
 //! ```text
-//! lanes_begin();                          // the empty journal is kept
-//! states_are_kept();                      // Published { .. }, Heard { .. }
-//! asks_are_kept();                        // Sent { body: Ask, .. }, Delivered { .. }, Returned { .. }
-//! openings_are_kept();                    // Opened { .. }
+//! let mut lane = LaneState::new(alloc, bucket, rules);
+//! lane.room()?;
+//! lane.publish(&state);                   // Published { .. }
+//! lane.send(distributor, &message);       // Sent { body: Ask, .. }
+//! lane.deliver(number, &message);         // Delivered { .. }
 //! ```
 #![tactic(auto)]
 
+pub mod lane_state;
 pub mod laws;
+
+pub use lane_state::LaneState;

@@ -1,0 +1,150 @@
+ghost use Rattle.std.specs.Prelude.{◌≡◌, ◌≤◌, ◌<◌, ◌+◌, ◌-◌, ◌^◌, ◌∷◌, [], None, Some, OnOk, vec_len, vec_capacity};
+ghost use Rattle.cluster_states.specs.Publishing.{publish_fault};
+ghost use Rattle.messages.specs.declared.body.Body.TheVariants as body;
+ghost use Rattle.lane_journals.specs.Places.{told};
+ghost use Rattle.lane_journals.specs.KeptJournals.{past};
+ghost use Rattle.lane_journals.specs.declared.event.LaneEvent.TheVariants as event;
+ghost use Rattle.node_journals.specs.Flights.{IsInFlight};
+ghost use Rattle.node_journals.specs.Replaying.{sending};
+ghost use Rattle.lane_core.specs.LaneKeeping.{setting_of};
+ghost use Rattle.lane_core.specs.LaneStates.{journal_of, IsKept, Asks};
+ghost use Rattle.lane_core.specs.Asking.{IsJustSent};
+ghost use Rattle.lane_core.specs.Growing.{GrowsByDelivery};
+
+use crate::laws::{asks_are_kept, lanes_begin, states_are_kept};
+use bucket_ids::Bucket;
+use cluster_states::ClusterState;
+use distributor_part::{DistributorPart, Rules};
+use lane_journals::LaneEvent;
+use lane_journals::laws::states_are_published;
+use messages::{Message, NotedBody};
+use service_layer::NodePart;
+use std::alloc::Global;
+use value_lists::NoMemory;
+
+/// A lane's journal, and what it says: the state that was published last, the number of the last message,
+/// the nodes and the distributors' parts. A node or a part is made when it is first needed.
+#[derive(Drop)]
+pub struct LaneState {
+    pub lane: Bucket,
+    pub rules: Rules,
+    pub journal: Vec<LaneEvent>,
+    pub newest: Option<ClusterState>,
+    pub last: u64,
+    pub nodes: Vec<NodePart>,
+    pub parts: Vec<DistributorPart>,
+    pub alloc: Global,
+}
+
+/// Appends an event for which there is room.
+fn push_within(events: &mut Vec<LaneEvent>, event: LaneEvent)
+    requires { vec_len events.old + 1 ≤ vec_capacity events.old }
+    ensures past { past events.new.items ≡ event ∷ past events.old.items }
+    ensures len { vec_len events.new ≡ vec_len events.old + 1 }
+    ensures capacity { vec_capacity events.old ≤ vec_capacity events.new }
+{
+    match events.push(event) {
+        Ok(()) => {}
+        Err(_) => unreachable!(),
+    }
+}
+
+impl LaneState {
+    /// A lane in which nothing happened; takes no memory.
+    pub fn new(alloc: Global, lane: Bucket, rules: Rules) -> LaneState
+        ensures keeps { IsKept result }
+        ensures journal { journal_of result ≡ [] }
+    {
+        lanes_begin();
+        LaneState {
+            lane,
+            rules,
+            journal: Vec::new(alloc),
+            newest: None,
+            last: 0,
+            nodes: Vec::new(alloc),
+            parts: Vec::new(alloc),
+            alloc,
+        }
+    }
+
+    /// Makes room for one publication. The only error is want of memory.
+    pub fn room(&mut self) -> Result<(), NoMemory>
+        requires keeps { IsKept self.old }
+        ensures keeps { IsKept self.new }
+        ensures same { self.new.journal.items ≡ self.old.journal.items }
+        ensures after { self.new ≡ record self.old { journal = self.new.journal } }
+        ensures room { OnOk result (vec_len self.new.journal + 1 ≤ vec_capacity self.new.journal) }
+    {
+        self.journal.reserve(1)?;
+        Ok(())
+    }
+
+    /// Notes that a state is published.
+    pub fn publish(&mut self, state: &ClusterState)
+        requires keeps { IsKept self.old }
+        requires acks { 1 ≤ self.old.rules.acks }
+        requires accepted { publish_fault (told (setting_of self.old.lane self.old.rules) (journal_of self.old)) state.now
+            ≡ None }
+        requires room { vec_len self.old.journal + 1 ≤ vec_capacity self.old.journal }
+        ensures keeps { IsKept self.new }
+        ensures grows { journal_of self.new ≡ event.Published state.now ∷ journal_of self.old }
+        ensures after { self.new ≡ record self.old { journal = self.new.journal; newest = Some state.now } }
+    {
+        states_are_published();
+        states_are_kept();
+        // that it has at most 32 nodes is known once its version is read
+        let _version = state.version();
+        push_within(&mut self.journal, LaneEvent::Published { state: *state });
+        self.newest = Some(*state);
+    }
+
+    /// Notes that the Ask of a distributor is sent.
+    pub fn send(&mut self, distributor: u8, message: &Message)
+        requires keeps { IsKept self.old }
+        requires asks { Asks self.old distributor message.now }
+        requires few { self.old.last < 2 ^ 64 - 1 }
+        requires room { vec_len self.old.journal + 1 ≤ vec_capacity self.old.journal }
+        ensures keeps { IsKept self.new }
+        ensures grows { journal_of self.new ≡ sending (self.old.last + 1) message.now ∷ journal_of self.old }
+        ensures sent { IsJustSent (journal_of self.new) (self.old.last + 1) message.now }
+        ensures after { self.new ≡ record self.old { journal = self.new.journal; last = self.old.last + 1 } }
+        ensures len { vec_len self.new.journal ≡ vec_len self.old.journal + 1 }
+        ensures capacity { vec_capacity self.old.journal ≤ vec_capacity self.new.journal }
+    {
+        asks_are_kept();
+        self.last += 1;
+        push_within(
+            &mut self.journal,
+            LaneEvent::Sent {
+                number: self.last,
+                version: message.version,
+                sender: message.sender,
+                receiver: message.receiver,
+                body: NotedBody::Ask,
+            },
+        );
+    }
+
+    /// Delivers an Ask, and notes the reply, which isn't returned.
+    pub fn deliver(&mut self, number: u64, message: &Message)
+        requires keeps { IsKept self.old }
+        requires flight { IsInFlight (journal_of self.old) number message.now }
+        requires asks { message.now.body ≡ body.Ask }
+        requires there { message.now.receiver < vec_len self.old.nodes }
+        requires room { vec_len self.old.journal + 1 ≤ vec_capacity self.old.journal }
+        ensures keeps { IsKept self.new }
+        ensures grows { GrowsByDelivery number (journal_of self.old) (journal_of self.new) }
+        ensures after { self.new ≡ record self.old { journal = self.new.journal; nodes = self.new.nodes } }
+    {
+        asks_are_kept();
+        let taken = self.nodes[usize::from(message.receiver)].take(message);
+        push_within(
+            &mut self.journal,
+            LaneEvent::Delivered {
+                number,
+                reply: taken.noted,
+            },
+        );
+    }
+}
