@@ -16,6 +16,7 @@ pub mod Walking
 pub mod SerialsAgain
 pub mod LifeFacts
 pub mod LifeOne
+pub mod LifeWritten
 pub mod LifeTwo
 pub mod Wrong
 pub mod InLane

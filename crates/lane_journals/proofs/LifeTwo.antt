@@ -26,7 +26,7 @@ use Rattle.lane_journals.proofs.Order.{Le_refl}
 use Rattle.lane_journals.proofs.Ids.{same_id-refl}
 use Rattle.lane_journals.proofs.Walking.{EachSent, NumbersBelow, numbers, NotOf, unapplied, GoesTo, applied-to, NotLook, unasked, LinesDone, line-done, idle-done, EachReply, NotNamed, unnamed-yet, NamesOnly}
 use Rattle.lane_journals.proofs.LifeFacts.{some_same, same_read, two_2, one_first, has_one_0, enough_1, only_0, is_0, owns2, one_row, one_name, held_one, only_one, first_member, same_deleted, one_left, target-two, small_2, receive_one, shows_one}
-use Rattle.lane_journals.proofs.LifeOne.{a45, live_a45}
+use Rattle.lane_journals.proofs.LifeWritten.{a45, live_a45}
 
 module _ (id : Id) (inside : contains lane (key_of id) ≡ true) where
   abbrev base : List LaneEvent

@@ -21,7 +21,8 @@ use Rattle.lane_journals.proofs.Walking.{each-sent, EachSent, NumbersBelow, numb
 use Rattle.lane_journals.proofs.LifeFacts.{some_same, same_read, same_test, two_1, both_two, has_both_0, has_both_1, enough_3, only_0, is_0, nothing_joined}
 use Rattle.lane_journals.specs.WrongSteps.{IsRefused, opened_early, state_small, incomplete_read, activated_twice, acked_without_active, deleting_keeper}
 use Rattle.lane_journals.proofs.Counts.{AtLeast-some}
-use Rattle.lane_journals.proofs.LifeOne.{live_a5, live_a9, live_a23, live_a45}
+use Rattle.lane_journals.proofs.LifeOne.{live_a5, live_a9, live_a23}
+use Rattle.lane_journals.proofs.LifeWritten.{live_a45}
 use Rattle.lane_journals.proofs.Meant.{by-states}
 
 module _ (id : Id) (inside : contains lane (key_of id) ≡ true) where
