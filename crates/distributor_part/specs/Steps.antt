@@ -174,6 +174,11 @@ abbrev pub IsAfterAnswer : Part → Part → ℕ → Option Reply → Type 0
 IsAfterAnswer p q node (Some (reply.Answer pieces entries)) = TakesAnswer p q node pieces
 IsAfterAnswer p q node _ = q ≡ record p { awaited = None }
 
+-- the reply is an answer
+abbrev pub IsAnAnswer : Option Reply → Type 0
+IsAnAnswer (Some (reply.Answer pieces entries)) = Unit {0}
+IsAnAnswer _ = ⊥
+
 -- ---- rounds
 
 -- the node's answer to the Read was shown

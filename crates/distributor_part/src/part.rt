@@ -6,7 +6,7 @@ ghost use Rattle.cluster_states.specs.Publishing.{serves};
 ghost use Rattle.messages.specs.Noting.{message_of};
 ghost use Rattle.bucket_db.specs.Rows.{AreRows, buckets_of};
 ghost use Rattle.distributor_part.specs.Parts.{Part, new_part, version_of, origin_of, rows_of, IsOwning, Prepares, key_in};
-ghost use Rattle.distributor_part.specs.Steps.{IsStep, IsToOpen, IsUnopened, IsOpening, IsAfterAnswer, IsRunning, IsRoundOver, IsClosed, IsRowOf, without_end};
+ghost use Rattle.distributor_part.specs.Steps.{IsStep, IsToOpen, IsUnopened, IsOpening, IsAfterAnswer, IsAnAnswer, IsRunning, IsRoundOver, IsClosed, IsRowOf, without_end};
 
 use crate::opening::{add_buckets, buckets_of, lowest_of, silent, to_ask};
 use crate::rules::Rules;
@@ -321,11 +321,12 @@ impl DistributorPart {
     }
 
     /// Takes the reply of the node that was sent the last message, or that none came. The only error is
-    /// want of memory, and then nothing has changed.
+    /// want of memory, which only an answer takes, and then nothing has changed.
     pub fn answer(&mut self, node: u8, reply: Option<&Reply>) -> Result<(), NoMemory>
         requires { self.old.awaited ≡ Some node }
         ensures ok { OnOk result (IsAfterAnswer self.old self.new node (option_copied reply.entry)) }
         ensures err { OnErr result (self.new ≡ self.old) }
+        ensures free { OnErr result (IsAnAnswer (option_copied reply.entry)) }
     {
         if let Some(Reply::Answer { pieces, .. }) = reply {
             add_buckets(&mut self.shown, pieces.items())?;

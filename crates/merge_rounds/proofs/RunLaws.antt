@@ -1,5 +1,5 @@
 -- A round after some Reads has what the replies showed.
-use Rattle.std.proofs.Common.{◌≡◌, ◌==◌, ◌||◌, ℕ, ◌<◌, ◌+◌, Bool, true, false, nat_lt, List, [], ◌∷◌, ◌++◌, length, Option, Some, None, cond, refl, sym, ap, ap₂, ◌∙◌, subst, arith}
+use Rattle.std.proofs.Common.{◌≡◌, ◌==◌, ◌||◌, ℕ, ◌<◌, ◌+◌, Bool, true, false, nat_lt, List, [], ◌∷◌, Option, Some, None, cond, refl, sym, ap, ◌∙◌, subst, arith}
 use Rattle.std.specs.List.{list_any}
 use Rattle.std.proofs.lemmas.Bool.Decides.{nat_tests}
 use Rattle.std.proofs.lemmas.List.Folds.{list_any-append}
@@ -9,7 +9,7 @@ use Rattle.messages.specs.declared.reply.Reply.{Reply}
 use Rattle.messages.specs.declared.reply.Reply.TheVariants as reply
 use Rattle.messages.specs.declared.step.NodePieces.{NodePieces}
 use Rattle.merge_rounds.specs.Rounds.{RoundState, IsNth, IsRead, after_send, after_read, shown_after, shown_by, union_after, did_show, HaveAllShown, is_answer}
-use Rattle.merge_rounds.specs.Runs.{AreAsked, HasRead, shown_of, union_of}
+use Rattle.merge_rounds.specs.Runs.{HasRead, shown_of}
 
 reading : (a b : ℕ) → a < b → nat_lt a b ≡ true
 reading a b lt = grind (arith, nat_tests)

@@ -1,8 +1,8 @@
-ghost use Rattle.std.specs.Prelude.{◌≡◌, ◌==◌, ◌||◌, ◌&&◌, ℕ, ◌+◌, ◌<◌, Some, None, IfOk, OnOk, OnErr, IfSome, IfNone};
+ghost use Rattle.std.specs.Prelude.{◌≡◌, ◌==◌, ◌||◌, ◌&&◌, not, ℕ, ◌+◌, ◌<◌, true, Some, None, IfOk, OnOk, OnErr, IfSome, IfNone};
 ghost use Rattle.std.specs.Option.{option_copied};
 ghost use Rattle.node_sets.specs.Members.{has_node};
 ghost use Rattle.messages.specs.Noting.{message_of};
-ghost use Rattle.merge_rounds.specs.Rounds.{RoundState, new_round, IsNext, after_send, after_read, IsAfterApply, HaveAllShown, did_give, pieces_by};
+ghost use Rattle.merge_rounds.specs.Rounds.{RoundState, new_round, IsNext, after_send, after_read, IsAfterApply, HaveAllShown, did_show, did_give, pieces_by, is_answer};
 
 use crate::order::next_of;
 use crate::shown;
@@ -132,7 +132,7 @@ impl Round {
     }
 
     /// Takes the reply to the message that was sent last, or that none came; only `Answer` counts. The
-    /// only error is want of memory.
+    /// only error is want of memory, which only an answer to a Read takes.
     pub fn answer(&mut self, alloc: Global, node: u8, reply: Option<&Reply>) -> Result<(), NoMemory>
         requires asked { self.old.awaited ≡ Some node }
         requires node { node < 32 }
@@ -141,6 +141,8 @@ impl Round {
         ensures apply { 0 < self.old.applies
             → OnOk result (IsAfterApply self.old self.new node (option_copied reply.entry)) }
         ensures err { OnErr result (self.new ≡ self.old) }
+        ensures free { OnErr result (is_answer (option_copied reply.entry) ≡ true) }
+        ensures free_applies { OnErr result (self.old.applies ≡ 0) }
     {
         if self.applies > 0 {
             self.take_apply(node, shown::is_answer(reply));
@@ -182,6 +184,34 @@ impl Round {
         }
     }
 
+    /// What the answers to the Reads showed, in their order.
+    pub fn shown(&self) -> &[NodePieces]
+        ensures { result.now ≡ self.now.shown }
+    {
+        &self.shown
+    }
+
+    /// The row.
+    pub fn row(&self) -> Bucket
+        ensures { result ≡ self.now.row }
+    {
+        self.row
+    }
+
+    /// The receivers.
+    pub fn receivers(&self) -> NodeSet
+        ensures { result ≡ self.now.receivers }
+    {
+        self.receivers
+    }
+
+    /// Whether no Apply was sent yet.
+    pub fn is_reading(&self) -> bool
+        ensures { result ≡ (self.now.applies == 0) }
+    {
+        self.applies == 0
+    }
+
     /// The receivers that answered the Apply.
     pub fn holders(&self) -> NodeSet
         ensures { result ≡ self.now.holders }
@@ -194,6 +224,14 @@ impl Round {
         ensures { (node : ℕ) → node < 32 → has_node result node ≡ did_give node self.now.shown }
     {
         shown::givers(&self.shown)
+    }
+
+    /// The readers that haven't answered the Read.
+    pub fn silent(&self) -> NodeSet
+        ensures { (node : ℕ) → has_node result node
+            ≡ (has_node self.now.readers node && not (did_show node self.now.shown)) }
+    {
+        shown::silent(self.readers, &self.shown)
     }
 
     /// The pieces that a node's answer showed; none where it didn't answer.

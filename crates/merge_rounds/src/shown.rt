@@ -1,4 +1,4 @@
-ghost use Rattle.std.specs.Prelude.{◌≡◌, ℕ, ◌<◌, true, IsTrue, IsFalse, OnOk, OnErr, [], ◌∷◌, ◌++◌};
+ghost use Rattle.std.specs.Prelude.{◌≡◌, ◌&&◌, not, ℕ, ◌<◌, true, IsTrue, IsFalse, OnOk, OnErr, [], ◌∷◌, ◌++◌};
 ghost use Rattle.std.specs.Option.{option_copied};
 ghost use Rattle.node_sets.specs.Members.{has_node};
 ghost use Rattle.merge_rounds.specs.Rounds.{did_show, did_give, HaveAllShown, pieces_by, shown_by, shown_after, union_after, is_answer};
@@ -52,6 +52,26 @@ pub fn givers(shown: &[NodePieces]) -> NodeSet
     nodes
 }
 
+/// The nodes whose answers are among those shown.
+fn showers(shown: &[NodePieces]) -> NodeSet
+    ensures { (node : ℕ) → node < 32 → has_node result node ≡ did_show node shown.now }
+{
+    let mut nodes = NodeSet::none();
+    for node in 0..32 {
+        if did_show(node, shown) {
+            nodes = nodes.with(node);
+        }
+    }
+    nodes
+}
+
+/// The readers whose answers aren't among those shown.
+pub fn silent(readers: NodeSet, shown: &[NodePieces]) -> NodeSet
+    ensures { (node : ℕ) → has_node result node ≡ (has_node readers node && not (did_show node shown.now)) }
+{
+    readers.difference(showers(shown))
+}
+
 /// The pieces that a node's answer showed.
 pub fn pieces_by(node: u8, shown: &[NodePieces]) -> &[Piece]
     ensures { result.now ≡ pieces_by node shown.now }
@@ -92,7 +112,8 @@ fn take(
     Ok(())
 }
 
-/// Takes a node's reply to a Read; one that is no answer shows nothing. The only error is want of memory.
+/// Takes a node's reply to a Read; one that is no answer shows nothing. The only error is want of memory,
+/// which only an answer takes.
 pub fn take_reply(
     alloc: Global,
     shown: &mut Vec<NodePieces>,
@@ -105,6 +126,7 @@ pub fn take_reply(
     ensures union { OnOk result (union.new ≡ union_after union.old (option_copied reply.entry)) }
     ensures shown_stays { OnErr result (shown.new.items ≡ shown.old.items) }
     ensures union_stays { OnErr result (union.new ≡ union.old) }
+    ensures free { OnErr result (is_answer (option_copied reply.entry) ≡ true) }
 {
     match reply {
         Some(Reply::Answer { pieces, entries }) => take(alloc, shown, union, node, pieces, entries),

@@ -88,6 +88,13 @@ impl OpMachine {
         self.settled.outcome.as_ref()
     }
 
+    /// Who took the Store; takes no memory.
+    pub fn stored(&self) -> NodeSet
+        ensures { result ≡ self.now.stores.answered }
+    {
+        self.standing.stores.answered
+    }
+
     /// The next message, or none where none is left. The only error is want of memory; nothing changes.
     pub fn send(&mut self, alloc: Global) -> Result<Option<Message>, NoMemory>
         ensures message { IfOk result (λ m. m ≡ message_in (next_at self.old)) }

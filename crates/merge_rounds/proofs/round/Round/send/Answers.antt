@@ -1,6 +1,6 @@
 use Rattle.std.proofs.Common.{List, refl, sym, subst, arith}
 use Rattle.messages.specs.declared.step.NodePieces.{NodePieces}
-use Rattle.merge_rounds.specs.Rounds.{HaveAllShown, IsOver, RoundState}
+use Rattle.merge_rounds.specs.Rounds.{HaveAllShown, IsOver}
 use Rattle.merge_rounds.proofs.round.Round.send.Goals as goal
 
 pub returns-then-not-have_all-clause-message : goal.returns-then-not-have_all-clause-message
