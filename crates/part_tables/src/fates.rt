@@ -1,5 +1,7 @@
 use anyhow::Result;
 use carriers::{Carrier, Carriers, Fate, PerfectCarriers, PlanCarriers};
+use late_messages::LateList;
+use messages::{Body, Origin};
 use std::alloc::Global;
 
 /// A fate in words.
@@ -34,4 +36,29 @@ pub fn perfect(alloc: Global) -> Result<String> {
     let taken = carrier.plan(&[Fate::Twice])?;
     let first = told(alloc, carrier.fate(1))?;
     Ok(format!(in alloc; "planned {taken}: {first}")?)
+}
+
+/// In which order late messages are taken: two are due behind message 4, and the one sent between them
+/// behind message 3.
+pub fn late(alloc: Global) -> Result<String> {
+    let origin = Origin {
+        version: 1,
+        lane: 0,
+        sender: 0,
+    };
+    let mut list = LateList::new(alloc);
+    list.room()?;
+    list.keep(4, 1, origin.message(0, Body::Ask));
+    list.room()?;
+    list.keep(3, 2, origin.message(0, Body::Ask));
+    list.room()?;
+    list.keep(4, 3, origin.message(0, Body::Ask));
+    let mut log = format!(in alloc; "{} late", list.len())?;
+    for now in [2, 3, 3, 4, 4, 4] {
+        match list.take_due(now) {
+            Some(late) => log.push_str(&format!(in alloc; ", {} behind {now}", late.number)?)?,
+            None => log.push_str(&format!(in alloc; ", none behind {now}")?)?,
+        }
+    }
+    Ok(log)
 }

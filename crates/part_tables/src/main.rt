@@ -1,5 +1,5 @@
 //! One distributor's part told from outside, and carriers: prints what a part decides, step by step, where
-//! answers come or don't, and the fates that carriers give.
+//! answers come or don't, the fates that carriers give, and the order of late messages.
 #![tactic(auto)]
 
 mod fates;
@@ -14,5 +14,6 @@ fn main(rt: HostRuntime) -> Result<()> {
     println!(rt; "{}", steps::one_replica(alloc)?)?;
     println!(rt; "{}", fates::planned(alloc)?)?;
     println!(rt; "{}", fates::perfect(alloc)?)?;
+    println!(rt; "{}", fates::late(alloc)?)?;
     Ok(())
 }

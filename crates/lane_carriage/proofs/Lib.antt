@@ -1,0 +1,7 @@
+pub mod Fates
+pub mod Dues
+pub mod Dealings
+pub mod Carried
+pub mod Messages
+pub mod Waitings
+pub mod Wrong
