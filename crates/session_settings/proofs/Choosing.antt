@@ -1,0 +1,88 @@
+-- Words choose one session at most.
+use Rattle.std.proofs.Common.{◌≡◌, false, List, ℕ, None, Some, inl, inr, sym, ap, ◌∙◌, subst, arith}
+use Rattle.std.proofs.lemmas.Bool.{false≢true}
+use Rattle.clap.specs.Walk.{Text}
+use Rattle.serde_json.specs.Read.{read}
+use Rattle.cluster_states.specs.ClusterStates.{State}
+use Rattle.cluster_states.proofs.Telling.{tells_one}
+use Rattle.distributor_part.specs.declared.rules.Rules.{Rules}
+use Rattle.doc_types.specs.SchemaCodes.{Types}
+use Rattle.doc_types.specs.Schemas.{schema_fault}
+use Rattle.doc_types.specs.declared.schema_faults.SchemaFault.{SchemaFault}
+use Rattle.words_line.specs.Said.{Says}
+use Rattle.words_line.specs.declared.options.Options.{Options}
+use Rattle.words_line.proofs.SaidOnce.{said_once}
+use Rattle.session_settings.specs.Choices.{is_built, rules_of, CanBegin, SaysSchema, Chooses, AreWrong}
+use Rattle.session_settings.specs.Settings.{AreRules, IsFirst, IsSetting}
+use Rattle.session_settings.specs.declared.choice.Choice.{Choice}
+use Rattle.session_settings.specs.declared.setting.Setting.{Setting}
+
+same_options : (words : List Text) (c : Choice) (o : Options) → Says words o → (x : Chooses words c) → x.options ≡ o
+same_options words c o said x = said_once words x.options o x.said said
+
+same_schema : (text : List ℕ) (a b : Types) → SaysSchema text a → SaysSchema text b → a ≡ b
+same_schema text a b x y = cc (x.said, y.said)
+
+same_setting : (a b : Setting) → a.bits ≡ b.bits → a.rules ≡ b.rules → a.initial ≡ b.initial → a ≡ b
+same_setting a b bits rules initial = λ i. record { bits = bits i; rules = rules i; initial = initial i }
+
+same_choice : (a b : Choice) → a.setting ≡ b.setting → a.schema ≡ b.schema → a ≡ b
+same_choice a b setting schema = λ i. record { setting = setting i; schema = schema i }
+
+pub one_choice : (words : List Text) (a b : Choice) → Chooses words a → Chooses words b → a ≡ b
+one_choice words a b x y =
+    let same = same_options words a y.options y.said x in
+    same_choice a b
+    (same_setting a.setting b.setting (x.bits ∙ ap (λ (o : Options). o.bits) same ∙ sym y.bits) (x.rules ∙ ap rules_of same ∙ sym y.rules)
+    (tells_one y.options.initial a.setting.initial b.setting.initial (subst (λ (o : Options). CanBegin o a.setting.initial) same x.initial).said y.initial.said))
+    (same_schema y.options.schema a.schema b.schema (subst (λ (o : Options). SaysSchema o.schema a.schema) same x.schema) y.schema)
+
+-- ---- the setting
+
+rules_said : (words : List Text) (o : Options) → Says words o → AreRules (rules_of o)
+rules_said words o said = elim said.said [
+  | inl plain ↦ record {
+    some_acks = plain.acks.low;
+    few_acks = plain.acks.high;
+    some_searchable = plain.searchable.low;
+    few_searchable = plain.searchable.high;
+    few_copies = plain.redundancy.high;
+    some_documents = plain.split_at.low;
+    few_documents = plain.split_at.high;
+  }
+  | inr made ↦ record {
+    some_acks = omega (arith, made.acks);
+    few_acks = omega (arith, made.acks, made.redundancy);
+    some_searchable = omega (arith, made.searchable);
+    few_searchable = omega (arith, made.searchable, made.redundancy);
+    few_copies = omega (arith, made.redundancy);
+    some_documents = omega (arith, made.split_at);
+    few_documents = omega (arith, made.split_at);
+  }
+]
+
+pub chosen_setting : (words : List Text) (c : Choice) → Chooses words c → IsSetting c.setting
+chosen_setting words c x =
+    let acks : c.setting.rules.acks ≡ x.options.acks = ap (λ (r : Rules). r.acks) x.rules in
+    record {
+      some = elim x.said.said [ inl plain ↦ omega (arith, x.bits, plain.bits.low) | inr made ↦ omega (arith, x.bits, made.bits.low) ];
+      most = elim x.said.said [ inl plain ↦ omega (arith, x.bits, plain.bits.high) | inr made ↦ omega (arith, x.bits, made.bits.high) ];
+      state = (x.initial.said).0;
+      rules = subst AreRules (sym x.rules) (rules_said words x.options x.said);
+      first = subst (λ n. IsFirst n c.setting.initial) (sym acks) x.initial.first;
+    }
+
+-- ---- words that choose nothing
+
+pub not_built : (words : List Text) (o : Options) → Says words o → is_built o ≡ false → AreWrong words
+not_built words o said test c x = false≢true (sym test ∙ sym (ap is_built (same_options words c o said x)) ∙ x.built)
+
+-- no state can begin
+pub no_state : (words : List Text) (o : Options) → Says words o → ((state : State) → CanBegin o state → ⊥) → AreWrong words
+no_state words o said none c x = none c.setting.initial (subst (λ (p : Options). CanBegin p c.setting.initial) (same_options words c o said x) x.initial)
+
+-- a schema that is refused
+pub no_schema : (words : List Text) (o : Options) (fault : SchemaFault) → Says words o → schema_fault (read o.schema) ≡ Some fault → AreWrong words
+no_schema words o fault said refused c x =
+    let right : schema_fault (read o.schema) ≡ None = subst (λ (p : Options). schema_fault (read p.schema) ≡ None) (same_options words c o said x) x.schema.right in
+    cc (refused, right)

@@ -1,0 +1,46 @@
+-- What the words of a session choose.
+use Rattle.std.specs.Prelude.{◌≡◌, ◌==◌, ◌&&◌, Bool, true, not, List, ℕ, Some, None, is_some}
+use Rattle.clap.specs.Walk.{Text}
+use Rattle.serde_json.specs.Read.{read}
+use Rattle.cluster_states.specs.ClusterStates.{State}
+use Rattle.cluster_states.specs.StateTexts.{IsStateText}
+use Rattle.distributor_part.specs.declared.rules.Rules.{Rules}
+use Rattle.doc_types.specs.SchemaCodes.{Types}
+use Rattle.doc_types.specs.Schemas.{schema_fault, schema_in}
+use Rattle.words_line.specs.Said.{Says}
+use Rattle.words_line.specs.declared.options.Options.{Options}
+use Rattle.session_settings.specs.Settings.{IsFirst}
+use Rattle.session_settings.specs.declared.choice.Choice.{Choice}
+
+-- an option that isn't built yet stands at its default
+unfoldable pub is_built : Options → Bool
+is_built o = o.feeders == 0 && (o.searchable == 1 && (o.split_at == 64 && not (is_some o.generate)))
+
+abbrev pub rules_of : Options → Rules
+rules_of o = record { redundancy = o.redundancy; acks = o.acks; searchable = o.searchable; split_at = o.split_at }
+
+-- the options say this state, and it can be published before all others
+pub record CanBegin (o : Options) (state : State) : Type 0 where
+  pub said : IsStateText o.initial state
+  pub first : IsFirst o.acks state
+
+-- the text is a schema, and has these types
+pub record SaysSchema (text : List ℕ) (types : Types) : Type 0 where
+  pub right : schema_fault (read text) ≡ None
+  pub said : schema_in (read text) ≡ Some types
+
+-- the words say these options, of which those that aren't built stand at their defaults; the setting is theirs,
+-- and the schema is that of its option
+pub record Chooses (words : List Text) (c : Choice) : Type 0 where
+  pub options : Options
+  pub said : Says words options
+  pub built : is_built options ≡ true
+  pub schema : SaysSchema options.schema c.schema
+  pub bits : c.setting.bits ≡ options.bits
+  pub rules : c.setting.rules ≡ rules_of options
+  pub initial : CanBegin options c.setting.initial
+
+-- the words choose nothing: they say no options, one that isn't built stands elsewhere than at its default, the
+-- state's text is refused or can't be published first, or the schema is none
+abbrev pub AreWrong : List Text → Type 0
+AreWrong words = (c : Choice) → Chooses words c → ⊥

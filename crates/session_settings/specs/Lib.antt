@@ -1,0 +1,3 @@
+-- `Settings` says what a session is set to, `Choices` which words choose it.
+pub mod Settings
+pub mod Choices

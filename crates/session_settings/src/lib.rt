@@ -1,0 +1,17 @@
+//! What the words of a session choose: its setting and its schema.
+//!
+//! `read_choice` reads the words by `words_line`, the state's text by `cluster_states` and the schema by
+//! `doc_types`. A contract says what they choose by the relation `Chooses` (`specs/Choices.antt`), and that
+//! they choose nothing by `AreWrong`. Words choose one session at most.
+//!
+//! ```text
+//! vespa_cell --acks 2 --redundancy 2 --state "version:1 distributor:1 storage:2"   // a setting and a schema
+//! vespa_cell --acks 2 --redundancy 2     // WordsFault::Usage: the one node that is up is too few
+//! ```
+#![tactic(auto)]
+
+pub mod choice;
+pub mod setting;
+
+pub use choice::{Choice, read_choice};
+pub use setting::Setting;
