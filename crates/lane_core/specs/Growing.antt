@@ -1,9 +1,75 @@
--- By which events a message lets a journal grow.
-use Rattle.std.specs.Prelude.{◌≡◌, ℕ, List, ◌∷◌}
+-- By which events a journal grows, and what becomes of a message.
+use Rattle.std.specs.Prelude.{◌≡◌, ◌⊎◌, ◌↔◌, ◌≤◌, ℕ, Bool, true, false, IsSome, List, ◌∷◌, Option, None, Some, nat_lt, if◌then◌else◌}
+use Rattle.cluster_states.specs.declared.cluster_state.ClusterState.{ClusterState}
+use Rattle.messages.specs.declared.reply.Reply.{Reply}
 use Rattle.messages.specs.declared.noted.NotedReply.{NotedReply}
+use Rattle.messages.specs.Noting.{noted_reply}
+use Rattle.distributor_part.specs.Parts.{Part}
+use Rattle.distributor_part.specs.Steps.{IsAfterAnswer}
+use Rattle.late_messages.specs.declared.late.Late.{Late}
+use Rattle.lane_carriage.specs.Carriage.{AreDelivered}
+use Rattle.lane_carriage.specs.Waits.{numbers, AreTaken}
+use Rattle.lane_keeping.specs.Asking.{unkept}
+use Rattle.messages.specs.declared.noted.NotedReply.TheVariants as noted
+use Rattle.lane_journals.specs.Events as plain
+use Rattle.lane_journals.specs.Readers.{Journal, held, first_reply, returned}
+use Rattle.lane_journals.specs.Meanings.{history}
 use Rattle.lane_journals.specs.declared.event.LaneEvent.{LaneEvent}
-use Rattle.lane_journals.specs.declared.event.LaneEvent.TheVariants.{Delivered}
+use Rattle.lane_journals.specs.declared.event.LaneEvent.TheVariants.{Heard, Delivered}
 
--- it is delivered with some reply
-abbrev pub GrowsByDelivery : ℕ → List LaneEvent → List LaneEvent → Type 0
-GrowsByDelivery n J K = (r : NotedReply) × (K ≡ Delivered n r ∷ J)
+-- ---- messages
+
+-- the part is told the node's reply, or that the node wants memory, where an answer can't be kept; and this is noted
+pub record IsToldBy (p q : Part) (node : ℕ) (given : Reply) (noted : NotedReply) : Type 0 where
+  pub reply : Reply
+  pub is : (reply ≡ given) ⊎ (reply ≡ unkept given)
+  pub after : IsAfterAnswer p q node (Some reply)
+  pub noted_is : noted ≡ noted_reply reply
+
+abbrev pub is_short : NotedReply → Bool
+is_short noted.NoMemory = true
+is_short _ = false
+
+-- the message's first reply came back, and says that the node wants memory
+abbrev pub CameShort : ℕ → Journal → Type 0
+CameShort number H = (returned number H ≡ true) × (first_reply number H ≡ Some plain.NoMemory)
+
+-- it is known whether it did, and will stay so
+pub record IsSettled (number : ℕ) (J : List LaneEvent) (short : Bool) : Type 0 where
+  pub short_is : (short ≡ true) ↔ CameShort number (history J)
+  pub replied : returned number (history J) ≡ true → IsSome (first_reply number (history J))
+
+-- what the part was told changes only what it knows of answers
+pub record HasHeard (p q : Part) : Type 0 where
+  pub after : q ≡ record p { answered = q.answered; shown = q.shown; awaited = None }
+
+-- the first late message is due, and is delivered
+pub record DeliversOne (last : ℕ) (late rest : List Late) (J K : List LaneEvent) : Type 0 where
+  pub first : Late
+  pub was_first : late ≡ first ∷ rest
+  pub is_due : first.due ≤ last
+  pub reply : NotedReply
+  pub grows : K ≡ Delivered first.number reply ∷ J
+
+-- some late messages that are due are delivered, in their order
+pub record DeliversSome (last : ℕ) (late rest : List Late) (J K : List LaneEvent) : Type 0 where
+  pub taken : List Late
+  pub are_taken : AreTaken last late taken rest
+  pub delivered : AreDelivered (numbers taken) J K
+
+-- ---- states
+
+-- who holds this version, or none, is to hear another
+abbrev pub is_older : Option ℕ → ℕ → Bool
+is_older None v = true
+is_older (Some w) v = nat_lt w v
+
+-- the version of the state that a part has
+abbrev pub version_held : Option ClusterState → Option ℕ
+version_held None = None
+version_held (Some s) = Some s.version
+
+-- the distributor hears the newest state, if it holds none or an older one
+abbrev pub heard_next : ℕ → Option ClusterState → List LaneEvent → List LaneEvent
+heard_next d None J = J
+heard_next d (Some s) J = if is_older (held d (history J)) s.version then Heard d s.version ∷ J else J

@@ -1,8 +1,17 @@
--- `LaneKeeping` says what a lane keeps: a legal journal, and nodes and distributors' parts that are what it says.
--- `Asking` says what is known while an Ask is under way and what its delivery and its return leave, `Laws` what
--- the laws say, `LaneStates` and `Growing` what the calls say.
-pub mod LaneKeeping
-pub mod Asking
-pub mod Laws
+-- `LaneStates` has the fields of a lane, `Growing` what becomes of a message and what a distributor hears, `Openings`
+-- how the owner's part opens its state, `RoundRuns` what calls make of a round. `LaneValues` says what a lane is to its
+-- callers, `Works` and `LaneInside` what it keeps behind that, `Closing` what a close asks, and `Preparations` what
+-- prepares an operation in its row.
+-- how the owner's part opens its state, `RoundRuns` what calls make of a round, and `Steps` what an operation that is
+-- prepared does. `LaneValues` says what a lane is to its callers, `Works` and `LaneInside` what it keeps behind that, and
+-- `Closing` what a close asks.
 pub mod LaneStates
 pub mod Growing
+pub mod Openings
+pub mod Closing
+pub mod LaneValues
+pub mod Works
+pub mod RoundRuns
+pub mod LaneInside
+pub mod Steps
+pub mod Preparations

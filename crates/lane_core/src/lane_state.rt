@@ -1,22 +1,20 @@
 ghost use Rattle.std.specs.Prelude.{◌≡◌, ◌≤◌, ◌<◌, ◌+◌, ◌-◌, ◌^◌, ◌∷◌, [], None, Some, OnOk, vec_len, vec_capacity};
 ghost use Rattle.cluster_states.specs.Publishing.{publish_fault};
-ghost use Rattle.messages.specs.declared.body.Body.TheVariants as body;
 ghost use Rattle.lane_journals.specs.Places.{told};
 ghost use Rattle.lane_journals.specs.KeptJournals.{past};
 ghost use Rattle.lane_journals.specs.declared.event.LaneEvent.TheVariants as event;
-ghost use Rattle.node_journals.specs.Flights.{IsInFlight};
 ghost use Rattle.node_journals.specs.Replaying.{sending};
-ghost use Rattle.lane_core.specs.LaneKeeping.{setting_of};
+ghost use Rattle.lane_keeping.specs.LaneKeeping.{setting_of};
 ghost use Rattle.lane_core.specs.LaneStates.{journal_of, IsKept, Asks};
-ghost use Rattle.lane_core.specs.Asking.{IsJustSent};
-ghost use Rattle.lane_core.specs.Growing.{GrowsByDelivery};
+ghost use Rattle.lane_keeping.specs.Asking.{IsJustSent};
 
-use crate::laws::{asks_are_kept, lanes_begin, states_are_kept};
 use bucket_ids::Bucket;
 use cluster_states::ClusterState;
 use distributor_part::{DistributorPart, Rules};
 use lane_journals::LaneEvent;
 use lane_journals::laws::states_are_published;
+use lane_keeping::laws::{asks_are_kept, lanes_begin, states_are_kept};
+use late_messages::LateList;
 use messages::{Message, NotedBody};
 use service_layer::NodePart;
 use std::alloc::Global;
@@ -33,11 +31,15 @@ pub struct LaneState {
     pub last: u64,
     pub nodes: Vec<NodePart>,
     pub parts: Vec<DistributorPart>,
+    /// The messages that are to be delivered late.
+    pub late: LateList,
+    /// For so many events there is room, whatever else the lane does.
+    pub spare: usize,
     pub alloc: Global,
 }
 
 /// Appends an event for which there is room.
-fn push_within(events: &mut Vec<LaneEvent>, event: LaneEvent)
+pub fn push_within(events: &mut Vec<LaneEvent>, event: LaneEvent)
     requires { vec_len events.old + 1 ≤ vec_capacity events.old }
     ensures past { past events.new.items ≡ event ∷ past events.old.items }
     ensures len { vec_len events.new ≡ vec_len events.old + 1 }
@@ -50,10 +52,18 @@ fn push_within(events: &mut Vec<LaneEvent>, event: LaneEvent)
 }
 
 impl LaneState {
-    /// A lane in which nothing happened; takes no memory.
+    /// A lane in which nothing happened; takes no memory. A lane's bucket has at most 6 bits.
     pub fn new(alloc: Global, lane: Bucket, rules: Rules) -> LaneState
+        requires small { lane.bits ≤ 6 }
         ensures keeps { IsKept result }
         ensures journal { journal_of result ≡ [] }
+        ensures lane { result.lane ≡ lane }
+        ensures rules { result.rules ≡ rules }
+        ensures newest { result.newest ≡ None }
+        ensures last { result.last ≡ 0 }
+        ensures parts { result.parts.items ≡ [] }
+        ensures late { result.late.late ≡ [] }
+        ensures spare { result.spare ≡ 0 }
     {
         lanes_begin();
         LaneState {
@@ -64,6 +74,8 @@ impl LaneState {
             last: 0,
             nodes: Vec::new(alloc),
             parts: Vec::new(alloc),
+            late: LateList::new(alloc),
+            spare: 0,
             alloc,
         }
     }
@@ -122,28 +134,6 @@ impl LaneState {
                 sender: message.sender,
                 receiver: message.receiver,
                 body: NotedBody::Ask,
-            },
-        );
-    }
-
-    /// Delivers an Ask, and notes the reply, which isn't returned.
-    pub fn deliver(&mut self, number: u64, message: &Message)
-        requires keeps { IsKept self.old }
-        requires flight { IsInFlight (journal_of self.old) number message.now }
-        requires asks { message.now.body ≡ body.Ask }
-        requires there { message.now.receiver < vec_len self.old.nodes }
-        requires room { vec_len self.old.journal + 1 ≤ vec_capacity self.old.journal }
-        ensures keeps { IsKept self.new }
-        ensures grows { GrowsByDelivery number (journal_of self.old) (journal_of self.new) }
-        ensures after { self.new ≡ record self.old { journal = self.new.journal; nodes = self.new.nodes } }
-    {
-        asks_are_kept();
-        let taken = self.nodes[usize::from(message.receiver)].take(message);
-        push_within(
-            &mut self.journal,
-            LaneEvent::Delivered {
-                number,
-                reply: taken.noted,
             },
         );
     }

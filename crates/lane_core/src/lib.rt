@@ -1,27 +1,47 @@
-//! What a lane keeps beside its journal, over each event from its start until a state is opened.
+//! One lane: its journal, and what it says; calls append events one by one.
 //!
-//! A lane has a journal, the state that was published last, the number of its last message, its nodes and
-//! its distributors' parts. `Keeps` in `specs/LaneKeeping.antt` says that the journal is legal, that no
-//! message has a greater number, that each node is what the journal says, and that each part is: it holds
-//! the state that its distributor heard, and where that distributor owns the lane under it, it knows who
-//! answered an Ask, which buckets were shown, and then the rows with their marks. The laws of `laws` carry
-//! this over a publication, a state that is heard, an Ask that is sent, taken, answered or lost, and the
-//! opening. A node or a part that isn't there yet counts as a new one.
+//! A `LaneState` has a journal, the state that was published last, the number of its last message, its nodes
+//! and its distributors' parts. `IsKept` in `specs/LaneStates.antt` says that they are what the journal says
+//! (`lane_keeping`), that late messages are on their way, that the numbers of messages find room, and that the
+//! lane's bucket is one. A node or a part that isn't there yet counts as a new one.
 //!
-//! A `LaneState` is these fields, and its calls append events one by one: a publication, an Ask that is sent,
-//! and a delivery whose reply isn't returned. Hearing, returns and the opening are laws yet, without a call;
-//! late messages, operations and rounds aren't there.
+//! Each call says by which events the journal grows. A distributor hears the newest state (`parts`). A message
+//! is delivered, or kept and delivered when it falls due (`carriage`). An owner opens its state: it asks node
+//! after node, deals with each Ask by the fate that the carrier gives, and is told what came back (`opening`);
+//! so is each message of a round (`rounds`) and of an operation that is prepared (`steps`).
+//!
+//! A `Work` is a `LaneState` with the operation under way: it begins one at the owner of the lane, or refuses
+//! it, and closes it. `lane_wants` says what the operation of a line wants next. A `Lane` is a `Work` with
+//! the carrier of its messages; `specs/LaneValues.antt` says what it is to its callers.
 //!
 //! ```text
 //! let mut lane = LaneState::new(alloc, bucket, rules);
 //! lane.room()?;
 //! lane.publish(&state);                   // Published { .. }
-//! lane.send(distributor, &message);       // Sent { body: Ask, .. }
-//! lane.deliver(number, &message);         // Delivered { .. }
+//! lane.hear(distributor)?;                // Heard { .. }
+//! lane.open_state(distributor, key, &mut carrier)?;    // Sent { .. }, Delivered { .. }, Returned { .. }, .., Opened { .. }
 //! ```
 #![tactic(auto)]
 
+pub mod answers;
+pub mod carriage;
+pub mod job;
+pub mod lane;
 pub mod lane_state;
-pub mod laws;
+pub mod opening;
+pub mod operations;
+pub mod parts;
+pub mod preparing;
+pub mod rounds;
+pub mod shortfall;
+pub mod shown;
+pub mod states;
+pub mod steps;
+pub mod work;
 
+pub use answers::{Advance, Begin};
+pub use job::{Progress, UnderWay};
+pub use lane::Lane;
 pub use lane_state::LaneState;
+pub use rounds::{RoundEnd, RoundRun};
+pub use work::Work;

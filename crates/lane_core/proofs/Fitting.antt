@@ -1,0 +1,136 @@
+-- How an operation is prepared in the row of its key.
+use Rattle.std.proofs.Common.{◌≡◌, ◌+◌, ◌≤◌, ℕ, true, false, List, ◌∷◌, Option, None, Some, inl, inr, refl, sym, ap, subst, ◌∙◌, is_some, vec_len, vec_capacity, arith}
+use Rattle.bucket_ids.specs.Buckets.{Low, IsIn}
+use Rattle.cluster_states.specs.declared.cluster_state.ClusterState.{ClusterState}
+use Rattle.bucket_db.specs.Rows.{Rows}
+use Rattle.bucket_db.specs.declared.row.Row.{Row}
+use Rattle.messages.specs.declared.message.Origin.{Origin}
+use Rattle.distributor_part.specs.Steps.{IsRowOf}
+use Rattle.op_machine.specs.declared.machine.Standing.{Standing}
+use Rattle.op_machine.specs.Plans.{IsPlan, IsMember, plan_of}
+use Rattle.op_machine.specs.Standings.{IsBegun}
+use Rattle.lane_journals.specs.Buckets.{contains, key_of}
+use Rattle.lane_journals.specs.Meanings.{history}
+use Rattle.lane_journals.specs.Places.{state_in}
+use Rattle.lane_journals.specs.declared.event.LaneEvent.{LaneEvent}
+use Rattle.lane_journals.specs.declared.event.LaneEvent.TheVariants.{Prepared}
+use Rattle.lane_durability.specs.Laws.{ActiveIsComplete}
+use Rattle.lane_keeping.specs.Acting.{IsActing, IsKnownRow}
+use Rattle.lane_operations.specs.OperationKeeping.{IsUnderWay, KnowsPreparing, KnowsOperation}
+use Rattle.lane_wants.specs.Wants.{Wants, Adds}
+use Rattle.lane_core.specs.declared.job.Job.{Job}
+use Rattle.lane_core.specs.declared.job.Phase.TheVariants as phase
+use Rattle.lane_core.specs.declared.lane_state.LaneState.{LaneState}
+use Rattle.lane_core.specs.declared.work.Work.{Work}
+use Rattle.lane_core.specs.LaneStates.{journal_of, part_of, IsKept}
+use Rattle.lane_core.specs.Works.{IsWork, IsJob, one_if}
+use Rattle.lane_core.specs.Preparations.{HasRowWith, IsReadyFor}
+use Rattle.lane_core.proofs.Working.{same-key, work-by}
+
+pub some-same : {A : Type 0} (a b : A) → Some a ≡ Some b → a ≡ b
+some-same a b e = cc
+
+pub same-state : (lane : Low) (J : List LaneEvent) (d : ℕ) (s t : ClusterState) → IsActing lane J d s → IsActing lane J d t → s ≡ t
+same-state lane J d s t a b =
+    let v : s.version ≡ t.version = some-same s.version t.version (sym a.holds ∙ b.holds) in
+    some-same s t (sym a.published ∙ ap (λ (n : ℕ). state_in n J) v ∙ b.published)
+
+module _ (x : Work) (j : Job) (k : IsWork x) (is : x.job ≡ Some j) (r : IsReadyFor x.state j) where
+  pub job-of : IsJob x.state.lane x.state.rules (journal_of x.state) j
+  job-of = rw is at k.job_is
+
+  under : IsUnderWay x.state.lane (history (journal_of x.state)) j.distributor r.state j.line j.operation j.stamp
+  under = subst (λ (s : ClusterState). IsUnderWay x.state.lane (history (journal_of x.state)) j.distributor s j.line j.operation j.stamp)
+      (same-state x.state.lane (journal_of x.state) j.distributor job-of.state r.state job-of.acting r.acting) job-of.under_way
+
+  pub preparing : KnowsPreparing x.state.lane (history (journal_of x.state)) j.distributor r.state j.line j.operation j.stamp
+  preparing = record { is_under_way = under; unprepared = r.unprepared; unwritten = r.unwritten }
+
+  pub key-there : IsIn x.state.lane j.key
+  key-there = subst (λ (n : ℕ). IsIn x.state.lane n) (sym (job-of.key_is ∙ same-key j.operation.id)) job-of.key_in
+
+  module _ (row : Row) where
+    fit_by : (o : Option Rows) → (part_of x.state j.distributor).rows ≡ o → HasRowWith o j.key row
+        → ((rows : Rows) (key at : ℕ) (y : Row) → (part_of x.state j.distributor).rows ≡ Some rows → IsRowOf rows key at y → IsKnownRow r.state.version (history (journal_of x.state)) y)
+        → ((rows : Rows) (key at : ℕ) (y : Row) → IsRowOf rows key at y → contains y.bucket key ≡ true)
+        → IsKnownRow r.state.version (history (journal_of x.state)) row × (contains row.bucket (key_of j.operation.id) ≡ true)
+    fit_by None e h known inside = absurd h
+    fit_by (Some d) e h known inside = (
+      known d j.key h.0 row e h.1,
+      subst (λ (n : ℕ). contains row.bucket n ≡ true) (job-of.key_is ∙ same-key j.operation.id) (inside d j.key h.0 row h.1),
+    )
+
+    pub fit-row : HasRowWith (part_of x.state j.distributor).rows j.key row
+        → ((rows : Rows) (key at : ℕ) (y : Row) → (part_of x.state j.distributor).rows ≡ Some rows → IsRowOf rows key at y → IsKnownRow r.state.version (history (journal_of x.state)) y)
+        → ((rows : Rows) (key at : ℕ) (y : Row) → IsRowOf rows key at y → contains y.bucket key ≡ true)
+        → IsKnownRow r.state.version (history (journal_of x.state)) row × (contains row.bucket (key_of j.operation.id) ≡ true)
+    fit-row h known inside = fit_by (part_of x.state j.distributor).rows refl h known inside
+
+    module _ (known : IsKnownRow r.state.version (history (journal_of x.state)) row) (inside : contains row.bucket (key_of j.operation.id) ≡ true) where
+      by_active : (o : Option ℕ) → row.active ≡ o → ActiveIsComplete (history (journal_of x.state)) → IsMember o row.complete
+      by_active None e all = tt
+      by_active (Some n) e all = sym (known.members n (key_of j.operation.id) inside) ∙ all r.state.version (key_of j.operation.id) n (known.active_is (key_of j.operation.id) inside ∙ e)
+
+      pub fit-plan : (origin : Origin) → ActiveIsComplete (history (journal_of x.state)) → IsPlan (plan_of origin j.operation j.stamp row.complete row.active x.state.rules.acks)
+      fit-plan origin all = record {
+        some = k.set_up.acked;
+        enough = r.enough row known inside;
+        active = by_active row.active refl all;
+        stamped = r.stamped;
+        own = job-of.own;
+      }
+
+      pub fit-wanted : Wants x.state.lane x.state.rules j.line j.operation (journal_of x.state) (Adds (Prepared j.line row.bucket row.complete))
+      fit-wanted = record {
+        distributor = j.distributor;
+        state = r.state;
+        stamp = j.stamp;
+        acting = r.acting;
+        under_way = under;
+        wants = inl (
+          r.unprepared,
+          inr (inr (inr (inl (record {
+            row = row;
+            has_row = record { known = known; inside = inside; no_round = k.no_round r.state.version row.bucket };
+            enough = r.enough row known inside;
+            is = refl;
+          })))),
+        );
+      }
+
+      pub fit-work : (y : LaneState) (place : Option Job) (t : Standing) (origin : Origin) → IsBegun (plan_of origin j.operation j.stamp row.complete row.active x.state.rules.acks) t
+          → KnowsOperation x.state.lane x.state.rules (Prepared j.line row.bucket row.complete ∷ journal_of x.state) j.distributor r.state j.line row.bucket None t
+          → place ≡ Some (record j { phase = phase.Prepared t row.bucket false }) → y ≡ record x.state { journal = y.journal } → IsKept y
+          → journal_of y ≡ Prepared j.line row.bucket row.complete ∷ journal_of x.state → vec_len y.journal + 0 + x.state.spare ≤ vec_capacity y.journal
+          → IsWork (record { state = y; drawn = x.drawn; has_room = x.has_room; job = place })
+      fit-work y place t origin begun operation put after kept grows room =
+          let lane : y.lane ≡ x.state.lane = ap (λ (z : LaneState). z.lane) after in
+          let rules : y.rules ≡ x.state.rules = ap (λ (z : LaneState). z.rules) after in
+          let newest : y.newest ≡ x.state.newest = ap (λ (z : LaneState). z.newest) after in
+          let parts : y.parts ≡ x.state.parts = ap (λ (z : LaneState). z.parts) after in
+          let spare : y.spare ≡ x.state.spare = ap (λ (z : LaneState). z.spare) after in
+          let one : one_if (is_some x.job) ≡ 1 = ap (λ (z : Option Job). one_if (is_some z)) is in
+          work-by (record { state = y; drawn = x.drawn; has_room = x.has_room; job = place }) (Prepared j.line row.bucket row.complete ∷ journal_of x.state)
+          (rw (lane, rules) k.set_up) kept (omega (arith, spare, room))
+          (rw (put, spare) (let all = k.spare_is in omega (arith, all, one)))
+          (λ d. rw (lane, rules, parts) (k.resting d)) grows
+          (rw (lane, rules, newest, put) (record {
+            newest_is = k.newest_is;
+            counts_are = k.counts_are;
+            no_round = k.no_round;
+            job_is = record {
+              state = r.state;
+              acting = record { holds = r.acting.holds; published = r.acting.published; owner = r.acting.owner };
+              under_way = under;
+              key_is = job-of.key_is;
+              key_in = job-of.key_in;
+              own = job-of.own;
+              plain = job-of.plain;
+              phase_is = record {
+                entry = None;
+                stands = record { knows = operation; operation_is = ap (λ p. p.operation) begun.plan };
+                same_stamp = ap (λ p. p.stamp) begun.plan;
+                written_is = refl;
+              };
+            };
+          }))

@@ -1,0 +1,10 @@
+-- What holds of an Ok, or of an Err, of a call.
+use Rattle.std.proofs.Common.{Result, Ok, Err, OnOk, OnErr}
+
+pub on_ok : {X E P Q : Type 0} (r : Result X E) → (P → Q) → OnOk r P → OnOk r Q
+on_ok (Ok x) f h = f h
+on_ok (Err e) f h = h
+
+pub on_err : {X E P Q : Type 0} (r : Result X E) → (P → Q) → OnErr r P → OnErr r Q
+on_err (Ok x) f h = h
+on_err (Err e) f h = f h

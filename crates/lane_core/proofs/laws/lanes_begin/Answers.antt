@@ -1,5 +1,0 @@
-use Rattle.lane_core.proofs.Asking.{keeps-nothing}
-use Rattle.lane_core.proofs.laws.lanes_begin.Goals as goal
-
-pub returns : goal.returns
-returns c = λ lane rules. keeps-nothing lane rules c.nodes_wait.ensures.begins

@@ -1,0 +1,185 @@
+-- What an operation that is prepared does in a lane, message by message.
+use Rattle.std.specs.Prelude.{◌≡◌, ◌≤◌, ◌+◌, ℕ, Bool, true, List, Option, None, Some, is_some}
+use Rattle.bucket_ids.specs.Buckets.{Low}
+use Rattle.cluster_states.specs.declared.cluster_state.ClusterState.{ClusterState}
+use Rattle.carriers.specs.declared.fate.Fate.{Fate}
+use Rattle.entry_maps.specs.declared.entry.Entry.{Entry}
+use Rattle.messages.specs.declared.body.Body.{Body}
+use Rattle.messages.specs.declared.body.Body.TheVariants as body
+use Rattle.messages.specs.declared.message.Message.{Message}
+use Rattle.messages.specs.declared.outcome.Outcome.{Outcome}
+use Rattle.messages.specs.declared.reply.Reply.{Reply}
+use Rattle.op_machine.specs.declared.plan.Plan.{Plan}
+use Rattle.op_machine.specs.declared.machine.Standing.{Standing}
+use Rattle.op_machine.specs.Outcomes.{Asks, Finishes, outcome_in}
+use Rattle.op_machine.specs.Standings.{next_at, IsAnswered}
+use Rattle.distributor_part.specs.declared.rules.Rules.{Rules}
+use Rattle.lane_journals.specs.Readers.{stamps_of, running}
+use Rattle.lane_journals.specs.Meanings.{history}
+use Rattle.lane_journals.specs.declared.event.LaneEvent.{LaneEvent}
+use Rattle.lane_keeping.specs.Acting.{IsActing}
+use Rattle.lane_operations.specs.OperationKeeping.{IsUnderWay, KnowsAsked}
+use Rattle.lane_operations.specs.Left.{messages_left}
+use Rattle.lane_core.specs.declared.lane_state.LaneState.{LaneState}
+use Rattle.lane_core.specs.declared.answers.Advance.{Advance}
+use Rattle.lane_core.specs.declared.answers.Advance.TheVariants as advance
+use Rattle.lane_core.specs.declared.job.Job.{Job}
+use Rattle.lane_core.specs.declared.job.Phase.{Phase}
+use Rattle.lane_core.specs.declared.job.Phase.TheVariants.{Prepared, Over, Short}
+use Rattle.lane_core.specs.declared.work.Work.{Work}
+use Rattle.lane_core.specs.LaneStates.{journal_of}
+use Rattle.lane_core.specs.LaneValues.{last_state, IsAdvance}
+use Rattle.lane_core.specs.Works.{under_way_in, value_of}
+use Rattle.lane_wants.specs.Wants.{Stands, IsRun}
+
+-- the distributor that sends the operation's messages
+abbrev pub sender_of : Standing → ℕ
+sender_of t = t.plan.origin.sender
+
+-- the operation of the plan is under way at the owner
+pub record IsGoing (lane : Low) (J : List LaneEvent) (line : ℕ) (p : Plan) : Type 0 where
+  pub state : ClusterState
+  pub acting : IsActing lane J p.origin.sender state
+  pub under_way : IsUnderWay lane (history J) p.origin.sender state line p.operation p.stamp
+
+-- the machine stands as the journal says
+pub record IsStanding (lane : Low) (rules : Rules) (J : List LaneEvent) (line : ℕ) (row : Low) (written : Bool) (t : Standing) : Type 0 where
+  pub state : ClusterState
+  pub acting : IsActing lane J (sender_of t) state
+  pub entry : Option Entry
+  pub stands : Stands lane rules J line t.plan.operation (sender_of t) state row entry t
+  pub written_is : written ≡ is_some entry
+
+-- and awaits the answer to the message that came next, which was sent with the number
+pub record IsAwaiting (lane : Low) (rules : Rules) (J : List LaneEvent) (line : ℕ) (row : Low) (written : Bool) (t : Standing) (number : ℕ) (m : Message) : Type 0 where
+  pub state : ClusterState
+  pub acting : IsActing lane J (sender_of t) state
+  pub entry : Option Entry
+  pub asked : KnowsAsked lane rules J (sender_of t) state line row entry t number m
+  pub written_is : written ≡ is_some entry
+
+-- ---- in a lane
+
+abbrev pub StandsIn : LaneState → ℕ → Low → Bool → Standing → Type 0
+StandsIn c line row written t = IsStanding c.lane c.rules (journal_of c) line row written t
+
+abbrev pub AwaitsIn : LaneState → ℕ → Low → Bool → Standing → ℕ → Message → Type 0
+AwaitsIn c line row written t number m = IsAwaiting c.lane c.rules (journal_of c) line row written t number m
+
+abbrev pub RunsIn : LaneState → LaneState → ℕ → Standing → Type 0
+RunsIn c e line t = IsRun c.lane c.rules line t.plan.operation (journal_of c) (journal_of e)
+
+-- it stands in some row
+pub record IsPreparedIn (c : LaneState) (line : ℕ) (written : Bool) (t : Standing) : Type 0 where
+  pub row : Low
+  pub stands : StandsIn c line row written t
+
+-- a Store is sent once its entry is written
+abbrev pub IsReady : Bool → Body → Type 0
+IsReady written (body.Store entry) = written ≡ true
+IsReady written _ = Unit {0}
+
+-- the message comes next, and perhaps its entry before it
+pub record IsToWrite (c : LaneState) (line : ℕ) (written : Bool) (m : Message) : Type 0 where
+  pub standing : Standing
+  pub row : Low
+  pub stands : StandsIn c line row written standing
+  pub next : next_at standing ≡ Asks m
+
+-- it comes next, and its entry is written
+pub record IsToSend (c : LaneState) (m : Message) : Type 0 where
+  pub line : ℕ
+  pub written : Bool
+  pub to_write : IsToWrite c line written m
+  pub ready : IsReady written m.body
+
+abbrev pub GoesIn : LaneState → ℕ → Plan → Type 0
+GoesIn c line p = IsGoing c.lane (journal_of c) line p
+
+-- whatever row it stands in, it does so after the call
+abbrev pub StandsOn : LaneState → LaneState → ℕ → Bool → Bool → Standing → Standing → Type 0
+StandsOn c e line written now t x = (row : Low) → StandsIn c line row written t → StandsIn e line row now x
+
+-- and the same with any machine whose message comes next, by which the journal grows
+abbrev pub WritesOn : LaneState → LaneState → ℕ → Bool → Bool → Message → Type 0
+WritesOn c e line written now m = (row : Low) (t : Standing) → next_at t ≡ Asks m → StandsIn c line row written t → StandsIn e line row now t × RunsIn c e line t
+
+-- the answer that was awaited is told, or that none came
+abbrev pub HearsIn : LaneState → LaneState → ℕ → Message → Standing → Standing → Type 0
+HearsIn c e number m t x = (line : ℕ) (row : Low) (written : Bool) → AwaitsIn c line row written t number m → StandsIn e line row written x
+
+-- the message that comes next is sent: the journal grows by what the operation wants, and it stays under way
+abbrev pub SendsIn : LaneState → LaneState → Message → Standing → Type 0
+SendsIn c e m t = (line : ℕ) (row : Low) (written : Bool) → IsReady written m.body → StandsIn c line row written t → RunsIn c e line t × GoesIn e line t.plan
+
+-- and the answer is told
+abbrev pub SentIn : LaneState → LaneState → Message → Standing → Standing → Type 0
+SentIn c e m t x = (line : ℕ) (row : Low) (written : Bool) → IsReady written m.body → StandsIn c line row written t → StandsIn e line row written x
+
+-- the machine is told the answer to the message that comes next, or that none came
+abbrev pub IsTold : Message → Standing → Standing → Type 0
+IsTold m t x = (y : Option Reply) × IsAnswered m.receiver y t x
+
+abbrev pub TellsOne : Standing → Standing → Type 0
+TellsOne t x = (m : Message) × (next_at t ≡ Asks m) × IsTold m t x
+
+-- ---- one call
+
+-- no state is published, no stamp drawn, no round begun or ended
+pub record IsQuiet (J K : List LaneEvent) : Type 0 where
+  pub newest : last_state K ≡ last_state J
+  pub counted : (v : ℕ) → stamps_of v (history K) ≡ stamps_of v (history J)
+  pub rounds : (v : ℕ) (b : Low) → running v b (history K) ≡ running v b (history J)
+
+-- it wants one more message, with one less left
+pub record WantsMore (c : LaneState) (line : ℕ) (row : Low) (written : Bool) (t x : Standing) : Type 0 where
+  pub stands : StandsIn c line row written x
+  pub same_plan : x.plan ≡ t.plan
+  pub fewer : messages_left x + 1 ≡ messages_left t
+  pub some : 1 ≤ messages_left x
+
+-- it is over, with this outcome
+pub record WantsEnd (c : LaneState) (line : ℕ) (row : Low) (t : Standing) (outcome told : Outcome) (answered : ℕ) : Type 0 where
+  pub standing : Standing
+  pub written : Bool
+  pub stands : StandsIn c line row written standing
+  pub same_plan : standing.plan ≡ t.plan
+  pub finished : next_at standing ≡ Finishes outcome
+  pub same : told ≡ outcome
+  pub answered_is : answered ≡ standing.stores.answered
+
+-- the phase of a machine, and the answer
+abbrev pub IsPhaseOf : Low → Bool → Standing → Phase → Advance → Type 0
+IsPhaseOf row written t (Prepared machine r w) advance.More = (r ≡ row) × (w ≡ written) × (machine ≡ t) × (outcome_in (next_at t) ≡ None)
+IsPhaseOf row written t (Over outcome told answered) advance.Done = (outcome_in (next_at t) ≡ Some outcome) × (told ≡ outcome) × (answered ≡ t.stores.answered)
+IsPhaseOf row written t Short advance.NoMemory = Unit {0}
+IsPhaseOf row written t _ _ = ⊥
+
+-- the phase that a call comes to, and its answer
+abbrev pub ComesTo : LaneState → ℕ → Low → Standing → Phase → Advance → Type 0
+ComesTo c line row t (Prepared machine r written) advance.More = (r ≡ row) × WantsMore c line row written t machine
+ComesTo c line row t (Over outcome told answered) advance.Done = WantsEnd c line row t outcome told answered
+ComesTo c line row t Short advance.NoMemory = Unit {0}
+ComesTo c line row t _ _ = ⊥
+
+-- so many calls are left as the operation may need
+abbrev pub PhaseLasts : ℕ → Phase → Type 0
+PhaseLasts left (Prepared machine row written) = (1 ≤ left) × (messages_left machine ≤ left)
+PhaseLasts left _ = Unit {0}
+
+abbrev pub IsAtMessages : Phase → Type 0
+IsAtMessages (Prepared machine row written) = Unit {0}
+IsAtMessages _ = ⊥
+
+-- the operation under way is prepared, and has calls left
+abbrev pub IsToStep : Option Job → Type 0
+IsToStep None = ⊥
+IsToStep (Some j) = IsAtMessages j.phase × PhaseLasts j.left j.phase
+
+abbrev pub JobLasts : Option Job → Type 0
+JobLasts None = ⊥
+JobLasts (Some j) = PhaseLasts j.left j.phase
+
+-- what a call made of the lane's value, whatever was planned
+abbrev pub AdvancesBy : Work → Work → List Fate → List Fate → Advance → Type 0
+AdvancesBy old new given now answer = (planned : List Fate) (takes_plans : Bool) → IsAdvance (under_way_in old.job) (value_of old given planned takes_plans) (value_of new now planned takes_plans) answer

@@ -1,0 +1,180 @@
+-- What a lane keeps behind its value: its fields, the stamps that were drawn, and the operation under way, of which
+-- the journal says what was done.
+use Rattle.std.specs.Prelude.{◌≡◌, ◌==◌, ◌+◌, ℕ, Bool, true, false, not, List, Option, None, Some, is_some, if◌then◌else◌}
+use Rattle.std.specs.Ordering.{nat_cmp}
+use Rattle.std.specs.Map.{count_at}
+use Rattle.std.specs.BTreeMap as tree
+use Rattle.std.specs.BTreeMap.{BTreeMap}
+use Rattle.bucket_ids.specs.Buckets.{Low, IsIn}
+use Rattle.node_sets.specs.Members.{has_node}
+use Rattle.stamps.specs.declared.stamp.Stamp.{Stamp}
+use Rattle.cluster_states.specs.declared.cluster_state.ClusterState.{ClusterState}
+use Rattle.carriers.specs.declared.fate.Fate.{Fate}
+use Rattle.entry_maps.specs.declared.entry.Entry.{Entry}
+use Rattle.messages.specs.declared.operation.Operation.{Operation}
+use Rattle.messages.specs.declared.outcome.Outcome.{Outcome}
+use Rattle.messages.specs.declared.outcome.Outcome.TheVariants.{Acked, NoMemory}
+use Rattle.distributor_part.specs.declared.rules.Rules.{Rules}
+use Rattle.op_machine.specs.declared.machine.Standing.{Standing}
+use Rattle.op_machine.specs.Plans.{IsOwn, is_get}
+use Rattle.global_ids.specs.Keys as keys
+use Rattle.lane_journals.specs.Buckets.{key_of}
+use Rattle.lane_journals.specs.Readers.{Journal, prepared, wrote, opened, stamps_of, running, complete, answered_store, before_line, round_of}
+use Rattle.lane_journals.specs.Meanings.{history}
+use Rattle.lane_journals.specs.KeptJournals.{IsLegalStep}
+use Rattle.lane_journals.specs.declared.event.LaneEvent.{LaneEvent}
+use Rattle.lane_journals.specs.declared.event.LaneEvent.TheVariants.{Closed}
+use Rattle.lane_keeping.specs.LaneKeeping.{setting_of}
+use Rattle.lane_keeping.specs.Acting.{IsActing}
+use Rattle.lane_operations.specs.OperationKeeping.{AllClosed, IsUnderWay, IsPlainGet}
+use Rattle.lane_core.specs.declared.job.Job.{Job}
+use Rattle.lane_core.specs.declared.job.Phase.{Phase}
+use Rattle.lane_core.specs.declared.job.Phase.TheVariants.{Begun, Prepared, Over, Short}
+use Rattle.lane_core.specs.declared.job.Progress.{Progress}
+use Rattle.lane_core.specs.declared.job.Progress.TheVariants as progress
+use Rattle.lane_core.specs.declared.job.UnderWay.{UnderWay}
+use Rattle.lane_core.specs.declared.lane_state.LaneState.{LaneState}
+use Rattle.lane_core.specs.declared.work.Work.{Work}
+use Rattle.lane_core.specs.LaneStates.{journal_of, IsKept, HasRoom, AreResting, IsCarriedBy}
+use Rattle.lane_wants.specs.Wants.{Stands, IsEnd, WasAskedIn}
+use Rattle.lane_core.specs.LaneValues.{LaneValue, IsSetUp, last_state, under_way_of}
+
+-- ---- the value
+
+abbrev pub progress_of : Phase → Progress
+progress_of Begun = progress.Runs
+progress_of (Prepared machine row written) = progress.Runs
+progress_of (Over outcome told answered) = progress.Over
+progress_of Short = progress.Short
+
+abbrev pub under_way_in : Option Job → Option UnderWay
+under_way_in None = None
+under_way_in (Some j) = Some (under_way_of j.line j.operation j.distributor (progress_of j.phase) j.left)
+
+abbrev pub value_of : Work → List Fate → List Fate → Bool → LaneValue
+value_of w given planned takes_plans = record {
+  lane = w.state.lane;
+  rules = w.state.rules;
+  journal = journal_of w.state;
+  given = given;
+  planned = planned;
+  takes_plans = takes_plans;
+  has_room = w.has_room;
+  under_way = under_way_in w.job;
+}
+
+-- a relation of the lane's values, whatever its carrier
+abbrev pub OfValues : (LaneValue → LaneValue → Type 0) → Work → Work → Type 0
+OfValues R old new = (given planned : List Fate) (takes_plans : Bool) → R (value_of old given planned takes_plans) (value_of new given planned takes_plans)
+
+abbrev pub SameValue : Work → Work → Type 0
+SameValue old new = OfValues (λ a b. b ≡ a) old new
+
+-- ---- the operation under way
+
+-- the job of an operation that was begun and for which nothing was done
+abbrev pub new_job : ℕ → Operation → ℕ → Option Stamp → Job
+new_job line o d stamp = record { line = line; operation = o; key = keys.key_of o.id; distributor = d; stamp = stamp; left = 65; phase = Begun }
+
+-- nothing was asked for it, and no round begun
+pub record IsUntouched (H : Journal) (line v : ℕ) : Type 0 where
+  pub unprepared : prepared line H ≡ None
+  pub unwritten : wrote line H ≡ false
+  pub unasked : (n : ℕ) → WasAskedIn H line v n → ⊥
+  pub no_round : (b : Low) → round_of v b H ≡ round_of v b (before_line line H)
+
+-- where it is acknowledged, these members of its row are those that answered its Store
+pub record IsAnswered (H : Journal) (j : Job) (s : ClusterState) (stamp : Stamp) (answered : ℕ) : Type 0 where
+  pub stamped : j.stamp ≡ Some stamp
+  pub opened_is : opened s.version H ≡ true
+  pub answers : (n : ℕ) → complete s.version n (key_of j.operation.id) H ≡ true → has_node answered n ≡ answered_store s.version j.operation.id stamp n H
+
+abbrev pub MayMark : Journal → Job → ClusterState → ℕ → Outcome → Type 0
+MayMark H j s answered (Acked stamp) = IsAnswered H j s stamp answered
+MayMark H j s answered _ = Unit {0}
+
+pub record IsOver (lane : Low) (rules : Rules) (J : List LaneEvent) (j : Job) (s : ClusterState) (outcome told : Outcome) (answered : ℕ) : Type 0 where
+  pub wanted : IsEnd lane rules j.line j.operation J outcome
+  pub same : told ≡ outcome
+  pub legal : IsLegalStep (setting_of lane rules) J (Closed j.line outcome)
+  pub marks : MayMark (history J) j s answered outcome
+
+-- the machine stands as the journal says, and has no more messages left than calls
+pub record IsPrepared (lane : Low) (rules : Rules) (J : List LaneEvent) (j : Job) (s : ClusterState) (row : Low) (written : Bool) (t : Standing) : Type 0 where
+  pub entry : Option Entry
+  pub stands : Stands lane rules J j.line j.operation j.distributor s row entry t
+  pub same_stamp : t.plan.stamp ≡ j.stamp
+  pub written_is : written ≡ is_some entry
+
+abbrev pub PhaseKeeps : Low → Rules → List LaneEvent → Job → ClusterState → Phase → Type 0
+PhaseKeeps lane rules J j s Begun = IsUntouched (history J) j.line s.version × (is_some j.stamp ≡ not (is_get j.operation.kind))
+PhaseKeeps lane rules J j s (Prepared machine row written) = IsPrepared lane rules J j s row written machine
+PhaseKeeps lane rules J j s (Over outcome told answered) = IsOver lane rules J j s outcome told answered
+PhaseKeeps lane rules J j s Short = Unit {0}
+
+pub record IsJob (lane : Low) (rules : Rules) (J : List LaneEvent) (j : Job) : Type 0 where
+  pub state : ClusterState
+  pub acting : IsActing lane J j.distributor state
+  pub under_way : IsUnderWay lane (history J) j.distributor state j.line j.operation j.stamp
+  pub key_is : j.key ≡ keys.key_of j.operation.id
+  pub key_in : IsIn lane (key_of j.operation.id)
+  pub own : IsOwn j.operation.id j.operation.kind
+  pub plain : IsPlainGet j.operation
+  pub phase_is : PhaseKeeps lane rules J j state j.phase
+
+abbrev pub JobKeeps : Low → Rules → List LaneEvent → Option Job → Type 0
+JobKeeps lane rules J None = AllClosed (history J)
+JobKeeps lane rules J (Some j) = IsJob lane rules J j
+
+-- it is over, or memory was wanted
+abbrev pub IsToClosePhase : Phase → Type 0
+IsToClosePhase Begun = ⊥
+IsToClosePhase (Prepared machine row written) = ⊥
+IsToClosePhase (Over outcome told answered) = Unit {0}
+IsToClosePhase Short = Unit {0}
+
+abbrev pub IsToClose : Option Job → Type 0
+IsToClose None = ⊥
+IsToClose (Some j) = IsToClosePhase j.phase
+
+-- the outcome of a phase that is to be closed, for the journal and for the caller, and who answered its Store
+abbrev pub PhaseEnds : Phase → Outcome → Outcome → ℕ → Type 0
+PhaseEnds Begun x y a = ⊥
+PhaseEnds (Prepared machine row written) x y a = ⊥
+PhaseEnds (Over outcome told answered) x y a = (x ≡ outcome) × ((y ≡ told) × (a ≡ answered))
+PhaseEnds Short x y a = (x ≡ NoMemory) × (y ≡ NoMemory)
+
+pub record IsEndedBy (j : Job) (line d key : ℕ) (outcome told : Outcome) (answered : ℕ) : Type 0 where
+  pub line_is : line ≡ j.line
+  pub distributor_is : d ≡ j.distributor
+  pub key_is : key ≡ j.key
+  pub ends : PhaseEnds j.phase outcome told answered
+
+-- ---- the lane
+
+-- each message still had just the events of its fate
+abbrev pub StaysCarried : LaneState → LaneState → Type 0
+StaysCarried old new = (given : List Fate) → IsCarriedBy old given → IsCarriedBy new given
+
+abbrev pub count_of : BTreeMap ℕ ℕ → ℕ → ℕ
+count_of counts v = count_at (tree.get nat_cmp counts) v
+
+-- the counts once a stamp was drawn, which is its version's next, or none was
+abbrev pub count_after : Option Stamp → (ℕ → ℕ) → ℕ → ℕ
+count_after None counts v = counts v
+count_after (Some s) counts v = if s.version == v then s.count else counts v
+
+abbrev pub one_if : Bool → ℕ
+one_if b = if b then 1 else 0
+
+pub record IsWork (w : Work) : Type 0 where
+  pub set_up : IsSetUp w.state.lane w.state.rules
+  pub kept : IsKept w.state
+  pub room : HasRoom 0 w.state
+  -- there is room for a publication, and for the close of the operation
+  pub spare_is : w.state.spare ≡ one_if w.has_room + one_if (is_some w.job)
+  pub resting : AreResting w.state
+  pub newest_is : w.state.newest ≡ last_state (journal_of w.state)
+  pub counts_are : (v : ℕ) → count_of w.drawn v ≡ stamps_of v (history (journal_of w.state))
+  pub no_round : (v : ℕ) (b : Low) → running v b (history (journal_of w.state)) ≡ false
+  pub job_is : JobKeeps w.state.lane w.state.rules (journal_of w.state) w.job

@@ -1,0 +1,64 @@
+use bucket_ids::Bucket;
+use messages::{Operation, Outcome};
+use node_sets::NodeSet;
+use op_machine::OpMachine;
+use stamps::Stamp;
+
+/// How far the operation is that is under way.
+#[derive(Clone, Copy, Debug, PartialEq, Eq)]
+pub enum Progress {
+    /// It wants something more.
+    Runs,
+    /// It wants nothing but its end.
+    Over,
+    /// Memory was wanted.
+    Short,
+}
+
+/// What a lane says of the operation that is under way there.
+#[derive(Drop)]
+pub struct UnderWay {
+    pub line: u32,
+    pub operation: Operation,
+    /// The distributor at which it was begun.
+    pub distributor: u8,
+    pub progress: Progress,
+    /// So many calls of `advance` at most are still to come.
+    pub left: u8,
+}
+
+/// What was done of an operation.
+#[derive(Drop)]
+pub enum Phase {
+    /// It was begun.
+    Begun,
+    /// It is prepared in a row; its entry may be written.
+    Prepared {
+        machine: OpMachine,
+        row: Bucket,
+        written: bool,
+    },
+    /// It is over, with an outcome for the journal and one for the caller; these answered its Store.
+    Over {
+        outcome: Outcome,
+        told: Outcome,
+        answered: NodeSet,
+    },
+    /// Memory was wanted.
+    Short,
+}
+
+/// The operation under way, as its lane keeps it.
+#[derive(Drop)]
+pub struct Job {
+    pub line: u32,
+    pub operation: Operation,
+    /// The key of its document.
+    pub key: u64,
+    /// The owner, where it was begun.
+    pub distributor: u8,
+    /// The stamp that it drew; none for a get.
+    pub stamp: Option<Stamp>,
+    pub left: u8,
+    pub phase: Phase,
+}

@@ -1,0 +1,177 @@
+ghost use Rattle.std.specs.Prelude.{◌≡◌, ◌≢◌, ℕ, ◌≤◌, ◌<◌, ◌^◌, [], ◌∷◌, Bool, true, false, None, Some, IsSome, IfSome, IfOk, OnOk, OnErr, option_map};
+ghost use Rattle.std.specs.Option.{option_copied};
+ghost use Rattle.bucket_ids.specs.Buckets.{IsIn};
+ghost use Rattle.cluster_states.specs.Publishing.{publish_fault};
+ghost use Rattle.carriers.specs.Fates.{planned_with};
+ghost use Rattle.op_machine.specs.Plans.{IsOwn};
+ghost use Rattle.lane_journals.specs.Buckets.{key_of};
+ghost use Rattle.lane_journals.specs.Readers.{held};
+ghost use Rattle.lane_journals.specs.Meanings.{history, entry_at};
+ghost use Rattle.lane_journals.specs.Places.{told};
+ghost use Rattle.lane_journals.specs.KeptJournals.{past};
+ghost use Rattle.lane_journals.specs.declared.event.LaneEvent.TheVariants as event;
+ghost use Rattle.node_journals.specs.NodeKeeping.{NodeKeeps};
+ghost use Rattle.lane_keeping.specs.LaneKeeping.{setting_of};
+ghost use Rattle.lane_operations.specs.OperationKeeping.{IsFresh, IsPlainGet};
+ghost use Rattle.lane_core.specs.Growing.{heard_next};
+ghost use Rattle.lane_core.specs.LaneValues.{LaneValue, IsSetUp, new_value, IsLaneValue, last_state, IsBeginning, IsAdvance, IsAt, MayClose, IsOutcome, closed_by, node_or_new, HasEntries, HasRows};
+ghost use Rattle.lane_core.specs.declared.job.Progress.TheVariants as progress;
+
+use crate::answers::{Advance, Begin};
+use crate::work::Work;
+use bucket_db::Row;
+use bucket_ids::Bucket;
+use carriers::{Carrier, Fate};
+use cluster_states::ClusterState;
+use distributor_part::Rules;
+use entry_maps::Entry;
+use lane_journals::LaneEvent;
+use messages::{Operation, Outcome};
+use service_layer::NodePart;
+use stamps::Stamp;
+use std::alloc::Global;
+use std::marker::Model;
+use value_lists::NoMemory;
+
+/// A lane: its journal and what it says, the carrier of its messages, and the operation under way. One
+/// operation is under way at a time; with several feeders there will be more.
+#[derive(Drop)]
+pub struct Lane<C: Carrier + Drop> {
+    work: Work,
+    carrier: C,
+}
+
+impl<C: Carrier + Drop> Model for Lane<C> {
+    ghost use Rattle.lane_core.specs.LaneValues.{LaneValue, lane_code};
+    ghost use Rattle.lane_core.specs.Works.{value_of};
+    ghost use Rattle.lane_core.specs.LaneInside.{IsLane};
+
+    ghost Value = { LaneValue };
+
+    ghost coded = { lane_code };
+
+    ghost view = { λ l. value_of l.work (C.given l.carrier) (C.planned l.carrier) (C.takes_plans l.carrier) };
+
+    ghost invariant = { λ l. IsLane l.work (C.given l.carrier) };
+}
+
+impl<C: Carrier + Drop> Lane<C> {
+    /// A lane in which nothing happened, of this number among those of so many bits; takes no memory.
+    pub fn new(alloc: Global, lane: u8, bits: u8, rules: Rules, carrier: C) -> Lane<C>
+        requires set_up { IsSetUp (record { bits = bits; low = lane }) rules }
+        requires unused { C.given carrier ≡ [] }
+        ensures { result ≡ new_value (record { bits = bits; low = lane }) rules [] (C.planned carrier) (C.takes_plans carrier) }
+    {
+        Lane {
+            work: Work::new(alloc, Bucket::new(bits, u64::from(lane)), rules),
+            carrier,
+        }
+    }
+
+    // ---- states
+
+    /// Makes room for one publication. The only error is want of memory.
+    pub fn room(&mut self) -> Result<(), NoMemory>
+        ensures ok { OnOk result (self.new ≡ record self.old { has_room = true }) }
+        ensures err { OnErr result (self.new ≡ self.old) }
+    {
+        self.work.room()
+    }
+
+    /// Publishes a state; takes no memory. Room was made for it since the last one.
+    pub fn publish(&mut self, state: &ClusterState)
+        requires idle { self.old.under_way ≡ None }
+        requires room { self.old.has_room ≡ true }
+        requires accepted { publish_fault (told (setting_of self.old.lane self.old.rules) self.old.journal) state.now
+            ≡ None }
+        ensures { self.new
+            ≡ record self.old { journal = event.Published state.now ∷ self.old.journal; has_room = false } }
+    {
+        self.work.publish(state);
+    }
+
+    /// A distributor hears the newest state, where it holds none or an older one; answers its version.
+    pub fn hear(&mut self, distributor: u8) -> Result<u32, NoMemory>
+        requires idle { self.old.under_way ≡ None }
+        requires published { IsSome (last_state self.old.journal) }
+        requires number { distributor < 32 }
+        ensures version { IfOk result (λ version. IfSome (last_state self.old.journal) (λ s. version ≡ s.version)) }
+        ensures heard { OnOk result (self.new
+            ≡ record self.old { journal = heard_next distributor (last_state self.old.journal) self.old.journal }) }
+        ensures err { OnErr result (self.new ≡ self.old) }
+    {
+        self.work.hear(distributor)
+    }
+
+    // ---- one operation
+
+    /// Begins the operation of a line at a distributor, which draws its stamp; refused exactly where that
+    /// distributor doesn't own the lane under the state that it holds. Room is made for its close.
+    pub fn begin(&mut self, line: u32, operation: &Operation, via: u8) -> Begin
+        requires idle { self.old.under_way ≡ None }
+        requires line { 1 ≤ line }
+        requires fresh { IsFresh (history self.old.journal) line }
+        requires number { via < 32 }
+        requires holds { IsSome (held via (history self.old.journal)) }
+        requires in_lane { IsIn self.old.lane (key_of operation.now.id) }
+        requires own { IsOwn operation.now.id operation.now.kind }
+        requires plain { IsPlainGet operation.now }
+        ensures { IsBeginning line operation.now via self.old self.new result }
+    {
+        self.work.begin(line, operation, via)
+    }
+
+    /// Closes the operation, which is over or wanted memory; takes no memory.
+    pub fn close(&mut self, line: u32) -> Outcome
+        requires { MayClose line self.old.under_way }
+        ensures outcome { IsOutcome self.old.under_way self.old result }
+        ensures after { self.new ≡ closed_by result self.old }
+    {
+        self.work.close()
+    }
+
+    // ---- the carrier
+
+    /// Plans the fates of the coming messages, behind those that are planned; `false` exactly where the
+    /// carrier takes no plans. The only error is want of memory.
+    pub fn plan(&mut self, fates: &[Fate]) -> Result<bool, NoMemory>
+        ensures taken { IfOk result (λ taken. taken ≡ self.old.takes_plans) }
+        ensures ok { IfOk result (λ taken. self.new
+            ≡ record self.old { planned = planned_with taken self.old.planned fates.now }) }
+        ensures err { OnErr result (self.new ≡ self.old) }
+    {
+        self.carrier.plan(fates)
+    }
+
+    // ---- what it has
+
+    /// The events, oldest first. They are a legal journal, each message had just the events of its fate,
+    /// and each line that was begun is closed but for the one under way.
+    pub fn journal(&self) -> &[LaneEvent]
+        ensures events { past result.now ≡ self.now.journal }
+        ensures lane { IsLaneValue self.now }
+    {
+        &self.work.state.journal
+    }
+
+    /// A node's part, which is what the journal says of it; one that isn't there took no message.
+    pub fn node(&self, number: u8) -> Option<&NodePart>
+        ensures { NodeKeeps self.now.journal number (node_or_new (option_copied result)) }
+    {
+        self.work.state.node_at(number)
+    }
+
+    /// How many entries the node holds, removes among them.
+    pub fn entries_at(&self, node: u8) -> u64
+        ensures { HasEntries self.now.journal node result }
+    {
+        self.work.state.entries_at(node)
+    }
+
+    /// The rows of a distributor in rising bucket number; none before it opened its state.
+    pub fn rows(&self, distributor: u8) -> &[Row]
+        ensures { HasRows self.now.lane self.now.rules self.now.journal distributor result.now }
+    {
+        self.work.state.rows_at(distributor)
+    }
+}

@@ -1,0 +1,400 @@
+ghost use Rattle.std.specs.Prelude.{◌≡◌, ◌≤◌, ◌<◌, ◌+◌, ◌∷◌, ℕ, true, false, None, OnOk, OnErr, IfOk, length, vec_len, vec_capacity};
+ghost use Rattle.carriers.specs.declared.fate.Fate.TheVariants as fate;
+ghost use Rattle.messages.specs.Noting.{noted_body};
+ghost use Rattle.op_machine.specs.Outcomes.{Asks, message_in};
+ghost use Rattle.op_machine.specs.Standings.{next_at};
+ghost use Rattle.late_messages.specs.Waiting.{AreSentBefore};
+ghost use Rattle.lane_journals.specs.KeptJournals.{IsLegalStep};
+ghost use Rattle.lane_journals.specs.declared.event.LaneEvent.TheVariants as event;
+ghost use Rattle.lane_carriage.specs.Carriage.{IsDealt};
+ghost use Rattle.lane_carriage.specs.Waits.{kept_by};
+ghost use Rattle.node_journals.specs.Flights.{IsInFlight};
+ghost use Rattle.lane_keeping.specs.LaneKeeping.{setting_of};
+ghost use Rattle.lane_keeping.specs.Asking.{IsJustSent};
+ghost use Rattle.lane_core.specs.LaneStates.{journal_of, IsKept, HasRoom, IsCarriedBy};
+ghost use Rattle.lane_core.specs.Steps.{HearsIn, IsToWrite, IsToSend, IsReady, WritesOn, SendsIn, SentIn, IsPreparedIn, StandsOn, GoesIn, RunsIn, IsTold, TellsOne, StandsIn, IsQuiet, IsPhaseOf, ComesTo, IsToStep, JobLasts, AdvancesBy};
+ghost use Rattle.lane_core.specs.Works.{StaysCarried, IsWork};
+
+use crate::answers::Advance;
+use crate::job::{Job, Phase};
+use crate::lane_state::{LaneState, push_within};
+use crate::work::{Work, put_job};
+use bucket_ids::Bucket;
+use carriers::{Carrier, Fate};
+use entry_maps::Entry;
+use lane_carriage::laws::late_messages_wait;
+use lane_journals::LaneEvent;
+use lane_keeping::laws::events_are_kept;
+use lane_operations::laws::{
+    operations_end, operations_hear, operations_send, operations_shorten, operations_write,
+};
+use messages::{Body, Message, NotedBody};
+use node_journals::laws::messages_fly;
+use op_machine::OpMachine;
+use std::alloc::Global;
+use value_lists::{NoMemory, TryCopy};
+
+/// The phase that a call comes to, and what it answers.
+struct Stepped {
+    phase: Phase,
+    answer: Advance,
+}
+
+/// How an operation stands after a message, or where none was left: over where its machine has an outcome.
+fn phase_of(alloc: Global, row: Bucket, written: bool, machine: OpMachine) -> Stepped
+    ensures { IsPhaseOf row written machine result.phase result.answer }
+{
+    let Some(outcome) = machine.outcome() else {
+        return Stepped {
+            phase: Phase::Prepared {
+                machine,
+                row,
+                written,
+            },
+            answer: Advance::More,
+        };
+    };
+    match (outcome.copy(alloc), outcome.copy(alloc)) {
+        (Ok(outcome), Ok(told)) => Stepped {
+            phase: Phase::Over {
+                outcome,
+                told,
+                answered: machine.stored(),
+            },
+            answer: Advance::Done,
+        },
+        _ => Stepped {
+            phase: Phase::Short,
+            answer: Advance::NoMemory,
+        },
+    }
+}
+
+impl LaneState {
+    /// Notes that a line writes an entry, which may come next. The only error is want of memory.
+    fn write_entry(&mut self, line: u32, entry: &Entry) -> Result<(), NoMemory>
+        requires keeps { IsKept self.old }
+        requires spare { HasRoom 0 self.old }
+        requires legal { IsLegalStep (setting_of self.old.lane self.old.rules) (journal_of self.old)
+            (event.Wrote line entry.now) }
+        ensures keeps { IsKept self.new }
+        ensures spare { HasRoom 0 self.new }
+        ensures grows { OnOk result (journal_of self.new ≡ event.Wrote line entry.now ∷ journal_of self.old) }
+        ensures err { OnErr result (journal_of self.new ≡ journal_of self.old) }
+        ensures after { self.new ≡ record self.old { journal = self.new.journal } }
+    {
+        let entry = entry.copy(self.alloc)?;
+        self.journal.reserve(1 + self.spare)?;
+        self.note(LaneEvent::Wrote { line, entry });
+        Ok(())
+    }
+
+    /// Writes the entry of the message that comes next, if that is a Store and nothing is written yet; answers
+    /// whether an entry is written. The only error is want of memory.
+    fn write_wanted(
+        &mut self,
+        line: u32,
+        written: bool,
+        message: &Message,
+    ) -> Result<bool, NoMemory>
+        requires keeps { IsKept self.old }
+        requires spare { HasRoom 0 self.old }
+        requires wants { IsToWrite self.old line written message.now }
+        ensures keeps { IsKept self.new }
+        ensures spare { HasRoom 0 self.new }
+        ensures ready { IfOk result (λ now. IsReady now message.now.body) }
+        ensures writes { IfOk result (λ now. WritesOn self.old self.new line written now message.now) }
+        ensures carried { StaysCarried self.old self.new }
+        ensures quiet { IsQuiet (journal_of self.old) (journal_of self.new) }
+        ensures err { OnErr result (journal_of self.new ≡ journal_of self.old) }
+        ensures after { self.new ≡ record self.old { journal = self.new.journal } }
+    {
+        operations_write();
+        match &message.body {
+            Body::Store { entry } => {
+                if written {
+                    return Ok(true);
+                }
+                self.write_entry(line, entry)?;
+                Ok(true)
+            }
+            Body::Ask
+            | Body::Read { .. }
+            | Body::Apply { .. }
+            | Body::Delete { .. }
+            | Body::Split { .. }
+            | Body::Join { .. }
+            | Body::Ready { .. }
+            | Body::Activate { .. } => Ok(written),
+        }
+    }
+
+    /// Delivers the message of an operation, notes that its reply is returned, and tells the machine. The only
+    /// error is want of memory, and then the machine isn't told.
+    fn bring_back_operation(
+        &mut self,
+        machine: &mut OpMachine,
+        number: u64,
+        message: &Message,
+    ) -> Result<(), NoMemory>
+        requires keeps { IsKept self.old }
+        requires just { IsJustSent (journal_of self.old) number message.now }
+        requires next { next_at machine.old ≡ Asks message.now }
+        requires node { message.now.receiver < vec_len self.old.nodes }
+        requires room { vec_len self.old.journal + 2 ≤ vec_capacity self.old.journal }
+        ensures keeps { IsKept self.new }
+        ensures dealt { IsDealt fate.Deliver number (journal_of self.old) (journal_of self.new) }
+        ensures flight { IsInFlight (journal_of self.new) number message.now }
+        ensures stands { OnOk result (HearsIn self.old self.new number message.now machine.old machine.new) }
+        ensures told { OnOk result (IsTold message.now machine.old machine.new) }
+        ensures after { self.new ≡ record self.old { journal = self.new.journal; nodes = self.new.nodes } }
+        ensures nodes { vec_len self.new.nodes ≡ vec_len self.old.nodes }
+        ensures len { vec_len self.new.journal ≡ vec_len self.old.journal + 2 }
+        ensures capacity { vec_capacity self.old.journal ≤ vec_capacity self.new.journal }
+    {
+        events_are_kept();
+        messages_fly();
+        operations_hear();
+        let reply = self.deliver(number, message);
+        push_within(&mut self.journal, LaneEvent::Returned { number });
+        machine.answer(self.alloc, message.receiver, Some(&reply))
+    }
+
+    /// Tells the machine that no reply to its message comes. The only error is want of memory.
+    fn bring_none_operation(
+        &self,
+        machine: &mut OpMachine,
+        message: &Message,
+    ) -> Result<(), NoMemory>
+        requires keeps { IsKept self.now }
+        requires next { next_at machine.old ≡ Asks message.now }
+        ensures stands { OnOk result
+            ((number : ℕ) → HearsIn self.now self.now number message.now machine.old machine.new) }
+        ensures told { OnOk result (IsTold message.now machine.old machine.new) }
+    {
+        operations_hear();
+        machine.answer(self.alloc, message.receiver, None)
+    }
+
+    /// Deals with the message of an operation that was just sent, by its fate; the machine is told the reply, or
+    /// that none comes. There is room for its events, and a place for a late message. The only error is want of
+    /// memory, and then the machine isn't told.
+    fn deal_operation(
+        &mut self,
+        machine: &mut OpMachine,
+        fate: Fate,
+        message: Message,
+    ) -> Result<(), NoMemory>
+        requires keeps { IsKept self.old }
+        requires just { IsJustSent (journal_of self.old) self.old.last message }
+        requires before { AreSentBefore self.old.last self.old.late.late }
+        requires next { next_at machine.old ≡ Asks message }
+        requires node { message.receiver < vec_len self.old.nodes }
+        requires room { vec_len self.old.journal + 3 ≤ vec_capacity self.old.journal }
+        requires place { self.old.late.room ≡ true }
+        ensures keeps { IsKept self.new }
+        ensures dealt { IsDealt fate self.old.last (journal_of self.old) (journal_of self.new) }
+        ensures late { self.new.late.late ≡ kept_by fate self.old.last message self.old.late.late }
+        ensures stands { OnOk result (HearsIn self.old self.new self.old.last message machine.old machine.new) }
+        ensures told { OnOk result (IsTold message machine.old machine.new) }
+        ensures after { self.new ≡ record self.old {
+          journal = self.new.journal;
+          nodes = self.new.nodes;
+          late = self.new.late;
+        } }
+        ensures nodes { vec_len self.new.nodes ≡ vec_len self.old.nodes }
+        ensures len { vec_len self.new.journal + length self.new.late.late
+            ≤ vec_len self.old.journal + length self.old.late.late + 3 }
+        ensures capacity { vec_capacity self.old.journal ≤ vec_capacity self.new.journal }
+    {
+        let number = self.last;
+        match fate {
+            Fate::Deliver => self.bring_back_operation(machine, number, &message),
+            Fate::LoseRequest => self.bring_none_operation(machine, &message),
+            Fate::LoseReply => {
+                self.deliver(number, &message);
+                self.bring_none_operation(machine, &message)
+            }
+            Fate::Twice => {
+                let told = self.bring_back_operation(machine, number, &message);
+                self.deliver(number, &message);
+                told
+            }
+            Fate::Late(later) => {
+                let told = self.bring_none_operation(machine, &message);
+                self.keep_late(later, message);
+                told
+            }
+        }
+    }
+
+    /// Sends the message that comes next, for which there is room, and deals with it by its fate; the late
+    /// messages that are due then are delivered. The only error is want of memory, and then the machine isn't told.
+    fn send_operation<C: Carrier>(
+        &mut self,
+        machine: &mut OpMachine,
+        message: Message,
+        carrier: &mut C,
+        body: NotedBody,
+    ) -> Result<(), NoMemory>
+        requires keeps { IsKept self.old }
+        requires carried { IsCarriedBy self.old (C.given carrier.old) }
+        requires sends { IsToSend self.old message }
+        requires next { next_at machine.old ≡ Asks message }
+        requires noted { body ≡ noted_body message.body }
+        requires room { HasRoom (length self.old.late.late + 4) self.old }
+        requires node { message.receiver < vec_len self.old.nodes }
+        requires place { self.old.late.room ≡ true }
+        ensures keeps { IsKept self.new }
+        ensures spare { HasRoom 0 self.new }
+        ensures carried { IsCarriedBy self.new (C.given carrier.new) }
+        ensures quiet { IsQuiet (journal_of self.old) (journal_of self.new) }
+        ensures runs { SendsIn self.old self.new message machine.old }
+        ensures stands { OnOk result (SentIn self.old self.new message machine.old machine.new) }
+        ensures told { OnOk result (IsTold message machine.old machine.new) }
+        ensures after { self.new ≡ record self.old {
+          journal = self.new.journal;
+          last = self.new.last;
+          nodes = self.new.nodes;
+          late = self.new.late;
+        } }
+    {
+        late_messages_wait();
+        operations_send();
+        self.send_message(&message, body);
+        let fate = carrier.fate(self.last);
+        let told = self.deal_operation(machine, fate, message);
+        self.deliver_due();
+        told
+    }
+
+    /// Sends the next message of an operation that is prepared, if one is left, and deals with it; the entry of
+    /// a Store is written before. Answers whether one was left. The only error is want of memory, and then nothing
+    /// more is known of the operation than that it is under way.
+    pub fn send_next<C: Carrier>(
+        &mut self,
+        line: u32,
+        written: &mut bool,
+        machine: &mut OpMachine,
+        carrier: &mut C,
+    ) -> Result<bool, NoMemory>
+        requires keeps { IsKept self.old }
+        requires spare { HasRoom 0 self.old }
+        requires carried { IsCarriedBy self.old (C.given carrier.old) }
+        requires stands { IsPreparedIn self.old line written.old machine.old }
+        ensures keeps { IsKept self.new }
+        ensures spare { HasRoom 0 self.new }
+        ensures carried { IsCarriedBy self.new (C.given carrier.new) }
+        ensures quiet { IsQuiet (journal_of self.old) (journal_of self.new) }
+        ensures run { RunsIn self.old self.new line machine.old }
+        ensures going { GoesIn self.new line machine.old.plan }
+        ensures stands { OnOk result (StandsOn self.old self.new line written.old written.new machine.old machine.new) }
+        ensures told { IfOk result (λ more. more ≡ true → TellsOne machine.old machine.new) }
+        ensures over { IfOk result (λ more. more ≡ false → message_in (next_at machine.new) ≡ None) }
+        ensures same { IfOk result (λ more. more ≡ false → machine.new ≡ machine.old) }
+        ensures after { self.new ≡ record self.old {
+          journal = self.new.journal;
+          last = self.new.last;
+          nodes = self.new.nodes;
+          late = self.new.late;
+        } }
+    {
+        let Some(message) = machine.send(self.alloc)? else {
+            return Ok(false);
+        };
+        let body = message.body.noted(self.alloc)?;
+        let ready = self.write_wanted(line, *written, &message)?;
+        *written = ready;
+        self.room_for_message(message.receiver)?;
+        self.send_operation(machine, message, carrier, body)?;
+        Ok(true)
+    }
+
+    /// Sends the next message of an operation that is prepared, if one is left, and says what it comes to.
+    fn step_phase<C: Carrier>(
+        &mut self,
+        line: u32,
+        row: Bucket,
+        written: bool,
+        machine: OpMachine,
+        carrier: &mut C,
+    ) -> Stepped
+        requires keeps { IsKept self.old }
+        requires spare { HasRoom 0 self.old }
+        requires carried { IsCarriedBy self.old (C.given carrier.old) }
+        requires stands { StandsIn self.old line row written machine }
+        ensures keeps { IsKept self.new }
+        ensures spare { HasRoom 0 self.new }
+        ensures carried { IsCarriedBy self.new (C.given carrier.new) }
+        ensures quiet { IsQuiet (journal_of self.old) (journal_of self.new) }
+        ensures run { RunsIn self.old self.new line machine }
+        ensures going { GoesIn self.new line machine.plan }
+        ensures comes { ComesTo self.new line row machine result.phase result.answer }
+        ensures after { self.new ≡ record self.old {
+          journal = self.new.journal;
+          last = self.new.last;
+          nodes = self.new.nodes;
+          late = self.new.late;
+        } }
+    {
+        operations_shorten();
+        let mut written = written;
+        let mut machine = machine;
+        match self.send_next(line, &mut written, &mut machine, carrier) {
+            Ok(_) => phase_of(self.alloc, row, written, machine),
+            Err(NoMemory) => Stepped {
+                phase: Phase::Short,
+                answer: Advance::NoMemory,
+            },
+        }
+    }
+}
+
+impl Work {
+    /// One call of an operation that is prepared: its next message is sent and dealt with. It takes memory.
+    pub fn step<C: Carrier>(&mut self, carrier: &mut C) -> Advance
+        requires keeps { IsWork self.old }
+        requires carried { IsCarriedBy self.old.state (C.given carrier.old) }
+        requires prepared { IsToStep self.old.job }
+        ensures keeps { IsWork self.new }
+        ensures carried { IsCarriedBy self.new.state (C.given carrier.new) }
+        ensures advances { AdvancesBy self.old self.new (C.given carrier.old) (C.given carrier.new) result }
+        ensures lasts { JobLasts self.new.job }
+    {
+        operations_end();
+        let Some(job) = self.job.take() else {
+            unreachable!();
+        };
+        let Job {
+            line,
+            operation,
+            key,
+            distributor,
+            stamp,
+            left,
+            phase,
+        } = job;
+        let Phase::Prepared {
+            machine,
+            row,
+            written,
+        } = phase
+        else {
+            unreachable!();
+        };
+        let Stepped { phase, answer } = self.state.step_phase(line, row, written, machine, carrier);
+        put_job(
+            &mut self.job,
+            Job {
+                line,
+                operation,
+                key,
+                distributor,
+                stamp,
+                left: left - 1,
+                phase,
+            },
+        );
+        answer
+    }
+}

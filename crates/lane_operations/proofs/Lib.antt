@@ -1,0 +1,14 @@
+pub mod Plain
+pub mod Lines
+pub mod Counting
+pub mod Judged
+pub mod Messages
+pub mod Ending
+pub mod Preparing
+pub mod Opening
+pub mod Waiting
+pub mod Sending
+pub mod Hearing
+pub mod Told
+pub mod Agreeing
+pub mod Left

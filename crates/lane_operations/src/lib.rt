@@ -1,0 +1,19 @@
+//! What is known of the operation that is under way in a lane, over each event; a crate of laws.
+//!
+//! One operation is under way in a lane at a time. From its Begun on it isn't prepared yet
+//! (`KnowsPreparing` in `specs/OperationKeeping.antt`); once it is, `KnowsOperation` says that what its
+//! machine was told (`op_machine`) is what the journal shows: which nodes were sent a Read and a Store, who
+//! answered, which entry was seen newest, and whether its entry is written. So each message, the entry and
+//! the outcome that the machine gives next may come next in the journal. While a message is on its way,
+//! `KnowsAsked` says the same of all others.
+//!
+//! ```text
+//! operations_begin();     // Begun; lines_are_refused() where another distributor owns the lane
+//! operations_prepare();   // Prepared, once the row has enough complete members
+//! operations_send();      // a Read or a Store of the entry that was written (operations_write)
+//! operations_hear();      // its answer is told, or that none came
+//! operations_end();       // Closed, with the outcome of the machine; preparing_ends() before that
+//! ```
+#![tactic(auto)]
+
+pub mod laws;
