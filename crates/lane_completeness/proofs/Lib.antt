@@ -1,0 +1,15 @@
+pub mod Replies
+pub mod Additions
+pub mod Runs
+pub mod Hearing
+pub mod Opening
+pub mod Sizes
+pub mod Ideal
+pub mod Receivers
+pub mod Spent
+pub mod Since
+pub mod Short
+pub mod Stores
+pub mod Operations
+pub mod Completeness
+pub mod Carried

@@ -1,0 +1,140 @@
+-- What an undisturbed line does with a row: its newest round is an old one, is under way, or is spent.
+use Rattle.std.proofs.Common.{◌≡◌, ℕ, ◌+◌, ◌<◌, Bool, true, false, cond, List, ◌∷◌, Option, Some, None, inl, inr, refl, sym, ◌∙◌, subst, arith, eqb}
+use mathlib.Core.Bool.{true≢false}
+use Rattle.std.proofs.lemmas.Bool.{eqb-true}
+use Rattle.bucket_ids.specs.Buckets.{Low}
+use Rattle.stamps.specs.declared.stamp.Stamp.{Stamp}
+use Rattle.cluster_states.specs.declared.cluster_state.ClusterState.{ClusterState}
+use Rattle.messages.specs.declared.decision.Decision.TheVariants as choice
+use Rattle.messages.specs.declared.operation.Operation.{Operation}
+use Rattle.distributor_part.specs.declared.rules.Rules.{Rules}
+use Rattle.merge_rounds.specs.Rounds.{RoundState}
+use Rattle.lane_journals.specs.Buckets.{contains, same_bucket}
+use Rattle.lane_journals.specs.Readers.{Message, sent, rounds, round_of, running, complete}
+use Rattle.lane_journals.specs.States.{state_of}
+use Rattle.lane_journals.specs.Meanings.{history, nodes}
+use Rattle.lane_journals.specs.Places.{Setting}
+use Rattle.lane_journals.specs.KeptJournals.{IsLegal}
+use Rattle.lane_journals.specs.declared.event.LaneEvent.{LaneEvent}
+use Rattle.lane_journals.specs.declared.event.LaneEvent.TheVariants as event
+use Rattle.lane_journals.proofs.BucketLaws.{same_bucket-true}
+use Rattle.lane_journals.proofs.Meant.{meant-legal}
+use Rattle.lane_keeping.specs.LaneKeeping.{setting_of}
+use Rattle.lane_wants.specs.Wants.{IsCarriage, Same, More}
+use Rattle.lane_completeness.specs.Completeness.{HaveReturned, InTurn}
+use Rattle.lane_completeness.proofs.Replies.{IsNewest}
+use Rattle.lane_completeness.proofs.Additions.{Ending, Added, ASending, AnOpening, APreparing, AWriting, ARound, AnEnd, added}
+use Rattle.lane_completeness.proofs.Runs.{At, at, start, Run, later-round}
+use Rattle.lane_completeness.proofs.Spent.{Passes, IsSpent, spent-stays, ended}
+
+pub data RoundSince (v : ℕ) (J : List LaneEvent) (b : Low) (L : List LaneEvent) : Type 0 where
+  NotBegun : round_of v b (history L) ≡ round_of v b (history J) → RoundSince v J b L
+  UnderWay : rounds v (history J) < round_of v b (history L) → running v b (history L) ≡ true → RoundSince v J b L
+  Over : IsSpent v J (round_of v b (history L)) b L → RoundSince v J b L
+
+-- ---- events that pass
+
+-- another row's round, or another version's
+passes-begun : (v d w : ℕ) (b c : Low) (set : ℕ) (L : List LaneEvent) → (eqb w v ≡ true → same_bucket c b ≡ true → ⊥) → Passes v b L (event.Decided d w (choice.RoundBegun c set))
+passes-begun v d w b c set L other = by_tests (eqb w v) (same_bucket c b) refl refl
+  where
+    by_tests : (t u : Bool) → eqb w v ≡ t → same_bucket c b ≡ u → Passes v b L (event.Decided d w (choice.RoundBegun c set))
+    by_tests true true e f = absurd (other e f)
+    by_tests true false e f = record { state = refl; round = rw (e, f) refl; run = rw (e, f) refl; receivers = rw (e, f) refl; marks = λ n key h. h }
+    by_tests false u e f = record { state = refl; round = rw e refl; run = rw e refl; receivers = rw e refl; marks = λ n key h. h }
+
+marks-grow : (v w n key : ℕ) (c : Low) (set : ℕ) (L : List LaneEvent) → complete v n key (history L) ≡ true → cond (eqb w v) (cond (contains c key) (cond (nodes set n) true (complete v n key (history L))) (complete v n key (history L))) (complete v n key (history L)) ≡ true
+marks-grow v w n key c set L h = by_tests (eqb w v) (contains c key) (nodes set n)
+  where
+    by_tests : (t u x : Bool) → cond t (cond u (cond x true (complete v n key (history L))) (complete v n key (history L))) (complete v n key (history L)) ≡ true
+    by_tests true true true = refl
+    by_tests true true false = h
+    by_tests true false x = h
+    by_tests false u x = h
+
+passes-ended : (v d w : ℕ) (b c : Low) (set : ℕ) (L : List LaneEvent) → (eqb w v ≡ true → same_bucket c b ≡ true → ⊥) → Passes v b L (event.Decided d w (choice.RoundEnded c set))
+passes-ended v d w b c set L other = by_tests (eqb w v) (same_bucket c b) refl refl
+  where
+    by_tests : (t u : Bool) → eqb w v ≡ t → same_bucket c b ≡ u → Passes v b L (event.Decided d w (choice.RoundEnded c set))
+    by_tests true true e f = absurd (other e f)
+    by_tests true false e f = record { state = refl; round = refl; run = rw (e, f) refl; receivers = refl; marks = λ n key h. marks-grow v w n key c set L h }
+    by_tests false u e f = record { state = refl; round = refl; run = rw e refl; receivers = refl; marks = λ n key h. marks-grow v w n key c set L h }
+
+module _ (lane : Low) (rules : Rules) (line d v : ℕ) (o : Operation) (stamp : Option Stamp) (J : List LaneEvent) (newest : IsNewest v (history J)) (b : Low) where
+  abbrev S : Setting
+  S = setting_of lane rules
+
+  passes : (L : List LaneEvent) (e : LaneEvent) → IsLegal S (e ∷ L) → Passes v b L e → RoundSince v J b L → RoundSince v J b (e ∷ L)
+  passes L e l p (NotBegun h) = NotBegun (p.round ∙ h)
+  passes L e l p (UnderWay lt run) = UnderWay (subst (λ (i : ℕ). rounds v (history J) < i) (sym p.round) lt) (p.run ∙ run)
+  passes L e l p (Over sp) = Over (subst (λ (i : ℕ). IsSpent v J i b (e ∷ L)) (sym p.round) (spent-stays S.acks (state_of (history (e ∷ L))) v J (round_of v b (history L)) b L e (meant-legal S (e ∷ L) l) sp p))
+
+  module _ (L : List LaneEvent) (a : At lane rules line d v o stamp J L) (ih : RoundSince v J b L) where
+    -- a round begins in the row
+    begins : (e w : ℕ) (c : Low) (set : ℕ) → IsLegal S (event.Decided e w (choice.RoundBegun c set) ∷ L) → RoundSince v J b (event.Decided e w (choice.RoundBegun c set) ∷ L)
+    begins e w c set l = by_tests (eqb w v) (same_bucket c b) refl refl
+      where
+        number : eqb w v ≡ true → same_bucket c b ≡ true → round_of v b (history (event.Decided e w (choice.RoundBegun c set) ∷ L)) ≡ rounds v (history L) + 1
+        number f g = rw (f, g) refl
+
+        under-way : eqb w v ≡ true → same_bucket c b ≡ true → running v b (history (event.Decided e w (choice.RoundBegun c set) ∷ L)) ≡ true
+        under-way f g = rw (f, g) refl
+
+        by_tests : (t u : Bool) → eqb w v ≡ t → same_bucket c b ≡ u → RoundSince v J b (event.Decided e w (choice.RoundBegun c set) ∷ L)
+        by_tests true true f g = UnderWay (let m = a.more in let z = number f g in omega (arith, m, z)) (under-way f g)
+        by_tests true false f g = passes L _ l (passes-begun v e w b c set L (λ x y. true≢false (sym y ∙ g))) ih
+        by_tests false u f g = passes L _ l (passes-begun v e w b c set L (λ x y. true≢false (sym x ∙ f))) ih
+
+    -- one ends
+    ends : (all : HaveReturned (start lane rules line d v o stamp J) L) (e : ℕ) (s : ClusterState) (r : RoundState) → Ending lane L line o s r → IsLegal S (event.Decided e s.version (choice.RoundEnded r.row r.holders) ∷ L)
+        → RoundSince v J b (event.Decided e s.version (choice.RoundEnded r.row r.holders) ∷ L)
+    ends all e s r ending l = by_tests (eqb s.version v) (same_bucket r.row b) refl refl
+      where
+        after : List LaneEvent
+        after = event.Decided e s.version (choice.RoundEnded r.row r.holders) ∷ L
+
+        late : s.version ≡ v → (k : ℕ) (m : Message) → sent k (history L) ≡ Some m → m.version ≡ s.version → rounds s.version (history J) < m.round → sent k (history J) ≡ None
+        late under k m was at lt = later-round lane rules line d v o stamp J L a k m was (at ∙ under) (subst (λ (w : ℕ). rounds w (history J) < m.round) under lt)
+
+        spent : s.version ≡ v → r.row ≡ b → rounds v (history J) < round_of v b (history L) → IsSpent v J (round_of v b (history L)) b (event.Decided e s.version (choice.RoundEnded r.row r.holders) ∷ L)
+        spent under row lt =
+            let since : rounds s.version (history J) < round_of s.version r.row (history L) = subst (λ (w : ℕ). rounds w (history J) < round_of w r.row (history L)) (sym under) (subst (λ (c : Low). rounds v (history J) < round_of v c (history L)) (sym row) lt) in
+            let x = ended rules.acks (state_of (history L)) lane line o J L a.legal s r ending since (late under) all e in
+            subst (λ (c : Low). IsSpent v J (round_of v c (history L)) c (event.Decided e s.version (choice.RoundEnded r.row r.holders) ∷ L)) row
+            (subst (λ (w : ℕ). IsSpent w J (round_of w r.row (history L)) r.row (event.Decided e s.version (choice.RoundEnded r.row r.holders) ∷ L)) under x)
+
+        here : s.version ≡ v → r.row ≡ b → RoundSince v J b L → RoundSince v J b (event.Decided e s.version (choice.RoundEnded r.row r.holders) ∷ L)
+        here under row (NotBegun h) = NotBegun h
+        here under row (UnderWay lt run) = Over (spent under row lt)
+        here under row (Over sp) = absurd (true≢false (sym (subst (λ (c : Low). running v c (history L) ≡ true) row (subst (λ (w : ℕ). running w r.row (history L) ≡ true) under (ending.knows).under_way)) ∙ sp.over))
+
+        by_tests : (t u : Bool) → eqb s.version v ≡ t → same_bucket r.row b ≡ u → RoundSince v J b (event.Decided e s.version (choice.RoundEnded r.row r.holders) ∷ L)
+        by_tests true true f g = here (eqb-true s.version v f) (same_bucket-true r.row b g) ih
+        by_tests true false f g = passes L _ l (passes-ended v e s.version b r.row r.holders L (λ x y. true≢false (sym y ∙ g))) ih
+        by_tests false u f g = passes L _ l (passes-ended v e s.version b r.row r.holders L (λ x y. true≢false (sym x ∙ f))) ih
+
+    wants-on : (all : HaveReturned (start lane rules line d v o stamp J) L) (e : LaneEvent) → Added lane L line o e → IsLegal S (e ∷ L) → RoundSince v J b (e ∷ L)
+    wants-on all e (ASending number m) l = passes L _ l (record { state = refl; round = refl; run = refl; receivers = refl; marks = λ n key h. h }) ih
+    wants-on all e (AnOpening x w rows) l = passes L _ l (record { state = refl; round = refl; run = refl; receivers = refl; marks = λ n key h. h }) ih
+    wants-on all e (APreparing x row set) l = passes L _ l (record { state = refl; round = refl; run = refl; receivers = refl; marks = λ n key h. h }) ih
+    wants-on all e (AWriting x entry) l = passes L _ l (record { state = refl; round = refl; run = refl; receivers = refl; marks = λ n key h. h }) ih
+    wants-on all e (ARound x w row set) l = begins x w row set l
+    wants-on all e (AnEnd x s r ending) l = ends all x s r ending l
+
+    carried-on : (e : LaneEvent) → IsCarriage e → IsLegal S (e ∷ L) → RoundSince v J b (e ∷ L)
+    carried-on (event.Delivered n y) c l = passes L _ l (record { state = refl; round = refl; run = refl; receivers = refl; marks = λ n key h. h }) ih
+    carried-on (event.Returned n) c l = passes L _ l (record { state = refl; round = refl; run = refl; receivers = refl; marks = λ n key h. h }) ih
+    carried-on _ c l = absurd c
+
+  pub since : (L : List LaneEvent) → Run lane rules line d v o stamp J L → IsLegal S L → InTurn (start lane rules line d v o stamp J) L → RoundSince v J b L
+  since L Same l t = NotBegun refl
+  since L (More e K run w) l t = next (at lane rules line d v o stamp J K newest run l.0) (since K run l.0 t.0)
+    where
+      next : At lane rules line d v o stamp J K → RoundSince v J b K → RoundSince v J b (e ∷ K)
+      next a ih = elim w [
+        | inl c ↦ carried-on K a ih e c l
+        | inr x ↦ elim t.1 [
+          | inl c ↦ carried-on K a ih e c l
+          | inr all ↦ wants-on K a ih all e (added lane rules K line o e x) l
+        ]
+      ]

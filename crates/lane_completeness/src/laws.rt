@@ -1,0 +1,43 @@
+//! The laws of completeness; no function here does anything.
+
+ghost use Rattle.std.specs.Prelude.{◌≡◌, ℕ, false, List, Option, length};
+ghost use Rattle.bucket_ids.specs.Buckets.{Low};
+ghost use Rattle.stamps.specs.declared.stamp.Stamp.{Stamp};
+ghost use Rattle.carriers.specs.Fates.{delivered};
+ghost use Rattle.carriers.specs.declared.fate.Fate.{Fate};
+ghost use Rattle.messages.specs.declared.operation.Operation.{Operation};
+ghost use Rattle.messages.specs.declared.outcome.Outcome.{Outcome};
+ghost use Rattle.op_machine.specs.Judging.{looks};
+ghost use Rattle.distributor_part.specs.declared.rules.Rules.{Rules};
+ghost use Rattle.lane_journals.specs.Meanings.{history};
+ghost use Rattle.lane_journals.specs.declared.event.LaneEvent.{LaneEvent};
+ghost use Rattle.lane_carriage.specs.Carriage.{IsCarried};
+ghost use Rattle.lane_completeness.specs.Completeness.{AreAnswered, IsUndisturbed, AreRules, IsUndisturbedLine, IsDecided, EndsWell};
+
+/// An operation that was begun under the newest state, and of which no message is lost, doesn't end for want
+/// of answers: it comes to what they say, or to NoMemory where a node wanted memory.
+pub fn undisturbed_operations_are_decided()
+    ensures { (lane : Low) (rules : Rules) → AreRules rules → (line d v : ℕ) (o : Operation) (stamp : Option Stamp)
+        (J K : List LaneEvent) (outcome : Outcome)
+        → IsUndisturbedLine lane rules line d v o stamp J K outcome
+        → IsDecided (history K) line outcome }
+{}
+
+/// So a put or a remove without condition ends with the acknowledgement of its stamp, or with NoMemory where
+/// a node wanted memory.
+pub fn undisturbed_writes_end_well()
+    ensures { (lane : Low) (rules : Rules) → AreRules rules → (line d v : ℕ) (o : Operation) (stamp : Option Stamp)
+        (J K : List LaneEvent) (outcome : Outcome) → looks o ≡ false
+        → IsUndisturbedLine lane rules line d v o stamp J K outcome
+        → EndsWell stamp (history K) line outcome }
+{}
+
+/// Where the fate of each message from a number on is to be delivered and answered at once, nothing that was
+/// sent since is lost; and where that is so of all messages, as with a perfect carrier, no line loses any.
+pub fn answered_lines_are_undisturbed()
+    ensures since { (before given : List Fate) (J K : List LaneEvent) → IsCarried before J → IsCarried given K
+        → AreAnswered (length before) given → IsUndisturbed J K }
+    ensures all { (given : List Fate) (J K : List LaneEvent) → IsCarried given K → AreAnswered 0 given
+        → IsUndisturbed J K }
+    ensures perfect { (many : ℕ) → AreAnswered 0 (delivered many) }
+{}
