@@ -10,3 +10,4 @@ pub mod ToldLaws
 pub mod SerialLaws
 pub mod FreshLaws
 pub mod KeptLaws
+mod Scans

@@ -1,5 +1,5 @@
 ghost use Rattle.std.specs.Prelude.{◌≡◌, ◌<◌, ◌≤◌, ◌^◌, length, take, true, false, slice_index_or, IfSome, IfNone, nat_lt, nat_le};
-ghost use Rattle.std.specs.List.{list_any, AllWithin};
+ghost use Rattle.std.specs.List.{list_any, position, AllWithin};
 ghost use Rattle.std.specs.List.Sorted.{IsNonDecreasingBy};
 ghost use Rattle.bucket_ids.specs.Buckets.{IsBucket};
 ghost use Rattle.bucket_ids.specs.Paths.{first_path, last_path};
@@ -82,15 +82,6 @@ pub fn key_bucket(key: u64) -> Bucket
     Bucket::new(58, key)
 }
 
-/// Whether a piece has a key.
-pub fn has_key(pieces: &[Piece], key: u64) -> bool
-    requires laid { IsLaid 0 pieces.now }
-    requires small { key < 2 ^ 58 }
-    ensures { result ≡ holds key pieces.now }
-{
-    is_met(pieces, key_bucket(key))
-}
-
 /// Whether the piece at a place is a bucket.
 fn is_at(pieces: &[Piece], at: usize, bucket: Bucket) -> bool
     requires { at < length pieces.now }
@@ -116,12 +107,18 @@ fn is_inside_at(pieces: &[Piece], at: usize, bucket: Bucket) -> bool
     bucket.covers(pieces[at].bucket)
 }
 
-/// The place of the piece that covers a bucket.
-pub fn place_over(pieces: &[Piece], bucket: Bucket) -> Option<usize>
+/// The place of the piece that covers a bucket, where all are looked at.
+fn scan_over(pieces: &[Piece], bucket: Bucket) -> Option<usize>
+    ensures { result ≡ position (is_over bucket) pieces.now }
+{
+    pieces.iter().position(|piece| piece.bucket.covers(bucket))
+}
+
+/// The place of the piece that covers a bucket, where it is sought by the runs.
+fn search_over(pieces: &[Piece], bucket: Bucket) -> Option<usize>
     requires { IsLaid 0 pieces.now }
     ensures some { IfSome result (IsFirstOver bucket pieces.now) }
     ensures none { IfNone result (list_any (is_over bucket) pieces.now ≡ false) }
-    ensures valid { IsBucket bucket }
 {
     runs_are_known();
     let Some(at) = first_met(pieces, bucket) else {
@@ -131,6 +128,34 @@ pub fn place_over(pieces: &[Piece], bucket: Bucket) -> Option<usize>
         Some(at)
     } else {
         None
+    }
+}
+
+/// The place of the piece that covers a bucket. To look at a few pieces takes less time than to reckon their
+/// runs.
+pub fn place_over(pieces: &[Piece], bucket: Bucket) -> Option<usize>
+    requires { IsLaid 0 pieces.now }
+    ensures some { IfSome result (IsFirstOver bucket pieces.now) }
+    ensures none { IfNone result (list_any (is_over bucket) pieces.now ≡ false) }
+    ensures valid { IsBucket bucket }
+{
+    // that it is a bucket is known once it is read
+    let _bits = bucket.bits();
+    if pieces.len() <= 16 {
+        return scan_over(pieces, bucket);
+    }
+    search_over(pieces, bucket)
+}
+
+/// Whether a piece has a key.
+pub fn has_key(pieces: &[Piece], key: u64) -> bool
+    requires laid { IsLaid 0 pieces.now }
+    requires small { key < 2 ^ 58 }
+    ensures { result ≡ holds key pieces.now }
+{
+    match place_over(pieces, key_bucket(key)) {
+        Some(_) => true,
+        None => false,
     }
 }
 

@@ -1,5 +1,6 @@
 -- Where an operation stands: its plan and what was told.
 use Rattle.std.specs.Prelude.{◌≡◌, ℕ, Option, None, Some}
+use Rattle.global_ids.specs.Keys.{key_of}
 use Rattle.entry_maps.specs.declared.entry.Entry.{Entry}
 use Rattle.messages.specs.declared.message.Message.{Message}
 use Rattle.messages.specs.declared.reply.Reply.{Reply}
@@ -67,7 +68,8 @@ pub record IsSettled (p : Plan) (reads stores : Answers) (t : Settled) : Type 0 
   pub entry : t.entry ≡ due_entry p reads
   pub ended : t.outcome ≡ outcome_in (next_of p reads stores)
 
-pub record IsMachine (s : Standing) (t : Settled) : Type 0 where
+pub record IsMachine (key : ℕ) (s : Standing) (t : Settled) : Type 0 where
+  pub key_is : key ≡ key_of s.plan.operation.id
   pub plan : IsPlan s.plan
   pub entry : IsDue s.plan (answers_of s.reads) t.entry
   pub ended : t.outcome ≡ outcome_in (next_at s)

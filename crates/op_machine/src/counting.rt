@@ -31,8 +31,8 @@ fn least(set: NodeSet) -> u8
     }
 }
 
-/// The active node where it is in a set, else the set's least member.
-fn absent_in(active: Option<u8>, missing: NodeSet) -> u8
+/// The active node where it is in a set, else the set's least member, or 0.
+pub fn absent_in(active: Option<u8>, missing: NodeSet) -> u8
     ensures { result ≡ absent_of active (has_node missing) }
 {
     match active {

@@ -1,5 +1,6 @@
 ghost use Rattle.std.specs.Prelude.{◌≡◌, ◌<◌, None, IfOk, OnOk, OnErr};
 ghost use Rattle.std.specs.Option.{option_copied};
+ghost use Rattle.global_ids.specs.Keys.{key_of};
 ghost use Rattle.op_machine.specs.Outcomes.{answers_of, reader, message_in, outcome_in};
 ghost use Rattle.op_machine.specs.Plans.{IsPlan, plan_of};
 ghost use Rattle.op_machine.specs.Telling.{IsTold};
@@ -8,6 +9,7 @@ ghost use Rattle.op_machine.specs.Standings.{next_at, IsBegun, IsAsked, MayAnswe
 use crate::plan::Plan;
 use crate::settling::Settled;
 use crate::tally::Tally;
+use global_ids::key_of;
 use messages::{Message, Operation, Origin, Outcome, Reply};
 use node_sets::NodeSet;
 use stamps::Stamp;
@@ -29,6 +31,8 @@ pub struct Standing {
 /// receiver before the next `send`.
 #[derive(Drop)]
 pub struct OpMachine {
+    /// The key of the operation's document, so that it is digested once.
+    key: u64,
     standing: Standing,
     settled: Settled,
 }
@@ -44,7 +48,7 @@ impl Model for OpMachine {
 
     ghost view = { λ m. m.standing };
 
-    ghost invariant = { λ m. IsMachine m.standing m.settled };
+    ghost invariant = { λ m. IsMachine m.key m.standing m.settled };
 }
 
 impl OpMachine {
@@ -61,7 +65,26 @@ impl OpMachine {
         requires { IsPlan (plan_of origin operation stamp recipients active acks) }
         ensures { IsBegun (plan_of origin operation stamp recipients active acks) result }
     {
+        let key = key_of(&operation.id);
+        OpMachine::with_key(key, origin, operation, stamp, recipients, active, acks)
+    }
+
+    /// The same, with the key of the operation's document beside it, so that nothing is digested.
+    pub fn with_key(
+        key: u64,
+        origin: Origin,
+        operation: Operation,
+        stamp: Option<Stamp>,
+        recipients: NodeSet,
+        active: Option<u8>,
+        acks: u8,
+    ) -> OpMachine
+        requires key { key ≡ key_of operation.id }
+        requires plan { IsPlan (plan_of origin operation stamp recipients active acks) }
+        ensures { IsBegun (plan_of origin operation stamp recipients active acks) result }
+    {
         OpMachine {
+            key,
             standing: Standing {
                 plan: Plan {
                     origin,
@@ -111,7 +134,7 @@ impl OpMachine {
         ensures kept { self.new ≡ self.old }
     {
         match self.standing.plan.reader(&self.standing.reads) {
-            Some(node) => Ok(Some(self.standing.plan.read_message(alloc, node)?)),
+            Some(node) => Ok(Some(self.standing.plan.read_message(alloc, self.key, node)?)),
             None => self.send_store(alloc),
         }
     }
@@ -170,7 +193,7 @@ impl OpMachine {
             reads,
             stores,
         } = &self.standing;
-        let reads = reads.with(alloc, &plan.operation.id, node, reply)?;
+        let reads = reads.with(alloc, self.key, &plan.operation.id, node, reply)?;
         let settled = plan.settle(alloc, &reads, stores, None)?;
         self.standing.reads = reads;
         self.settled = settled;
@@ -196,7 +219,7 @@ impl OpMachine {
             reads,
             stores,
         } = &self.standing;
-        let stores = stores.with(alloc, &plan.operation.id, node, reply)?;
+        let stores = stores.with(alloc, self.key, &plan.operation.id, node, reply)?;
         let settled = plan.settle(alloc, reads, &stores, self.settled.entry.as_ref())?;
         self.standing.stores = stores;
         self.settled = settled;

@@ -1,9 +1,10 @@
 ghost use Rattle.std.specs.Prelude.{◌≡◌, ℕ, IfOk};
+ghost use Rattle.global_ids.specs.Keys.{key_of};
 ghost use Rattle.op_machine.specs.Judging.{looks, looks_by};
 ghost use Rattle.op_machine.specs.Outcomes.{read_body};
 
 use bucket_ids::Bucket;
-use global_ids::key_of;
+use global_ids::laws::keys_locate;
 use messages::{Body, OpKind, Operation, Origin};
 use node_sets::NodeSet;
 use stamps::Stamp;
@@ -44,12 +45,14 @@ pub fn looks(operation: &Operation) -> bool
     operation.condition.is_some() || kind_looks(&operation.kind)
 }
 
-/// The Read of an operation's document. The only error is want of memory.
-pub fn read_body(alloc: Global, operation: &Operation) -> Result<Body, NoMemory>
+/// The Read of an operation's document, whose key is beside it. The only error is want of memory.
+pub fn read_body(alloc: Global, key: u64, operation: &Operation) -> Result<Body, NoMemory>
+    requires { key ≡ key_of operation.now.id }
     ensures { IfOk result (λ body. body ≡ read_body operation.now.id) }
 {
+    keys_locate();
     Ok(Body::Read {
-        bucket: Bucket::new(58, key_of(&operation.id)),
+        bucket: Bucket::new(58, key),
         only: Some(operation.id.copy(alloc)?),
     })
 }

@@ -1,5 +1,6 @@
 ghost use Rattle.std.specs.Prelude.{◌≡◌, None, IfOk, OnOk};
 ghost use Rattle.std.specs.Option.{option_copied};
+ghost use Rattle.global_ids.specs.Keys.{key_of};
 ghost use Rattle.messages.specs.Noting.{message_of};
 ghost use Rattle.op_machine.specs.Outcomes.{answers_of, reader, verdict, read_body, store_message};
 ghost use Rattle.op_machine.specs.Standings.{due_entry, IsDue, IsSettled};
@@ -114,13 +115,14 @@ impl Plan {
         }
     }
 
-    /// The Read that a recipient is sent. The only error is want of memory.
-    pub fn read_message(&self, alloc: Global, node: u8) -> Result<Message, NoMemory>
+    /// The Read that a recipient is sent; the document's key is beside it. The only error is want of memory.
+    pub fn read_message(&self, alloc: Global, key: u64, node: u8) -> Result<Message, NoMemory>
+        requires { key ≡ key_of self.now.operation.id }
         ensures { IfOk result (λ m. m ≡ message_of self.now.origin node (read_body self.now.operation.id)) }
     {
         Ok(
             self.origin
-                .message(node, read_body(alloc, &self.operation)?),
+                .message(node, read_body(alloc, key, &self.operation)?),
         )
     }
 

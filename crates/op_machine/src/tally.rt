@@ -1,5 +1,6 @@
 ghost use Rattle.std.specs.Prelude.{◌≡◌, ◌<◌, IfOk};
 ghost use Rattle.std.specs.Option.{option_copied};
+ghost use Rattle.global_ids.specs.Keys.{key_of};
 ghost use Rattle.entry_maps.specs.Entries.{newer_of};
 ghost use Rattle.op_machine.specs.Telling.{is_answer, is_short, entry_shown, IsNobody, IsTold, IsWith};
 
@@ -43,12 +44,13 @@ fn is_short(reply: Option<&Reply>) -> bool
     }
 }
 
-/// What a reply shows of a document.
-fn entry_shown<'a>(id: &DocId, reply: Option<&'a Reply>) -> Option<&'a Entry>
+/// What a reply shows of a document, whose key is beside it.
+fn entry_shown<'a>(key: u64, id: &DocId, reply: Option<&'a Reply>) -> Option<&'a Entry>
+    requires { key ≡ key_of id.now }
     ensures { option_copied result ≡ entry_shown id.now (option_copied reply.entry) }
 {
     match reply {
-        Some(Reply::Answer { entries, .. }) => entries.get(id),
+        Some(Reply::Answer { entries, .. }) => entries.get_at(key, id),
         _ => None,
     }
 }
@@ -96,23 +98,25 @@ impl Tally {
         }
     }
 
-    /// The tally once a node's reply to the message about a document is told, or that none came. The only
-    /// error is want of memory.
+    /// The tally once a node's reply to the message about a document is told, or that none came. The document's
+    /// key is beside it. The only error is want of memory.
     pub fn with(
         &self,
         alloc: Global,
+        key: u64,
         id: &DocId,
         node: u8,
         reply: Option<&Reply>,
     ) -> Result<Tally, NoMemory>
-        requires { node < 32 }
+        requires key { key ≡ key_of id.now }
+        requires node { node < 32 }
         ensures { IfOk result (IsTold id.now node (option_copied reply.entry) self.now) }
     {
         Ok(Tally {
             told: self.told.with(node),
             answered: with(self.answered, node, is_answer(reply)),
             short: self.short || is_short(reply),
-            seen: newer_of(alloc, self.seen.as_ref(), entry_shown(id, reply))?,
+            seen: newer_of(alloc, self.seen.as_ref(), entry_shown(key, id, reply))?,
         })
     }
 }

@@ -82,6 +82,14 @@ impl ReplicaStore {
         self.entries.get(id)
     }
 
+    /// The same, with the key of the document's id beside it, so that nothing is digested.
+    pub fn entry_at(&self, key: u64, id: &DocId) -> Option<&Entry>
+        requires { key ≡ key_of id.now }
+        ensures { option_copied result ≡ fin.get self.now.entries id.now }
+    {
+        self.entries.get_at(key, id)
+    }
+
     /// How many entries there are, removes among them.
     pub fn entries(&self) -> u64
         ensures { result ≡ fin.len self.now.entries }

@@ -177,10 +177,12 @@ impl NodePart {
     fn read_one(&self, bucket: Bucket, id: &DocId) -> Result<Reply, StoreFault>
         ensures { Shows self.now (body.Read bucket (Some id.now)) result }
     {
-        if !self.store.holds(key_of(id)) {
+        let key = key_of(id);
+        if !self.store.holds(key) {
             return Err(StoreFault::NoBucket);
         }
-        let Ok(entries) = only_entry(self.alloc, self.store.entry(id)) else {
+        let entry = self.store.entry_at(key, id);
+        let Ok(entries) = only_entry(self.alloc, key, id, entry) else {
             return Err(StoreFault::NoMemory);
         };
         Ok(Reply::Answer {

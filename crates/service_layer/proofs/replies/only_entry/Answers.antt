@@ -12,4 +12,4 @@ fresh : (e : Entry) → with_entry fin.empty e ≡ only_entry (Some e)
 fresh e = ap (λ o. cond (is_newer e o) (fin.insert fin.empty e.id e) fin.empty) (get-empty id_cmp e.id)
 
 pub returns : goal.returns
-returns c = c.in_ok-put.ensures.ok ∙ ap₂ with_entry c.new-entries.ensures c.in_ok-copy.ensures ∙ fresh c.in-Some.entry.now ∙ ap (λ o. only_entry (option_copied o)) (sym c.in-Some.is)
+returns c = c.in_ok-put_at.ensures.ok ∙ ap₂ with_entry c.new-entries.ensures c.in_ok-copy.ensures ∙ fresh c.in-Some.entry.now ∙ ap (λ o. only_entry (option_copied o)) (sym c.in-Some.is)
