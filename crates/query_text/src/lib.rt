@@ -28,8 +28,6 @@ pub mod query;
 pub mod reader;
 pub mod terms;
 mod truth;
-#[cfg(test)]
-mod worked;
 
 pub use expr::Expr;
 pub use query::{Query, QueryFault};
