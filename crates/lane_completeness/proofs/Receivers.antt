@@ -3,7 +3,7 @@ use Rattle.std.proofs.Common.{◌≡◌, ◌↔◌, ℕ, ◌≤◌, Bool, true, 
 use Rattle.std.proofs.lemmas.Bool.{cases_lt, lt-ltb}
 use Rattle.std.proofs.lemmas.List.{length-take}
 use Rattle.bucket_ids.specs.Buckets.{Low}
-use Rattle.node_sets.specs.Members.{has_node, size_of}
+use Rattle.node_sets.specs.Members.{has_node, size_of, Within}
 use Rattle.cluster_states.specs.declared.cluster_state.ClusterState.{ClusterState}
 use Rattle.cluster_states.specs.declared.states.PublishFault.{PublishFault}
 use Rattle.cluster_states.specs.declared.states.PublishFault.TheVariants.{TooFewUp}
@@ -19,7 +19,7 @@ use Rattle.lane_journals.specs.declared.event.LaneEvent.TheVariants as event
 use Rattle.lane_journals.proofs.Basics.{or_else-cases, only_if-some}
 use Rattle.lane_keeping.specs.LaneKeeping.{setting_of}
 use Rattle.lane_completeness.specs.Completeness.{AreRules}
-use Rattle.lane_completeness.proofs.Sizes.{ranked-size}
+use Rattle.lane_completeness.proofs.Sizes.{within-size, ranked-size}
 use Rattle.lane_completeness.proofs.Ideal.{ranked-take, ideal-of}
 
 no-fault : (up acks : ℕ) → cond (ltb up acks) (Some (TooFewUp up acks)) None ≡ None → acks ≤ up
@@ -81,3 +81,7 @@ module _ (lane : Low) (rules : Rules) where
         by_event (event.Decided d w (choice.DeleteFrom c n s)) p h ih = ih h
         by_event (event.Decided d w (choice.DeleteOver c n)) p h ih = ih h
         by_event _ p h ih = ih h
+
+-- so a row of which they all are complete members has enough of them
+pub complete-enough : (lane : Low) (rules : Rules) → AreRules rules → (L : List LaneEvent) → IsLegal (setting_of lane rules) L → (v : ℕ) (b : Low) (set complete : ℕ) → receivers_of v b L ≡ Some set → Within set complete → rules.acks ≤ size_of complete
+complete-enough lane rules are L l v b set complete is within = let enough = receivers-enough lane rules are L l v b set is in let more = within-size set complete within in omega (arith, enough, more)

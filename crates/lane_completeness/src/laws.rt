@@ -1,7 +1,8 @@
 //! The laws of completeness; no function here does anything.
 
-ghost use Rattle.std.specs.Prelude.{◌≡◌, ℕ, false, List, Option, length};
+ghost use Rattle.std.specs.Prelude.{◌≡◌, ◌≤◌, ℕ, false, List, Option, Some, length};
 ghost use Rattle.bucket_ids.specs.Buckets.{Low};
+ghost use Rattle.node_sets.specs.Members.{size_of, Within};
 ghost use Rattle.stamps.specs.declared.stamp.Stamp.{Stamp};
 ghost use Rattle.carriers.specs.Fates.{delivered};
 ghost use Rattle.carriers.specs.declared.fate.Fate.{Fate};
@@ -10,8 +11,11 @@ ghost use Rattle.messages.specs.declared.outcome.Outcome.{Outcome};
 ghost use Rattle.op_machine.specs.Judging.{looks};
 ghost use Rattle.distributor_part.specs.declared.rules.Rules.{Rules};
 ghost use Rattle.lane_journals.specs.Meanings.{history};
+ghost use Rattle.lane_journals.specs.Places.{receivers_of};
+ghost use Rattle.lane_journals.specs.KeptJournals.{IsLegal};
 ghost use Rattle.lane_journals.specs.declared.event.LaneEvent.{LaneEvent};
 ghost use Rattle.lane_carriage.specs.Carriage.{IsCarried};
+ghost use Rattle.lane_keeping.specs.LaneKeeping.{setting_of};
 ghost use Rattle.lane_completeness.specs.Completeness.{AreAnswered, IsUndisturbed, AreRules, IsUndisturbedLine, IsDecided, EndsWell};
 
 /// An operation that was begun under the newest state, and of which no message is lost, doesn't end for want
@@ -40,4 +44,12 @@ pub fn answered_lines_are_undisturbed()
     ensures all { (given : List Fate) (J K : List LaneEvent) → IsCarried given K → AreAnswered 0 given
         → IsUndisturbed J K }
     ensures perfect { (many : ℕ) → AreAnswered 0 (delivered many) }
+{}
+
+/// A round goes to as many nodes as a write needs copies, since a state has enough nodes up. So a row of which all
+/// receivers are complete members has enough of them.
+pub fn rounds_reach_enough()
+    ensures { (lane : Low) (rules : Rules) → AreRules rules → (J : List LaneEvent) → IsLegal (setting_of lane rules) J
+        → (v : ℕ) (b : Low) (receivers complete : ℕ) → receivers_of v b J ≡ Some receivers
+        → Within receivers complete → rules.acks ≤ size_of complete }
 {}

@@ -17,6 +17,7 @@ use Rattle.lane_journals.specs.declared.event.LaneEvent.TheVariants.{Prepared}
 use Rattle.lane_durability.specs.Laws.{ActiveIsComplete}
 use Rattle.lane_keeping.specs.Acting.{IsActing, IsKnownRow}
 use Rattle.lane_operations.specs.OperationKeeping.{IsUnderWay, KnowsPreparing, KnowsOperation}
+use Rattle.lane_operations.specs.Left.{messages_left}
 use Rattle.lane_wants.specs.Wants.{Wants, Adds}
 use Rattle.lane_core.specs.declared.job.Job.{Job}
 use Rattle.lane_core.specs.declared.job.Phase.TheVariants as phase
@@ -25,6 +26,8 @@ use Rattle.lane_core.specs.declared.work.Work.{Work}
 use Rattle.lane_core.specs.LaneStates.{journal_of, part_of, IsKept}
 use Rattle.lane_core.specs.Works.{IsWork, IsJob, one_if}
 use Rattle.lane_core.specs.Preparations.{HasRowWith, IsReadyFor}
+use Rattle.lane_core.specs.Written.{place_of}
+use Rattle.lane_core.proofs.Entries.{finds-noted}
 use Rattle.lane_core.proofs.Working.{same-key, work-by}
 
 pub some-same : {A : Type 0} (a b : A) → Some a ≡ Some b → a ≡ b
@@ -98,19 +101,19 @@ module _ (x : Work) (j : Job) (k : IsWork x) (is : x.job ≡ Some j) (r : IsRead
         );
       }
 
-      pub fit-work : (y : LaneState) (place : Option Job) (t : Standing) (origin : Origin) → IsBegun (plan_of origin j.operation j.stamp row.complete row.active x.state.rules.acks) t
+      pub fit-work : ((u : Standing) → messages_left u ≤ 64) → (y : LaneState) (place : Option Job) (t : Standing) (origin : Origin) → IsBegun (plan_of origin j.operation j.stamp row.complete row.active x.state.rules.acks) t
           → KnowsOperation x.state.lane x.state.rules (Prepared j.line row.bucket row.complete ∷ journal_of x.state) j.distributor r.state j.line row.bucket None t
           → place ≡ Some (record j { phase = phase.Prepared t row.bucket false }) → y ≡ record x.state { journal = y.journal } → IsKept y
           → journal_of y ≡ Prepared j.line row.bucket row.complete ∷ journal_of x.state → vec_len y.journal + 0 + x.state.spare ≤ vec_capacity y.journal
-          → IsWork (record { state = y; drawn = x.drawn; has_room = x.has_room; job = place })
-      fit-work y place t origin begun operation put after kept grows room =
+          → IsWork (record { state = y; drawn = x.drawn; places = x.places; has_room = x.has_room; job = place })
+      fit-work few y place t origin begun operation put after kept grows room =
           let lane : y.lane ≡ x.state.lane = ap (λ (z : LaneState). z.lane) after in
           let rules : y.rules ≡ x.state.rules = ap (λ (z : LaneState). z.rules) after in
           let newest : y.newest ≡ x.state.newest = ap (λ (z : LaneState). z.newest) after in
           let parts : y.parts ≡ x.state.parts = ap (λ (z : LaneState). z.parts) after in
           let spare : y.spare ≡ x.state.spare = ap (λ (z : LaneState). z.spare) after in
           let one : one_if (is_some x.job) ≡ 1 = ap (λ (z : Option Job). one_if (is_some z)) is in
-          work-by (record { state = y; drawn = x.drawn; has_room = x.has_room; job = place }) (Prepared j.line row.bucket row.complete ∷ journal_of x.state)
+          work-by (record { state = y; drawn = x.drawn; places = x.places; has_room = x.has_room; job = place }) (Prepared j.line row.bucket row.complete ∷ journal_of x.state)
           (rw (lane, rules) k.set_up) kept (omega (arith, spare, room))
           (rw (put, spare) (let all = k.spare_is in omega (arith, all, one)))
           (λ d. rw (lane, rules, parts) (k.resting d)) grows
@@ -133,4 +136,6 @@ module _ (x : Work) (j : Job) (k : IsWork x) (is : x.job ≡ Some j) (r : IsRead
                 written_is = refl;
               };
             };
+            lasts = (let much = r.lasts in omega (arith, much), (let much = r.lasts in let most = few t in omega (arith, much, most)));
           }))
+          (finds-noted (place_of x.places) x.state.journal.items (Prepared j.line row.bucket row.complete) refl k.finds)

@@ -1,5 +1,6 @@
 -- The operation under way after a call, and the work of its lane.
 use Rattle.std.proofs.Common.{◌≡◌, ◌≤◌, ◌<◌, ◌+◌, ◌-◌, ℕ, Bool, List, Option, Some, refl, sym, ap, ◌∙◌, subst, arith, is_some, inl, inr}
+use Rattle.std.specs.BTreeMap.{BTreeMap}
 use Rattle.bucket_ids.specs.Buckets.{Low, IsIn}
 use Rattle.lane_journals.specs.Buckets.{key_of}
 use Rattle.node_sets.specs.Members.{has_node}
@@ -34,8 +35,9 @@ use Rattle.lane_core.specs.declared.answers.Advance.TheVariants as advance
 use Rattle.lane_core.specs.declared.work.Work.{Work}
 use Rattle.lane_core.specs.LaneStates.{journal_of, IsKept, HasRoom, AreResting}
 use Rattle.lane_core.specs.LaneValues.{with_run, under_way_of, WentOn, IsAdvance}
-use Rattle.lane_core.specs.Works.{value_of, under_way_in, progress_of, one_if, IsAnswered, MayMark, IsPrepared, PhaseKeeps, IsJob, JobKeeps, IsWork}
-use Rattle.lane_core.specs.Steps.{sender_of, GoesIn, IsQuiet, WantsMore, WantsEnd, ComesTo, PhaseLasts, IsToStep}
+use Rattle.lane_core.specs.Written.{place_of, FindsEntries}
+use Rattle.lane_core.specs.Works.{value_of, under_way_in, progress_of, one_if, IsAnswered, MayMark, IsPrepared, PhaseKeeps, IsJob, JobKeeps, PhaseLasts, JobLasts, IsWork}
+use Rattle.lane_core.specs.Steps.{sender_of, GoesIn, IsQuiet, WantsMore, WantsEnd, ComesTo}
 
 -- ---- whose it is
 
@@ -174,8 +176,9 @@ onward x y e q = record {
   quiet = q;
 }
 
-pub work-on : (x : Work) (y : LaneState) (j k : Job) → IsWork x → x.job ≡ Some j → IsOnward x.state y → IsKept y → HasRoom 0 y → IsJob y.lane y.rules (journal_of y) k → IsWork (record { state = y; drawn = x.drawn; has_room = x.has_room; job = Some k })
-work-on x y j k w is on kept room job = record {
+pub work-on : (x : Work) (y : LaneState) (places : BTreeMap Stamp ℕ) (j k : Job) → IsWork x → x.job ≡ Some j → IsOnward x.state y → IsKept y → HasRoom 0 y → IsJob y.lane y.rules (journal_of y) k → PhaseLasts k.left k.phase → FindsEntries (place_of places) y.journal.items
+    → IsWork (record { state = y; drawn = x.drawn; places = places; has_room = x.has_room; job = Some k })
+work-on x y places j k w is on kept room job lasts finds = record {
   set_up = rw (on.lane, on.rules) w.set_up;
   kept = kept;
   room = room;
@@ -185,13 +188,15 @@ work-on x y j k w is on kept room job = record {
   counts_are = λ v. w.counts_are v ∙ sym ((on.quiet).counted v);
   no_round = λ v b. (on.quiet).rounds v b ∙ w.no_round v b;
   job_is = job;
+  lasts = lasts;
+  finds = finds;
 }
 
 -- and its value
-module _ (x : Work) (y : LaneState) (j : Job) (left : ℕ) (row : Low) (t : Standing) (given now planned : List Fate) (takes : Bool) (is : x.job ≡ Some j) (on : IsOnward x.state y) (fewer : left < j.left)
+module _ (x : Work) (y : LaneState) (places : BTreeMap Stamp ℕ) (j : Job) (left : ℕ) (row : Low) (t : Standing) (given now planned : List Fate) (takes : Bool) (is : x.job ≡ Some j) (on : IsOnward x.state y) (fewer : left < j.left)
     (run : IsRun x.state.lane x.state.rules j.line j.operation (journal_of x.state) (journal_of y)) where
   abbrev then_of : Phase → Work
-  then_of p = record { state = y; drawn = x.drawn; has_room = x.has_room; job = Some (record j { left = left; phase = p }) }
+  then_of p = record { state = y; drawn = x.drawn; places = places; has_room = x.has_room; job = Some (record j { left = left; phase = p }) }
 
   same-value : (p : Phase) → value_of (then_of p) now planned takes ≡ with_run (value_of x given planned takes) (journal_of y) now (under_way_of j.line j.operation j.distributor (progress_of p) left)
   same-value p = rw (on.lane, on.rules) refl
@@ -230,7 +235,9 @@ pub lasts-by : (c : LaneState) (line : ℕ) (row : Low) (t : Standing) (left : �
 lasts-by c line row t left (phase.Prepared m r w) advance.More le h = let f = (h.1).fewer in let s = (h.1).some in (omega (arith, f, s, le), omega (arith, f, le))
 lasts-by c line row t left (phase.Over o told answered) a le h = tt
 lasts-by c line row t left phase.Short a le h = tt
-lasts-by c line row t left phase.Begun a le h = tt
+lasts-by c line row t left phase.Begun advance.More le h = absurd h
+lasts-by c line row t left phase.Begun advance.Done le h = absurd h
+lasts-by c line row t left phase.Begun advance.NoMemory le h = absurd h
 lasts-by c line row t left (phase.Prepared m r w) advance.Done le h = absurd h
 lasts-by c line row t left (phase.Prepared m r w) advance.NoMemory le h = absurd h
 
@@ -266,16 +273,22 @@ module _ (x : Work) (y : LaneState) (j : Job) (t : Standing) (row : Low) (writte
       (λ s b z stamp entry knows finished. acked y.lane y.rules (journal_of y) y.newest y.last y.nodes.items y.parts.items kept.keeps (sender_of z) s j.line b entry z knows stamp finished)
       p a comes going
 
-  pub keeps-stepped : HasRoom 0 y → IsWork (record { state = y; drawn = x.drawn; has_room = x.has_room; job = Some (record j { left = j.left - 1; phase = p }) })
-  keeps-stepped room = work-on x y j (record j { left = j.left - 1; phase = p }) w is on kept room job
+  lasting : PhaseLasts j.left (phase.Prepared t row written)
+  lasting = subst (λ (q : Phase). PhaseLasts j.left q) stage (subst (λ (o : Option Job). JobLasts o) is w.lasts)
 
-  pub advances-stepped : (given now planned : List Fate) (takes : Bool) → IsToStep x.job → IsRun x.state.lane x.state.rules j.line t.plan.operation (journal_of x.state) (journal_of y)
-      → IsAdvance (under_way_in x.job) (value_of x given planned takes) (value_of (record { state = y; drawn = x.drawn; has_room = x.has_room; job = Some (record j { left = j.left - 1; phase = p }) }) now planned takes) a
-  advances-stepped given now planned takes may run = advances-by x y j (j.left - 1) row t given now planned takes is on fewer
+  some : 1 ≤ j.left
+  some = (lasting).0
+
+  lasts : PhaseLasts (j.left - 1) p
+  lasts = let le = (lasting).1 in let one = some in lasts-by y j.line row t (j.left - 1) p a (omega (arith, le, one)) comes
+
+  pub keeps-stepped : HasRoom 0 y → (places : BTreeMap Stamp ℕ) → FindsEntries (place_of places) y.journal.items → IsWork (record { state = y; drawn = x.drawn; places = places; has_room = x.has_room; job = Some (record j { left = j.left - 1; phase = p }) })
+  keeps-stepped room places finds = work-on x y places j (record j { left = j.left - 1; phase = p }) w is on kept room job lasts finds
+
+  pub advances-stepped : (places : BTreeMap Stamp ℕ) (given now planned : List Fate) (takes : Bool) → IsRun x.state.lane x.state.rules j.line t.plan.operation (journal_of x.state) (journal_of y)
+      → IsAdvance (under_way_in x.job) (value_of x given planned takes) (value_of (record { state = y; drawn = x.drawn; places = places; has_room = x.has_room; job = Some (record j { left = j.left - 1; phase = p }) }) now planned takes) a
+  advances-stepped places given now planned takes run = advances-by x y places j (j.left - 1) row t given now planned takes is on fewer
       (subst (λ (o : Operation). IsRun x.state.lane x.state.rules j.line o (journal_of x.state) (journal_of y)) (of-job).operation run) p a comes job
     where
-      some : 1 ≤ j.left
-      some = (subst (λ (q : Phase). PhaseLasts j.left q) stage (subst (λ (o : Option Job). IsToStep o) is may).1).0
-
       fewer : j.left - 1 < j.left
-      fewer = omega (arith, some)
+      fewer = let one = some in omega (arith, one)

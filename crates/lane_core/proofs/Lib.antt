@@ -17,6 +17,10 @@ pub mod RoundTelling
 pub mod Runs
 pub mod RoundEnds
 pub mod Staying
+pub mod OpeningRuns
+pub mod OpeningAsks
+pub mod OpeningEnds
+pub mod OpenedLines
 pub mod Carrying
 pub mod Nobodies
 pub mod Results
@@ -24,6 +28,14 @@ pub mod Standing
 pub mod RunningSteps
 pub mod Wanted
 pub mod Fitting
+pub mod RoundLines
+pub mod RowRounds
+pub mod FilledRows
 pub mod Shortfalls
 pub mod Stepping
 pub mod Jobs
+pub mod RowsFound
+pub mod Searching
+pub mod Entries
+pub mod EntryFree
+mod KnownOwners

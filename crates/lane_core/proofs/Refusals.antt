@@ -18,16 +18,16 @@ use Rattle.lane_core.specs.RoundRuns.{WasRefused, is_read_in, is_apply_in, Knows
 some-of : {A : Type 0} (x y : A) → Some x ≡ Some y → x ≡ y
 some-of x y h = cc
 
-either : (a b : Bool) → (a || b) ≡ true → (a ≡ true) ⊎ (b ≡ true)
+pub either : (a b : Bool) → (a || b) ≡ true → (a ≡ true) ⊎ (b ≡ true)
 either true b h = inl refl
 either false b h = inr h
 
-or-right : (a b : Bool) → b ≡ true → (a || b) ≡ true
+pub or-right : (a b : Bool) → b ≡ true → (a || b) ≡ true
 or-right true b h = refl
 or-right false b h = h
 
 -- a flag that is raised by one thing more
-raised : (a b : Bool) (P Q R : Type 0) → ((a ≡ true) ↔ P) → ((b ≡ true) ↔ Q) → (R → P ⊎ Q) → (P → R) → (Q → R) → ((a || b) ≡ true) ↔ R
+pub raised : (a b : Bool) (P Q R : Type 0) → ((a ≡ true) ↔ P) → ((b ≡ true) ↔ Q) → (R → P ⊎ Q) → (P → R) → (Q → R) → ((a || b) ≡ true) ↔ R
 raised a b P Q R p q cases old new = (λ h. up (either a b h), λ r. down (cases r))
   where
     up : (a ≡ true) ⊎ (b ≡ true) → R

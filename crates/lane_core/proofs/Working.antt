@@ -21,6 +21,7 @@ use Rattle.lane_journals.specs.Legal.{IsNextStamp}
 use Rattle.lane_journals.specs.RowLists.{row_with, rows}
 use Rattle.lane_journals.specs.Meanings.{history}
 use Rattle.lane_journals.specs.Places.{state_in}
+use Rattle.lane_journals.specs.KeptJournals.{past}
 use Rattle.lane_journals.specs.declared.event.LaneEvent.{LaneEvent}
 use Rattle.lane_journals.specs.declared.event.LaneEvent.TheVariants.{Begun, Closed}
 use Rattle.lane_keeping.specs.LaneKeeping.{Holds, PartKeeps}
@@ -32,7 +33,9 @@ use Rattle.lane_core.specs.declared.work.Work.{Work}
 use Rattle.lane_core.specs.LaneStates.{journal_of, IsKept, HasRoom, AreResting}
 use Rattle.lane_core.specs.LaneValues.{IsSetUp, last_state, drawn}
 use Rattle.lane_core.specs.declared.lane_state.LaneState.{LaneState}
-use Rattle.lane_core.specs.Works.{value_of, under_way_in, new_job, count_of, count_after, one_if, IsUntouched, IsJob, JobKeeps, IsWork}
+use Rattle.lane_core.specs.Written.{place_of, FindsEntries}
+use Rattle.lane_core.proofs.Entries.{past-past, finds-none, finds-noted}
+use Rattle.lane_core.specs.Works.{value_of, under_way_in, new_job, count_of, count_after, one_if, IsUntouched, IsJob, JobKeeps, JobLasts, IsWork}
 
 -- ---- keys
 
@@ -51,13 +54,14 @@ pub record KeepsLines (lane : Low) (rules : Rules) (J : List LaneEvent) (newest 
   pub counts_are : (v : ℕ) → counts v ≡ stamps_of v (history J)
   pub no_round : (v : ℕ) (b : Low) → running v b (history J) ≡ false
   pub job_is : JobKeeps lane rules J job
+  pub lasts : JobLasts job
 
 pub lines-of : (w : Work) → IsWork w → KeepsLines w.state.lane w.state.rules (journal_of w.state) w.state.newest (count_of w.drawn) w.job
-lines-of w k = record { newest_is = k.newest_is; counts_are = k.counts_are; no_round = k.no_round; job_is = k.job_is }
+lines-of w k = record { newest_is = k.newest_is; counts_are = k.counts_are; no_round = k.no_round; job_is = k.job_is; lasts = k.lasts }
 
 pub work-by : (w : Work) (J : List LaneEvent) → IsSetUp w.state.lane w.state.rules → IsKept w.state → HasRoom 0 w.state → w.state.spare ≡ one_if w.has_room + one_if (is_some w.job)
-    → AreResting w.state → journal_of w.state ≡ J → KeepsLines w.state.lane w.state.rules J w.state.newest (count_of w.drawn) w.job → IsWork w
-work-by w J set_up kept room spare resting is lines =
+    → AreResting w.state → journal_of w.state ≡ J → KeepsLines w.state.lane w.state.rules J w.state.newest (count_of w.drawn) w.job → FindsEntries (place_of w.places) (past J) → IsWork w
+work-by w J set_up kept room spare resting is lines finds =
     let k : KeepsLines w.state.lane w.state.rules (journal_of w.state) w.state.newest (count_of w.drawn) w.job
     = subst (λ (K : List LaneEvent). KeepsLines w.state.lane w.state.rules K w.state.newest (count_of w.drawn) w.job) (sym is) lines in
     record {
@@ -70,6 +74,8 @@ work-by w J set_up kept room spare resting is lines =
       counts_are = k.counts_are;
       no_round = k.no_round;
       job_is = k.job_is;
+      lasts = k.lasts;
+      finds = subst (λ (xs : List LaneEvent). FindsEntries (place_of w.places) xs) (ap past (sym is) ∙ past-past w.state.journal.items) finds;
     }
 
 -- the value with another journal and another operation
@@ -167,19 +173,19 @@ counts-begun J line d v id (Some s) old new next is after w = after w ∙ by_tes
 
 pub work-noted : (x : Work) (y : LaneState) (J : List LaneEvent) (counts : BTreeMap ℕ ℕ) (extra : ℕ) (job : Option Job) → IsWork x → y ≡ record x.state { journal = y.journal } → journal_of y ≡ J → IsKept y
     → vec_len y.journal + (x.state.spare + extra) ≤ vec_capacity y.journal → x.state.spare + extra ≡ one_if x.has_room + one_if (is_some job)
-    → KeepsLines x.state.lane x.state.rules J x.state.newest (count_of counts) job
-    → IsWork (record { state = record y { spare = y.spare + extra }; drawn = counts; has_room = x.has_room; job = job })
-work-noted x y J counts extra job k after is kept room spare lines =
+    → KeepsLines x.state.lane x.state.rules J x.state.newest (count_of counts) job → FindsEntries (place_of x.places) (past J)
+    → IsWork (record { state = record y { spare = y.spare + extra }; drawn = counts; places = x.places; has_room = x.has_room; job = job })
+work-noted x y J counts extra job k after is kept room spare lines finds =
     let lane : y.lane ≡ x.state.lane = ap (λ (z : LaneState). z.lane) after in
     let rules : y.rules ≡ x.state.rules = ap (λ (z : LaneState). z.rules) after in
     let newest : y.newest ≡ x.state.newest = ap (λ (z : LaneState). z.newest) after in
     let parts : y.parts ≡ x.state.parts = ap (λ (z : LaneState). z.parts) after in
     let same : y.spare ≡ x.state.spare = ap (λ (z : LaneState). z.spare) after in
-    work-by (record { state = record y { spare = y.spare + extra }; drawn = counts; has_room = x.has_room; job = job }) J
+    work-by (record { state = record y { spare = y.spare + extra }; drawn = counts; places = x.places; has_room = x.has_room; job = job }) J
     (subst (λ (b : Low). IsSetUp b y.rules) (sym lane) (subst (λ (r : Rules). IsSetUp x.state.lane r) (sym rules) k.set_up))
     kept (omega (arith, room, same)) (same_by same spare)
     (λ d. rw (lane, rules, parts) (k.resting d)) is
-    (rw (lane, rules, newest) lines)
+    (rw (lane, rules, newest) lines) finds
   where
     same_by : y.spare ≡ x.state.spare → x.state.spare + extra ≡ one_if x.has_room + one_if (is_some job) → y.spare + extra ≡ one_if x.has_room + one_if (is_some job)
     same_by e h = ap (λ (n : ℕ). n + extra) e ∙ h
@@ -187,22 +193,23 @@ work-noted x y J counts extra job k after is kept room spare lines =
 -- the close of the operation under way
 pub work-closed : (x : Work) (y : LaneState) (rest : Option Job) (j : Job) (line : ℕ) (o : Outcome) → IsWork x → x.job ≡ Some j → rest ≡ None → y.lane ≡ x.state.lane → y.rules ≡ x.state.rules → y.newest ≡ x.state.newest
     → y.spare ≡ x.state.spare - 1 → IsKept y → AreResting y → journal_of y ≡ Closed line o ∷ journal_of x.state → vec_len y.journal ≡ vec_len x.state.journal + 1 → vec_capacity x.state.journal ≤ vec_capacity y.journal
-    → AllClosed (history (Closed line o ∷ journal_of x.state)) → IsWork (record { state = y; drawn = x.drawn; has_room = x.has_room; job = rest })
+    → AllClosed (history (Closed line o ∷ journal_of x.state)) → IsWork (record { state = y; drawn = x.drawn; places = x.places; has_room = x.has_room; job = rest })
 work-closed x y rest j line o k is none lane rules newest spare kept resting grows len cap closed =
     let one : one_if (is_some x.job) ≡ 1 = ap (λ (z : Option Job). one_if (is_some z)) is in
     let all : x.state.spare ≡ one_if x.has_room + one_if (is_some x.job) = k.spare_is in
     let room : vec_len x.state.journal + 0 + x.state.spare ≤ vec_capacity x.state.journal = k.room in
     let left : y.spare ≡ one_if x.has_room = omega (arith, one, all, spare) in
-    work-by (record { state = y; drawn = x.drawn; has_room = x.has_room; job = rest }) (Closed line o ∷ journal_of x.state)
+    work-by (record { state = y; drawn = x.drawn; places = x.places; has_room = x.has_room; job = rest }) (Closed line o ∷ journal_of x.state)
     (rw (lane, rules) k.set_up) kept (omega (arith, one, all, room, left, len, cap))
     (rw none (let e = left in omega (arith, e))) resting grows
-    (rw (lane, rules, newest, none) (record { newest_is = k.newest_is; counts_are = k.counts_are; no_round = k.no_round; job_is = closed }))
+    (rw (lane, rules, newest, none) (record { newest_is = k.newest_is; counts_are = k.counts_are; no_round = k.no_round; job_is = closed; lasts = tt }))
+    (finds-noted (place_of x.places) x.state.journal.items (Closed line o) refl k.finds)
 
 -- ---- a lane in which nothing happened
 
 pub work-new : (w : Work) → IsSetUp w.state.lane w.state.rules → IsKept w.state → journal_of w.state ≡ [] → w.state.newest ≡ None → w.state.parts.items ≡ [] → w.state.spare ≡ 0 → HasRoom 0 w.state
-    → w.has_room ≡ false → w.job ≡ None → ((v : ℕ) → count_of w.drawn v ≡ 0) → IsWork w
-work-new w set_up kept journal newest parts spare room unmade none counts = work-by w [] set_up kept room
+    → w.has_room ≡ false → w.job ≡ None → ((v : ℕ) → count_of w.drawn v ≡ 0) → ((s : Stamp) → place_of w.places s ≡ None) → IsWork w
+work-new w set_up kept journal newest parts spare room unmade none counts places = work-by w [] set_up kept room
     (rw (spare, unmade, none) refl)
     (λ d. rw parts (record { unasked = refl; told = refl; no_round = refl }))
     journal
@@ -211,4 +218,6 @@ work-new w set_up kept journal newest parts spare room unmade none counts = work
       counts_are = counts;
       no_round = λ v b. refl;
       job_is = λ line begin e. let no_begin : None ≡ Some begin = e in cc;
+      lasts = tt;
     }))
+    (finds-none (place_of w.places) places)

@@ -40,6 +40,7 @@ pub record IsReadyFor (c : LaneState) (j : Job) : Type 0 where
   pub unwritten : wrote j.line (history (journal_of c)) ≡ false
   pub opened_is : opened state.version (history (journal_of c)) ≡ true
   pub stamped : is_some j.stamp ≡ not (is_get j.operation.kind)
+  pub lasts : 64 ≤ j.left
   pub enough : (row : Row) → IsKnownRow state.version (history (journal_of c)) row → contains row.bucket (key_of j.operation.id) ≡ true → c.rules.acks ≤ size_of row.complete
 
 abbrev pub IsReady : LaneState → Option Job → Type 0

@@ -162,23 +162,14 @@ ComesTo c line row t (Over outcome told answered) advance.Done = WantsEnd c line
 ComesTo c line row t Short advance.NoMemory = Unit {0}
 ComesTo c line row t _ _ = ⊥
 
--- so many calls are left as the operation may need
-abbrev pub PhaseLasts : ℕ → Phase → Type 0
-PhaseLasts left (Prepared machine row written) = (1 ≤ left) × (messages_left machine ≤ left)
-PhaseLasts left _ = Unit {0}
-
 abbrev pub IsAtMessages : Phase → Type 0
 IsAtMessages (Prepared machine row written) = Unit {0}
 IsAtMessages _ = ⊥
 
--- the operation under way is prepared, and has calls left
+-- the operation under way is prepared
 abbrev pub IsToStep : Option Job → Type 0
 IsToStep None = ⊥
-IsToStep (Some j) = IsAtMessages j.phase × PhaseLasts j.left j.phase
-
-abbrev pub JobLasts : Option Job → Type 0
-JobLasts None = ⊥
-JobLasts (Some j) = PhaseLasts j.left j.phase
+IsToStep (Some j) = IsAtMessages j.phase
 
 -- what a call made of the lane's value, whatever was planned
 abbrev pub AdvancesBy : Work → Work → List Fate → List Fate → Advance → Type 0

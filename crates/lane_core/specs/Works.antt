@@ -1,6 +1,6 @@
 -- What a lane keeps behind its value: its fields, the stamps that were drawn, and the operation under way, of which
 -- the journal says what was done.
-use Rattle.std.specs.Prelude.{◌≡◌, ◌==◌, ◌+◌, ℕ, Bool, true, false, not, List, Option, None, Some, is_some, if◌then◌else◌}
+use Rattle.std.specs.Prelude.{◌≡◌, ◌==◌, ◌≤◌, ◌+◌, ℕ, Bool, true, false, not, List, Option, None, Some, is_some, if◌then◌else◌}
 use Rattle.std.specs.Ordering.{nat_cmp}
 use Rattle.std.specs.Map.{count_at}
 use Rattle.std.specs.BTreeMap as tree
@@ -27,6 +27,7 @@ use Rattle.lane_journals.specs.declared.event.LaneEvent.TheVariants.{Closed}
 use Rattle.lane_keeping.specs.LaneKeeping.{setting_of}
 use Rattle.lane_keeping.specs.Acting.{IsActing}
 use Rattle.lane_operations.specs.OperationKeeping.{AllClosed, IsUnderWay, IsPlainGet}
+use Rattle.lane_operations.specs.Left.{messages_left}
 use Rattle.lane_core.specs.declared.job.Job.{Job}
 use Rattle.lane_core.specs.declared.job.Phase.{Phase}
 use Rattle.lane_core.specs.declared.job.Phase.TheVariants.{Begun, Prepared, Over, Short}
@@ -36,6 +37,7 @@ use Rattle.lane_core.specs.declared.job.UnderWay.{UnderWay}
 use Rattle.lane_core.specs.declared.lane_state.LaneState.{LaneState}
 use Rattle.lane_core.specs.declared.work.Work.{Work}
 use Rattle.lane_core.specs.LaneStates.{journal_of, IsKept, HasRoom, AreResting, IsCarriedBy}
+use Rattle.lane_core.specs.Written.{place_of, FindsEntries}
 use Rattle.lane_wants.specs.Wants.{Stands, IsEnd, WasAskedIn}
 use Rattle.lane_core.specs.LaneValues.{LaneValue, IsSetUp, last_state, under_way_of}
 
@@ -126,6 +128,17 @@ abbrev pub JobKeeps : Low → Rules → List LaneEvent → Option Job → Type 0
 JobKeeps lane rules J None = AllClosed (history J)
 JobKeeps lane rules J (Some j) = IsJob lane rules J j
 
+-- so many calls are left as the operation may need
+abbrev pub PhaseLasts : ℕ → Phase → Type 0
+PhaseLasts left Begun = left ≡ 65
+PhaseLasts left (Prepared machine row written) = (1 ≤ left) × (messages_left machine ≤ left)
+PhaseLasts left (Over outcome told answered) = Unit {0}
+PhaseLasts left Short = Unit {0}
+
+abbrev pub JobLasts : Option Job → Type 0
+JobLasts None = Unit {0}
+JobLasts (Some j) = PhaseLasts j.left j.phase
+
 -- it is over, or memory was wanted
 abbrev pub IsToClosePhase : Phase → Type 0
 IsToClosePhase Begun = ⊥
@@ -178,3 +191,5 @@ pub record IsWork (w : Work) : Type 0 where
   pub counts_are : (v : ℕ) → count_of w.drawn v ≡ stamps_of v (history (journal_of w.state))
   pub no_round : (v : ℕ) (b : Low) → running v b (history (journal_of w.state)) ≡ false
   pub job_is : JobKeeps w.state.lane w.state.rules (journal_of w.state) w.job
+  pub lasts : JobLasts w.job
+  pub finds : FindsEntries (place_of w.places) w.state.journal.items

@@ -2,6 +2,7 @@ ghost use Rattle.std.specs.Prelude.{◌≡◌, ◌≢◌, ℕ, ◌≤◌, ◌<�
 ghost use Rattle.std.specs.Option.{option_copied};
 ghost use Rattle.bucket_ids.specs.Buckets.{IsIn};
 ghost use Rattle.cluster_states.specs.Publishing.{publish_fault};
+ghost use Rattle.ideal_nodes.specs.Placement.{IsOwner};
 ghost use Rattle.carriers.specs.Fates.{planned_with};
 ghost use Rattle.op_machine.specs.Plans.{IsOwn};
 ghost use Rattle.lane_journals.specs.Buckets.{key_of};
@@ -18,7 +19,9 @@ ghost use Rattle.lane_core.specs.LaneValues.{LaneValue, IsSetUp, new_value, IsLa
 ghost use Rattle.lane_core.specs.declared.job.Progress.TheVariants as progress;
 
 use crate::answers::{Advance, Begin};
+use crate::known_owner::KnownOwner;
 use crate::work::Work;
+use crate::written::entry_in;
 use bucket_db::Row;
 use bucket_ids::Bucket;
 use carriers::{Carrier, Fate};
@@ -38,6 +41,8 @@ use value_lists::NoMemory;
 #[derive(Drop)]
 pub struct Lane<C: Carrier + Drop> {
     work: Work,
+    /// The owner under the state that was published last.
+    owner: Option<KnownOwner>,
     carrier: C,
 }
 
@@ -64,6 +69,7 @@ impl<C: Carrier + Drop> Lane<C> {
     {
         Lane {
             work: Work::new(alloc, Bucket::new(bits, u64::from(lane)), rules),
+            owner: None,
             carrier,
         }
     }
@@ -88,6 +94,21 @@ impl<C: Carrier + Drop> Lane<C> {
             ≡ record self.old { journal = event.Published state.now ∷ self.old.journal; has_room = false } }
     {
         self.work.publish(state);
+        self.owner = KnownOwner::new(self.work.state.lane, state);
+    }
+
+    /// The distributor that owns the lane under the state that was published last, where that is known; takes no
+    /// memory.
+    pub fn owner(&self) -> Option<u8>
+        ensures { IfSome result (λ d. IfSome (last_state self.now.journal) (λ s. IsOwner self.now.lane s d)) }
+    {
+        let Some(known) = &self.owner else {
+            return None;
+        };
+        let Some(state) = &self.work.state.newest else {
+            return None;
+        };
+        known.owner_of(self.work.state.lane, state)
     }
 
     /// A distributor hears the newest state, where it holds none or an older one; answers its version.
@@ -118,7 +139,19 @@ impl<C: Carrier + Drop> Lane<C> {
         requires plain { IsPlainGet operation.now }
         ensures { IsBeginning line operation.now via self.old self.new result }
     {
-        self.work.begin(line, operation, via)
+        self.work.begin(line, operation, via, self.owner.as_ref())
+    }
+
+    /// Prepares the operation that was begun, and then sends one message with each call and deals with it. At
+    /// most 65 calls are needed.
+    pub fn advance(&mut self, line: u32) -> Advance
+        requires { IsAt line progress.Runs self.old.under_way }
+        ensures { IsAdvance self.old.under_way self.old self.new result }
+    {
+        if self.work.is_begun() {
+            return self.work.prepare(&mut self.carrier);
+        }
+        self.work.step(&mut self.carrier)
     }
 
     /// Closes the operation, which is over or wanted memory; takes no memory.
@@ -152,6 +185,13 @@ impl<C: Carrier + Drop> Lane<C> {
         ensures lane { IsLaneValue self.now }
     {
         &self.work.state.journal
+    }
+
+    /// The entry that was written with a stamp; takes no memory.
+    pub fn entry(&self, stamp: Stamp) -> Option<&Entry>
+        ensures { option_copied result ≡ entry_at stamp self.now.journal }
+    {
+        entry_in(&self.work.places, &self.work.state.journal, stamp)
     }
 
     /// A node's part, which is what the journal says of it; one that isn't there took no message.

@@ -24,24 +24,31 @@
 #![tactic(auto)]
 
 pub mod answers;
+pub mod begun;
 pub mod carriage;
+pub mod filled_rows;
 pub mod job;
+pub mod known_owner;
 pub mod lane;
 pub mod lane_state;
+pub mod opened_lines;
 pub mod opening;
 pub mod operations;
 pub mod parts;
 pub mod preparing;
+pub mod readying;
 pub mod rounds;
 pub mod shortfall;
 pub mod shown;
 pub mod states;
 pub mod steps;
 pub mod work;
+pub mod written;
 
 pub use answers::{Advance, Begin};
 pub use job::{Progress, UnderWay};
 pub use lane::Lane;
 pub use lane_state::LaneState;
+pub use readying::Shortage;
 pub use rounds::{RoundEnd, RoundRun};
 pub use work::Work;

@@ -235,6 +235,8 @@ impl LaneState {
         requires asks { Asks self.old distributor message }
         requires awaited { (part_of self.old distributor).awaited ≡ Some message.receiver }
         requires part { distributor < vec_len self.old.parts }
+        ensures planned { C.planned carrier.new ≡ C.planned carrier.old }
+        ensures kind { C.takes_plans carrier.new ≡ C.takes_plans carrier.old }
         ensures keeps { IsKept self.new }
         ensures spare { HasRoom 0 self.new }
         ensures carried { IsCarriedBy self.new (C.given carrier.new) }
@@ -317,6 +319,8 @@ impl LaneState {
         requires part { distributor < vec_len self.old.parts }
         requires opening { IsOpening (part_of self.old distributor) }
         requires key { IsIn self.old.lane key }
+        ensures planned { C.planned carrier.new ≡ C.planned carrier.old }
+        ensures kind { C.takes_plans carrier.new ≡ C.takes_plans carrier.old }
         ensures keeps { IsKept self.new }
         ensures spare { HasRoom 0 self.new }
         ensures carried { IsCarriedBy self.new (C.given carrier.new) }
@@ -355,6 +359,8 @@ impl LaneState {
         requires part { distributor < vec_len self.old.parts }
         requires opening { IsOpening (part_of self.old distributor) }
         requires key { IsIn self.old.lane key }
+        ensures planned { C.planned carrier.new ≡ C.planned carrier.old }
+        ensures kind { C.takes_plans carrier.new ≡ C.takes_plans carrier.old }
         ensures keeps { IsKept self.new }
         ensures spare { HasRoom 0 self.new }
         ensures carried { IsCarriedBy self.new (C.given carrier.new) }
@@ -421,6 +427,8 @@ impl LaneState {
         requires part { distributor < vec_len self.old.parts }
         requires opening { IsOpening (part_of self.old distributor) }
         requires key { IsIn self.old.lane key }
+        ensures planned { C.planned carrier.new ≡ C.planned carrier.old }
+        ensures kind { C.takes_plans carrier.new ≡ C.takes_plans carrier.old }
         ensures keeps { IsKept self.new }
         ensures spare { HasRoom 0 self.new }
         ensures carried { IsCarriedBy self.new (C.given carrier.new) }

@@ -1,5 +1,6 @@
 ghost use Rattle.std.specs.Prelude.{◌≡◌, ◌≤◌, ◌+◌, ℕ, IsSome, IfOk, OnOk, OnErr};
 ghost use Rattle.bucket_ids.specs.Buckets.{IsIn};
+ghost use Rattle.global_ids.specs.Keys.{key_of};
 ghost use Rattle.op_machine.specs.Plans.{IsPlan, plan_of};
 ghost use Rattle.op_machine.specs.Standings.{IsBegun};
 ghost use Rattle.lane_core.specs.LaneStates.{IsKept, part_of};
@@ -14,7 +15,7 @@ use lane_durability::laws::one_active_copy;
 use lane_journals::LaneEvent;
 use lane_journals::laws::kept_journals_mean_legal_ones;
 use lane_keeping::laws::owners_act;
-use lane_operations::laws::operations_prepare;
+use lane_operations::laws::{operations_prepare, operations_shorten};
 use messages::Origin;
 use op_machine::OpMachine;
 use std::alloc::Global;
@@ -43,12 +44,13 @@ fn machine_of(
     row: &Row,
     acks: u8,
 ) -> Result<OpMachine, NoMemory>
-    requires { IsPlan (plan_of origin job.now.operation job.now.stamp row.now.complete row.now.active acks) }
+    requires key { job.now.key ≡ key_of job.now.operation.id }
+    requires plan { IsPlan (plan_of origin job.now.operation job.now.stamp row.now.complete row.now.active acks) }
     ensures { IfOk result (IsBegun
         (plan_of origin job.now.operation job.now.stamp row.now.complete row.now.active acks)) }
 {
     let operation = job.operation.copy(alloc)?;
-    Ok(OpMachine::new(origin, operation, job.stamp, row.complete, row.active, acks))
+    Ok(OpMachine::with_key(job.key, origin, operation, job.stamp, row.complete, row.active, acks))
 }
 
 /// Puts a job into another phase.
@@ -75,6 +77,7 @@ impl Work {
     {
         owners_act();
         operations_prepare();
+        operations_shorten();
         one_active_copy();
         kept_journals_mean_legal_ones();
         let Some(job) = &self.job else {

@@ -390,6 +390,8 @@ impl LaneState {
         requires node { message.receiver < vec_len self.old.nodes }
         requires room { HasRoom (length self.old.late.late + 4) self.old }
         requires place { self.old.late.room ≡ true }
+        ensures planned { C.planned carrier.new ≡ C.planned carrier.old }
+        ensures kind { C.takes_plans carrier.new ≡ C.takes_plans carrier.old }
         ensures keeps { IsKept self.new }
         ensures spare { HasRoom 0 self.new }
         ensures runs { IsRunning self.old.lane (journal_of self.new) run.new }
@@ -425,6 +427,8 @@ impl LaneState {
         requires runs { IsRunning self.old.lane (journal_of self.old) run.old }
         requires told { run.old.round.awaited ≡ None }
         requires numbered { self.old.last ≡ length (C.given carrier.old) }
+        ensures planned { C.planned carrier.new ≡ C.planned carrier.old }
+        ensures kind { C.takes_plans carrier.new ≡ C.takes_plans carrier.old }
         ensures keeps { IsKept self.new }
         ensures spare { HasRoom 0 self.new }
         ensures runs { OnOk result (IsRunning self.old.lane (journal_of self.new) run.new) }
@@ -460,6 +464,8 @@ impl LaneState {
         requires runs { IsRunning self.old.lane (journal_of self.old) run.old }
         requires told { run.old.round.awaited ≡ None }
         requires numbered { self.old.last ≡ length (C.given carrier.old) }
+        ensures planned { C.planned carrier.new ≡ C.planned carrier.old }
+        ensures kind { C.takes_plans carrier.new ≡ C.takes_plans carrier.old }
         ensures keeps { IsKept self.new }
         ensures spare { HasRoom 0 self.new }
         ensures cut { IsCutOff self.old.lane (journal_of self.new) run.new }
@@ -594,6 +600,8 @@ impl LaneState {
         requires inside { IsIn self.old.lane run.key }
         requires carried { IsCarriedBy self.old (C.given carrier.old) }
         requires room { HasRoom 1 self.old }
+        ensures planned { C.planned carrier.new ≡ C.planned carrier.old }
+        ensures kind { C.takes_plans carrier.new ≡ C.takes_plans carrier.old }
         ensures keeps { IsKept self.new }
         ensures room { HasRoom 0 self.new }
         ensures carried { IsCarriedBy self.new (C.given carrier.new) }

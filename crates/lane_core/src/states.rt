@@ -33,6 +33,7 @@ impl Work {
         Work {
             state: LaneState::new(alloc, lane, rules),
             drawn: BTreeMap::new(alloc),
+            places: BTreeMap::new(alloc),
             has_room: false,
             job: None,
         }

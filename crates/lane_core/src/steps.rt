@@ -12,13 +12,15 @@ ghost use Rattle.node_journals.specs.Flights.{IsInFlight};
 ghost use Rattle.lane_keeping.specs.LaneKeeping.{setting_of};
 ghost use Rattle.lane_keeping.specs.Asking.{IsJustSent};
 ghost use Rattle.lane_core.specs.LaneStates.{journal_of, IsKept, HasRoom, IsCarriedBy};
-ghost use Rattle.lane_core.specs.Steps.{HearsIn, IsToWrite, IsToSend, IsReady, WritesOn, SendsIn, SentIn, IsPreparedIn, StandsOn, GoesIn, RunsIn, IsTold, TellsOne, StandsIn, IsQuiet, IsPhaseOf, ComesTo, IsToStep, JobLasts, AdvancesBy};
+ghost use Rattle.lane_core.specs.Steps.{HearsIn, IsToWrite, IsToSend, IsReady, WritesOn, SendsIn, SentIn, IsPreparedIn, StandsOn, GoesIn, RunsIn, IsTold, TellsOne, StandsIn, IsQuiet, IsPhaseOf, ComesTo, IsToStep, AdvancesBy};
 ghost use Rattle.lane_core.specs.Works.{StaysCarried, IsWork};
+ghost use Rattle.lane_core.specs.Written.{place_of, FindsEntries, AddsNoEntry};
 
 use crate::answers::Advance;
 use crate::job::{Job, Phase};
 use crate::lane_state::{LaneState, push_within};
 use crate::work::{Work, put_job};
+use crate::written::keep_place;
 use bucket_ids::Bucket;
 use carriers::{Carrier, Fate};
 use entry_maps::Entry;
@@ -29,9 +31,11 @@ use lane_operations::laws::{
     operations_end, operations_hear, operations_send, operations_shorten, operations_write,
 };
 use messages::{Body, Message, NotedBody};
-use node_journals::laws::messages_fly;
+use node_journals::laws::{entries_are_written, messages_fly};
 use op_machine::OpMachine;
+use stamps::Stamp;
 use std::alloc::Global;
+use std::collections::BTreeMap;
 use value_lists::{NoMemory, TryCopy};
 
 /// The phase that a call comes to, and what it answers.
@@ -71,20 +75,30 @@ fn phase_of(alloc: Global, row: Bucket, written: bool, machine: OpMachine) -> St
 }
 
 impl LaneState {
-    /// Notes that a line writes an entry, which may come next. The only error is want of memory.
-    fn write_entry(&mut self, line: u32, entry: &Entry) -> Result<(), NoMemory>
+    /// Notes that a line writes an entry, which may come next, and keeps its place. The only error is want of
+    /// memory.
+    fn write_entry(
+        &mut self,
+        places: &mut BTreeMap<Stamp, usize>,
+        line: u32,
+        entry: &Entry,
+    ) -> Result<(), NoMemory>
         requires keeps { IsKept self.old }
         requires spare { HasRoom 0 self.old }
         requires legal { IsLegalStep (setting_of self.old.lane self.old.rules) (journal_of self.old)
             (event.Wrote line entry.now) }
+        requires finds { FindsEntries (place_of places.old) self.old.journal.items }
         ensures keeps { IsKept self.new }
         ensures spare { HasRoom 0 self.new }
+        ensures finds { FindsEntries (place_of places.new) self.new.journal.items }
         ensures grows { OnOk result (journal_of self.new ≡ event.Wrote line entry.now ∷ journal_of self.old) }
         ensures err { OnErr result (journal_of self.new ≡ journal_of self.old) }
         ensures after { self.new ≡ record self.old { journal = self.new.journal } }
     {
+        entries_are_written();
         let entry = entry.copy(self.alloc)?;
         self.journal.reserve(1 + self.spare)?;
+        keep_place(places, entry.stamp, self.journal.len())?;
         self.note(LaneEvent::Wrote { line, entry });
         Ok(())
     }
@@ -93,6 +107,7 @@ impl LaneState {
     /// whether an entry is written. The only error is want of memory.
     fn write_wanted(
         &mut self,
+        places: &mut BTreeMap<Stamp, usize>,
         line: u32,
         written: bool,
         message: &Message,
@@ -100,8 +115,10 @@ impl LaneState {
         requires keeps { IsKept self.old }
         requires spare { HasRoom 0 self.old }
         requires wants { IsToWrite self.old line written message.now }
+        requires finds { FindsEntries (place_of places.old) self.old.journal.items }
         ensures keeps { IsKept self.new }
         ensures spare { HasRoom 0 self.new }
+        ensures finds { FindsEntries (place_of places.new) self.new.journal.items }
         ensures ready { IfOk result (λ now. IsReady now message.now.body) }
         ensures writes { IfOk result (λ now. WritesOn self.old self.new line written now message.now) }
         ensures carried { StaysCarried self.old self.new }
@@ -115,7 +132,7 @@ impl LaneState {
                 if written {
                     return Ok(true);
                 }
-                self.write_entry(line, entry)?;
+                self.write_entry(places, line, entry)?;
                 Ok(true)
             }
             Body::Ask
@@ -248,7 +265,10 @@ impl LaneState {
         ensures keeps { IsKept self.new }
         ensures spare { HasRoom 0 self.new }
         ensures carried { IsCarriedBy self.new (C.given carrier.new) }
+        ensures planned { C.planned carrier.new ≡ C.planned carrier.old }
+        ensures kind { C.takes_plans carrier.new ≡ C.takes_plans carrier.old }
         ensures quiet { IsQuiet (journal_of self.old) (journal_of self.new) }
+        ensures entries { AddsNoEntry (journal_of self.old) (journal_of self.new) }
         ensures runs { SendsIn self.old self.new message machine.old }
         ensures stands { OnOk result (SentIn self.old self.new message machine.old machine.new) }
         ensures told { OnOk result (IsTold message machine.old machine.new) }
@@ -276,15 +296,20 @@ impl LaneState {
         line: u32,
         written: &mut bool,
         machine: &mut OpMachine,
+        places: &mut BTreeMap<Stamp, usize>,
         carrier: &mut C,
     ) -> Result<bool, NoMemory>
         requires keeps { IsKept self.old }
         requires spare { HasRoom 0 self.old }
         requires carried { IsCarriedBy self.old (C.given carrier.old) }
         requires stands { IsPreparedIn self.old line written.old machine.old }
+        requires finds { FindsEntries (place_of places.old) self.old.journal.items }
         ensures keeps { IsKept self.new }
         ensures spare { HasRoom 0 self.new }
+        ensures finds { FindsEntries (place_of places.new) self.new.journal.items }
         ensures carried { IsCarriedBy self.new (C.given carrier.new) }
+        ensures planned { C.planned carrier.new ≡ C.planned carrier.old }
+        ensures kind { C.takes_plans carrier.new ≡ C.takes_plans carrier.old }
         ensures quiet { IsQuiet (journal_of self.old) (journal_of self.new) }
         ensures run { RunsIn self.old self.new line machine.old }
         ensures going { GoesIn self.new line machine.old.plan }
@@ -303,7 +328,7 @@ impl LaneState {
             return Ok(false);
         };
         let body = message.body.noted(self.alloc)?;
-        let ready = self.write_wanted(line, *written, &message)?;
+        let ready = self.write_wanted(places, line, *written, &message)?;
         *written = ready;
         self.room_for_message(message.receiver)?;
         self.send_operation(machine, message, carrier, body)?;
@@ -317,15 +342,20 @@ impl LaneState {
         row: Bucket,
         written: bool,
         machine: OpMachine,
+        places: &mut BTreeMap<Stamp, usize>,
         carrier: &mut C,
     ) -> Stepped
         requires keeps { IsKept self.old }
         requires spare { HasRoom 0 self.old }
         requires carried { IsCarriedBy self.old (C.given carrier.old) }
         requires stands { StandsIn self.old line row written machine }
+        requires finds { FindsEntries (place_of places.old) self.old.journal.items }
         ensures keeps { IsKept self.new }
         ensures spare { HasRoom 0 self.new }
+        ensures finds { FindsEntries (place_of places.new) self.new.journal.items }
         ensures carried { IsCarriedBy self.new (C.given carrier.new) }
+        ensures planned { C.planned carrier.new ≡ C.planned carrier.old }
+        ensures kind { C.takes_plans carrier.new ≡ C.takes_plans carrier.old }
         ensures quiet { IsQuiet (journal_of self.old) (journal_of self.new) }
         ensures run { RunsIn self.old self.new line machine }
         ensures going { GoesIn self.new line machine.plan }
@@ -340,7 +370,7 @@ impl LaneState {
         operations_shorten();
         let mut written = written;
         let mut machine = machine;
-        match self.send_next(line, &mut written, &mut machine, carrier) {
+        match self.send_next(line, &mut written, &mut machine, places, carrier) {
             Ok(_) => phase_of(self.alloc, row, written, machine),
             Err(NoMemory) => Stepped {
                 phase: Phase::Short,
@@ -358,8 +388,9 @@ impl Work {
         requires prepared { IsToStep self.old.job }
         ensures keeps { IsWork self.new }
         ensures carried { IsCarriedBy self.new.state (C.given carrier.new) }
+        ensures planned { C.planned carrier.new ≡ C.planned carrier.old }
+        ensures kind { C.takes_plans carrier.new ≡ C.takes_plans carrier.old }
         ensures advances { AdvancesBy self.old self.new (C.given carrier.old) (C.given carrier.new) result }
-        ensures lasts { JobLasts self.new.job }
     {
         operations_end();
         let Some(job) = self.job.take() else {
@@ -382,7 +413,9 @@ impl Work {
         else {
             unreachable!();
         };
-        let Stepped { phase, answer } = self.state.step_phase(line, row, written, machine, carrier);
+        let Stepped { phase, answer } = self
+            .state
+            .step_phase(line, row, written, machine, &mut self.places, carrier);
         put_job(
             &mut self.job,
             Job {

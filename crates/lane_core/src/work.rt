@@ -15,6 +15,7 @@ ghost use Rattle.lane_core.specs.Works.{IsWork, StaysCarried, OfValues, SameValu
 
 use crate::answers::Begin;
 use crate::job::{Job, Phase};
+use crate::known_owner::KnownOwner;
 use crate::lane_state::LaneState;
 use cluster_states::ClusterState;
 use global_ids::key_of;
@@ -27,12 +28,13 @@ use stamps::Stamp;
 use std::collections::BTreeMap;
 use value_lists::{NoMemory, TryCopy};
 
-/// A lane with what it keeps of its lines: how many stamps were drawn under each version, and the operation
-/// that is under way.
+/// A lane with what it keeps of its lines: how many stamps were drawn under each version, where in the journal
+/// the entry of each stamp stands, and the operation that is under way.
 #[derive(Drop)]
 pub struct Work {
     pub state: LaneState,
     pub drawn: BTreeMap<u32, u64>,
+    pub places: BTreeMap<Stamp, usize>,
     /// Whether room was made for a publication.
     pub has_room: bool,
     pub job: Option<Job>,
@@ -143,8 +145,14 @@ impl Work {
     }
 
     /// Begins the operation of a line at a distributor; refused where that one doesn't own the lane under the
-    /// state that it holds.
-    pub fn begin(&mut self, line: u32, operation: &Operation, via: u8) -> Begin
+    /// state that it holds. The owner may be known.
+    pub fn begin(
+        &mut self,
+        line: u32,
+        operation: &Operation,
+        via: u8,
+        known: Option<&KnownOwner>,
+    ) -> Begin
         requires keeps { IsWork self.old }
         requires idle { self.old.job ≡ None }
         requires fresh { IsFresh (history (journal_of self.old.state)) line }
@@ -159,7 +167,7 @@ impl Work {
         let Some(state) = self.state.state_at(via) else {
             unreachable!();
         };
-        let owner = self.state.owner_under(&state);
+        let owner = self.state.owner_by(known, &state);
         if owner == via {
             return match self.begin_at(line, operation, via, &state) {
                 Ok(()) => Begin::Begun,

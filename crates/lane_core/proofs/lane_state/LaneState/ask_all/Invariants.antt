@@ -11,6 +11,8 @@ invariant-asking g l = record {
   keeps : IsKept l.self;
   spare : HasRoom 0 l.self;
   carried : IsCarriedBy l.self (g.C.Carrier.given l.carrier);
+  planned : g.C.Carrier.planned l.carrier ≡ g.C.Carrier.planned l.fn.carrier;
+  kind : g.C.Carrier.takes_plans l.carrier ≡ g.C.Carrier.takes_plans l.fn.carrier;
   opening : IsOpening (part_of l.self l.distributor);
   asked : IsAsked l.fn.self.lane l.fn.self.rules l.distributor (journal_of l.fn.self) (part_of l.fn.self l.distributor) (journal_of l.self) (part_of l.self l.distributor) l.short;
   others : OthersStay l.fn.self.lane l.fn.self.rules l.fn.self.parts.items l.self.parts.items l.distributor;

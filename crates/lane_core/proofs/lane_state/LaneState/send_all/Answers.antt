@@ -15,6 +15,8 @@ loop-init g c =
       spare = c.requires.spare;
       runs = c.requires.runs;
       told = c.requires.told;
+      planned = refl;
+      kind = refl;
       numbered = c.requires.numbered;
       on = runs-nothing _ _ _ _ _ _ _;
       same = goes-none _;
@@ -31,6 +33,8 @@ loop-preserved g c =
       spare = n.spare;
       runs = subst (λ (k : Low). IsRunning k (journal_of e) c.step_round.new.run) (ap (λ (z : LaneState). z.lane) l.invariant.after) n.runs;
       told = n.told;
+      planned = n.planned ∙ l.invariant.planned;
+      kind = n.kind ∙ l.invariant.kind;
       numbered = runs-numbered _ _ _ _ _ _ _ _ _ _ _ l.invariant.numbered n.on;
       on = runs-then _ _ _ _ _ _ _ _ _ _ _ _ _ _ _ l.invariant.on
           (runs-of l.self.lane c.args.self.now.lane l.run c.args.run.now _ _ _ _ _ _ _ _ (ap (λ (z : LaneState). z.lane) l.invariant.after) l.invariant.same n.on);

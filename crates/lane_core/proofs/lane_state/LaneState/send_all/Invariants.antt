@@ -10,6 +10,8 @@ invariant-loop g l = record {
   spare : HasRoom 0 l.self;
   runs : IsRunning l.initial.self.lane (journal_of l.self) l.run;
   told : l.run.round.awaited ≡ None;
+  planned : g.C.Carrier.planned l.carrier ≡ g.C.Carrier.planned l.initial.carrier;
+  kind : g.C.Carrier.takes_plans l.carrier ≡ g.C.Carrier.takes_plans l.initial.carrier;
   numbered : l.self.last ≡ length (g.C.Carrier.given l.carrier);
   on : RunsOn l.initial.self.lane l.initial.run.distributor l.initial.run.state (g.C.Carrier.given l.initial.carrier) (g.C.Carrier.given l.carrier) l.initial.self.last l.self.last l.initial.self.late.late l.self.late.late (journal_of l.initial.self) (journal_of l.self);
   same : GoesOn l.initial.run l.run;

@@ -7,6 +7,8 @@ use Rattle.lane_core.specs.LaneStates.{journal_of}
 use Rattle.lane_wants.specs.Wants.{Same}
 use Rattle.lane_core.specs.Steps.{SendsIn, SentIn, IsTold}
 use Rattle.lane_core.proofs.RunningSteps.{asks-of, run-same, going-of, wrote-in, sent-in, quiet-on, quiet-same}
+use Rattle.lane_core.specs.Written.{place_of}
+use Rattle.lane_core.proofs.Entries.{finds-grown}
 use Rattle.lane_core.proofs.lane_state.LaneState.send_next.Goals as goal
 
 pub returns-in_err-message-clause-run : goal.returns-in_err-message-clause-run
@@ -186,3 +188,18 @@ returns-clause-quiet g c =
     let e = c.send_operation.new.self in
     quiet-on (journal_of x) (journal_of y) (journal_of e) c.write_wanted.ensures.quiet
     (quiet-on (journal_of y) (journal_of a) (journal_of e) (quiet-same (journal_of y) (journal_of a) (rw c.in_ok-room_for_message.ensures.same refl)) c.send_operation.ensures.quiet)
+
+pub returns-in_err-room_for_message-clause-finds : goal.returns-in_err-room_for_message-clause-finds
+returns-in_err-room_for_message-clause-finds g c = rw c.in_err-room_for_message.ensures.same c.write_wanted.ensures.finds
+
+pub returns-in_err-send_operation-clause-finds : goal.returns-in_err-send_operation-clause-finds
+returns-in_err-send_operation-clause-finds g c =
+    let a = c.room_for_message.new.self in
+    let e = c.send_operation.new.self in
+    finds-grown (place_of c.write_wanted.new.places) a.journal.items e.journal.items c.send_operation.ensures.entries (rw c.in_ok-room_for_message.ensures.same c.write_wanted.ensures.finds)
+
+pub returns-clause-finds : goal.returns-clause-finds
+returns-clause-finds g c =
+    let a = c.room_for_message.new.self in
+    let e = c.send_operation.new.self in
+    finds-grown (place_of c.write_wanted.new.places) a.journal.items e.journal.items c.send_operation.ensures.entries (rw c.in_ok-room_for_message.ensures.same c.write_wanted.ensures.finds)

@@ -10,6 +10,7 @@ use Rattle.lane_core.specs.Steps.{GoesIn}
 use Rattle.lane_core.proofs.Going.{IsSentIn, went-by, went-carried}
 use Rattle.lane_core.proofs.Standing.{awaiting-sent}
 use Rattle.lane_core.proofs.RunningSteps.{has-written, wants-sent, run-delivered, run-dealt, going-of, going-sent, going-dealt, going-late, sent-on, quiet-sent, quiet-dealt, quiet-late}
+use Rattle.lane_core.proofs.Entries.{adds-went}
 use Rattle.lane_core.proofs.lane_state.LaneState.send_operation.Goals as goal
 
 pub send_message-requires-clause-legal : goal.send_message-requires-clause-legal
@@ -100,3 +101,15 @@ returns-clause-stands g c =
     (c.operations_send.ensures _ _ _ _ _ _ _ c.requires.keeps.keeps _ _ _ _ _ _ st.stands.knows m st.acting c.requires.next (has-written x.lane x.rules (journal_of x) line row written t m st c.requires.next ready)))
     h (numbers c.deliver_due.ensures.due.taken) c.deliver_due.ensures.due.delivered c.deliver_due.ensures.keeps.keeps.legal)
     c.deal_operation-told.ensures.stands
+
+pub returns-clause-entries : goal.returns-clause-entries
+returns-clause-entries g c =
+    let x = c.args.self.now in
+    let b = c.send_message.new.self in
+    let d = c.deal_operation-told.new.self in
+    let e = c.deliver_due.new.self in
+    let m = c.args.message in
+    let sent : IsSentIn x b m = record { last = ap (λ (z : LaneState). z.last) c.send_message.ensures.after; journal = c.send_message.ensures.grows; late = ap (λ (z : LaneState). z.late.late) c.send_message.ensures.after } in
+    let w = went-by c.fate-fate.result x b d e m _ _ c.fate-fate.ensures.given sent c.deal_operation-told.ensures.dealt c.deal_operation-told.ensures.late
+    (ap (λ (z : LaneState). z.last) c.deal_operation-told.ensures.after) c.deliver_due.ensures.due c.deliver_due.ensures.none_left (ap (λ (z : LaneState). z.last) c.deliver_due.ensures.after) in
+    adds-went x e m _ _ w

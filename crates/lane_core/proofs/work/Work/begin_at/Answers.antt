@@ -9,6 +9,8 @@ use Rattle.lane_core.specs.LaneValues.{drawn}
 use Rattle.lane_core.specs.Works.{count_of, new_job, one_if}
 use Rattle.lane_core.proofs.Carrying.{carried-more}
 use Rattle.lane_core.proofs.Working.{key-in, next-stamp, drawn-stamped, counts-begun, job-begun, work-noted}
+use Rattle.lane_core.specs.Written.{place_of}
+use Rattle.lane_core.proofs.Entries.{finds-noted}
 use Rattle.lane_core.proofs.work.Work.begin_at.Goals as goal
 
 pub note-requires-clause-legal : goal.note-requires-clause-legal
@@ -48,7 +50,9 @@ returns-clause-keeps c =
       counts_are = counts-begun J c.args.line c.args.via s.version o.id (drawn o.kind s.version J) (count_of x.drawn) (count_of c.count_stamp.new.counts) (next-stamp o.kind s.version J) c.requires.keeps.counts_are (rw (sym stamp) c.in_ok-count_stamp.ensures.ok);
       no_round = c.requires.keeps.no_round;
       job_is = job-begun x.state.lane x.state.rules J c.args.line c.args.via s o (drawn o.kind s.version J) acting c.requires.in_lane c.requires.own c.requires.plain (drawn-stamped o.kind s.version J) may.preparing;
-    }))
+      lasts = refl;
+    })
+    (finds-noted (place_of x.places) x.state.journal.items (Begun c.args.line c.args.via s.version o.id (drawn o.kind s.version J)) refl c.requires.keeps.finds))
 
 pub returns-clause-carried : goal.returns-clause-carried
 returns-clause-carried c = carried-more c.args.self.now.state c.note.new.self (Begun c.args.line c.args.via c.version-version.result c.in_ok-id.id c.next_stamp-stamp.result) tt (c.note.ensures.grows ∙ rw c.reserve.ensures.items refl) (ap (λ (z : LaneState). z.last) c.note.ensures.after) (ap (λ (z : LaneState). z.late.late) c.note.ensures.after)

@@ -52,7 +52,7 @@ returns-clause-after c = λ given planned takes.
     let told : e.told ≡ e.outcome = (ends-so x.state j k _ _ _ _ _ _ c.end_of-line.ensures).0 in
     let grows : journal_of c.note_end.new.self ≡ Closed j.line e.told ∷ journal_of x.state = c.note_end.ensures.grows ∙ rw (c.end_of-line.ensures.line_is, told) refl in
     rw (c.in-Some.ensures.after, is)
-    (value-by x (record { state = c.note_end.new.self; drawn = x.drawn; has_room = x.has_room; job = None }) given planned takes (Closed j.line e.told ∷ journal_of x.state)
+    (value-by x (record { state = c.note_end.new.self; drawn = x.drawn; places = x.places; has_room = x.has_room; job = None }) given planned takes (Closed j.line e.told ∷ journal_of x.state)
     (ap (λ (z : LaneState). z.lane) after) (ap (λ (z : LaneState). z.rules) after) grows refl)
 
 pub returns-clause-carried : goal.returns-clause-carried

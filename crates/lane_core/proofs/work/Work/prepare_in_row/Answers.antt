@@ -25,8 +25,16 @@ row_with-row-requires-clause-key c =
     let r : IsReadyFor x.state j = rw is at c.requires.ready in
     key-there x j c.requires.keeps is r
 
-pub machine_of-requires : goal.machine_of-requires
-machine_of-requires c =
+pub machine_of-requires-clause-key : goal.machine_of-requires-clause-key
+machine_of-requires-clause-key c =
+    let x = c.args.self.now in
+    let j : Job = c.in-Some.job in
+    let is : x.job ≡ Some j = c.in-Some.is in
+    let r : IsReadyFor x.state j = rw is at c.requires.ready in
+    (job-of x j c.requires.keeps is r).key_is
+
+pub machine_of-requires-clause-plan : goal.machine_of-requires-clause-plan
+machine_of-requires-clause-plan c =
     let x = c.args.self.now in
     let j : Job = c.in-Some.job in
     let is : x.job ≡ Some j = c.in-Some.is in
@@ -64,7 +72,7 @@ returns-clause-keeps c =
     let begun : IsBegun (plan_of origin j.operation j.stamp row.complete row.active x.state.rules.acks) c.in_ok-machine.machine = rw (version, c.low.ensures.value) at c.in_ok-machine.ensures in
     let operation = c.operations_prepare.ensures.known _ _ _ _ _ _ _ keep _ _ _ _ _ (preparing x j c.requires.keeps is r) row c.in_ok-machine.machine r.acting fit.0 fit.1 (job-of x j c.requires.keeps is r).plain
     (fit-plan x j c.requires.keeps is r row fit.0 fit.1 origin all) begun in
-    fit-work x j c.requires.keeps is r row fit.0 fit.1 c.note.new.self c.set_phase.new.place c.in_ok-machine.machine origin begun operation
+    fit-work x j c.requires.keeps is r row fit.0 fit.1 c.operations_shorten.ensures.few c.note.new.self c.set_phase.new.place c.in_ok-machine.machine origin begun operation
     (c.set_phase.ensures ∙ rw is refl) c.note.ensures.after c.note.ensures.keeps (c.note.ensures.grows ∙ rw c.reserve.ensures.items refl) (search rules)
 
 pub returns-clause-carried : goal.returns-clause-carried
@@ -85,6 +93,6 @@ returns-clause-ok c = λ given planned takes.
     rw is (record {
       row = row;
       wanted = fit-wanted x j c.requires.keeps is r row fit.0 fit.1;
-      after = rw put (value-by x (record { state = c.note.new.self; drawn = x.drawn; has_room = x.has_room; job = Some (record j { phase = phase.Prepared c.in_ok-machine.machine row.bucket false }) }) given planned takes
+      after = rw put (value-by x (record { state = c.note.new.self; drawn = x.drawn; places = x.places; has_room = x.has_room; job = Some (record j { phase = phase.Prepared c.in_ok-machine.machine row.bucket false }) }) given planned takes
           (Prepared j.line row.bucket row.complete ∷ journal_of x.state) (ap (λ (z : LaneState). z.lane) after) (ap (λ (z : LaneState). z.rules) after) (c.note.ensures.grows ∙ rw c.reserve.ensures.items refl) refl);
     })

@@ -1,9 +1,26 @@
-use Rattle.std.proofs.Common.{◌∙◌, refl, ap}
+use Rattle.std.proofs.Common.{rules, ◌∙◌, refl, ap}
 use Rattle.messages.specs.declared.outcome.Outcome.TheVariants.{OwnedElsewhere}
 use Rattle.lane_journals.specs.declared.event.LaneEvent.TheVariants.{Refused}
 use Rattle.lane_core.specs.declared.lane_state.LaneState.{LaneState}
 use Rattle.lane_core.proofs.Carrying.{carried-more}
+use Rattle.lane_core.specs.Written.{place_of}
+use Rattle.lane_core.proofs.Entries.{finds-pushed}
 use Rattle.lane_core.proofs.work.Work.refuse.Goals as goal
+
+pub returns-clause-keeps : goal.returns-clause-keeps
+returns-clause-keeps c = record {
+  set_up = search rules;
+  kept = search rules;
+  room = search rules;
+  spare_is = search rules;
+  resting = search rules;
+  newest_is = search rules;
+  counts_are = search rules;
+  no_round = search rules;
+  job_is = search rules;
+  lasts = search rules;
+  finds = finds-pushed (place_of c.args.self.now.places) c.args.self.now.state.journal.items c.note.new.self.journal.items (Refused c.args.line c.args.via (OwnedElsewhere c.args.owner c.version-version.result)) refl (c.note.ensures.grows ∙ rw c.reserve.ensures.items refl) c.requires.keeps.finds;
+}
 
 pub returns-clause-carried : goal.returns-clause-carried
 returns-clause-carried c = carried-more c.args.self.now.state c.note.new.self (Refused c.args.line c.args.via (OwnedElsewhere c.args.owner c.version-version.result)) tt (c.note.ensures.grows ∙ rw c.reserve.ensures.items refl) (ap (λ (z : LaneState). z.last) c.note.ensures.after) (ap (λ (z : LaneState). z.late.late) c.note.ensures.after)

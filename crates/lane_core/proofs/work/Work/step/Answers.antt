@@ -13,7 +13,7 @@ returns-clause-keeps g c =
     let stage : j.phase ≡ Prepared c.in-Prepared.machine c.in-Prepared.row c.in-Prepared.written = c.in-Prepared.is in
     rw c.put_job.ensures
     (keeps-stepped x s.new.self j c.in-Prepared.machine c.in-Prepared.row c.in-Prepared.written c.requires.keeps is stage s.ensures.keeps s.ensures.after s.ensures.quiet
-    c.operations_end.ensures.ends c.operations_end.ensures.acked s.result.phase s.result.answer s.ensures.comes s.ensures.going s.ensures.spare)
+    c.operations_end.ensures.ends c.operations_end.ensures.acked s.result.phase s.result.answer s.ensures.comes s.ensures.going s.ensures.spare s.new.places s.ensures.finds)
 
 pub returns-clause-advances : goal.returns-clause-advances
 returns-clause-advances g c = λ planned takes.
@@ -24,4 +24,4 @@ returns-clause-advances g c = λ planned takes.
     let stage : j.phase ≡ Prepared c.in-Prepared.machine c.in-Prepared.row c.in-Prepared.written = c.in-Prepared.is in
     rw c.put_job.ensures
     (advances-stepped x s.new.self j c.in-Prepared.machine c.in-Prepared.row c.in-Prepared.written c.requires.keeps is stage s.ensures.keeps s.ensures.after s.ensures.quiet
-    c.operations_end.ensures.ends c.operations_end.ensures.acked s.result.phase s.result.answer s.ensures.comes s.ensures.going _ _ planned takes c.requires.prepared s.ensures.run)
+    c.operations_end.ensures.ends c.operations_end.ensures.acked s.result.phase s.result.answer s.ensures.comes s.ensures.going s.new.places _ _ planned takes s.ensures.run)
