@@ -1,9 +1,12 @@
-pub mod LaneSteps
-pub mod LineMoves
-pub mod Reports
+pub mod OwnCommands
+pub mod LaneLists
+pub mod KeptLanes
 pub mod SessionSteps
 pub mod OutputLaws
+pub mod InLane
+pub mod Openings
+pub mod NodeSizes
+pub mod Reports
 pub mod LongLines
 pub mod Loops
-pub mod Choosing
 pub mod Clauses

@@ -16,23 +16,26 @@ use Rattle.doc_types.specs.SchemaCodes.{Types}
 use Rattle.cell_session.specs.Asking.{asked_of}
 use Rattle.cell_session.specs.declared.asked.Asked.{Asked}
 use Rattle.cell_session.specs.Answering.{IsAllOrNothing, StopsAs}
-use Rattle.cell_session.specs.Cells.{Cell}
+use Rattle.cell_session.specs.Cells.{Cell, journals_of}
+use Rattle.cell_session.specs.Keeping.{IsKept, IsReady}
 use Rattle.cell_session.specs.Dealing.{AreFirst, EndsAs}
 use Rattle.cell_session.specs.Ends.{IfTold, IsReadTo, IsReadNear, PassesLimit, StopsAt, Writes}
 use Rattle.cell_session.specs.Output.{output_of, report_in}
 use Rattle.cell_session.specs.Reads.{Finishes, Shows, HoldsBack, IsReadEnd}
-use Rattle.cell_session.specs.Settings.{IsSetting}
-use Rattle.cell_session.specs.SoFar.{IsKept, IsBehind, IsSoFar}
-use Rattle.cell_session.specs.Steps.{IsReady, with_command, after_line, opened}
+use Rattle.carriers.specs.declared.fate.Fate.{Fate}
+use Rattle.session_settings.specs.Settings.{IsSetting}
+use Rattle.session_settings.specs.declared.setting.Setting.{Setting}
+use Rattle.cell_session.specs.SoFar.{IsBehind, IsSoFar}
+use Rattle.cell_session.specs.Steps.{IsAfter}
 use Rattle.cell_session.specs.declared.answering.Stop.{Stop}
 use Rattle.cell_session.specs.declared.answering.Stop.TheVariants as stop
 use Rattle.cell_session.specs.declared.limits.TheConstants.{MOST_LINES, MOST_BYTES}
 use Rattle.cell_session.specs.declared.next_command.Step.TheVariants as step
-use Rattle.cell_session.specs.declared.setting.Setting.{Setting}
 use Rattle.cell_session.specs.declared.status.Status.{Status}
 use Rattle.cell_session.specs.declared.status.Status.TheVariants as status
 use Rattle.cell_session.proofs.OutputLaws.{output_kept, output_more}
-use Rattle.cell_session.proofs.SessionSteps.{kept_none, kept_command, command_moves, ready_next}
+use Rattle.cell_session.proofs.KeptLanes.{kept_legal}
+use Rattle.cell_session.proofs.SessionSteps.{kept_more, moves}
 
 -- ---- the commands of the first lines of a text
 
@@ -84,78 +87,63 @@ told_none : (types : Types) (text : Option (List ℕ)) → IfTold text (IsBehind
 told_none types None = tt
 told_none types (Some t) = (first_none types t, start_at t MOST_LINES MOST_BYTES)
 
-so_far_start : (s : Setting) (types : Types) (text before : Option (List ℕ)) → IsSetting s → IsSoFar s types text first_reading text (opened s) before before
-so_far_start s types text before setting = record {
+pub so_far_new : (s : Setting) (types : Types) (plans : ℕ → List Fate) (text before : Option (List ℕ)) (reader : Reading) (c : Cell) → IsSetting s → reader ≡ first_reading → IsKept s plans [] c → IsSoFar s types plans text reader text c before before
+so_far_new s types plans text before reader c setting is kept = subst (λ r. IsSoFar s types plans text r text c before before) (sym is) (record {
   setting = setting;
-  bits = refl;
   commands = [];
   count = refl;
-  dealt = refl;
-  kept = kept_none s;
+  kept = kept;
   output = Appends-nil before;
   told = told_none types text;
-}
+})
 
-pub so_far_new : (s : Setting) (types : Types) (text before : Option (List ℕ)) (reader : Reading) (c : Cell) → IsSetting s → reader ≡ first_reading → c ≡ opened s → IsSoFar s types text reader text c before before
-so_far_new s types text before reader c setting is none =
-    subst (λ (x : Cell). IsSoFar s types text reader text x before before) (sym none) (subst (λ r. IsSoFar s types text r text (opened s) before before) (sym is) (so_far_start s types text before setting))
-
-pub so_far_ready : (s : Setting) (types : Types) (text left : Option (List ℕ)) (reader : Reading) (c : Cell) (before now : Option (List ℕ)) (number : ℕ)
-    → IsSoFar s types text reader left c before now → number ≡ reader.lines + 1 → reader.lines ≤ MOST_LINES → IsReady s number c
-so_far_ready s types text left reader c before now number so is few = ready_next s so.commands c number so.setting so.bits so.kept (omega (arith, is, so.count)) (omega (arith, so.count, few))
+pub so_far_ready : (s : Setting) (types : Types) (plans : ℕ → List Fate) (text left : Option (List ℕ)) (reader : Reading) (c : Cell) (before now : Option (List ℕ)) (number : ℕ)
+    → IsSoFar s types plans text reader left c before now → number ≡ reader.lines + 1 → IsReady s number c
+so_far_ready s types plans text left reader c before now number so is = record { setting = so.setting; plans = plans; commands = so.commands; kept = so.kept; next = omega (arith, is, so.count) }
 
 -- what one line more keeps, whatever was written
-record IsMore (s : Setting) (types : Types) (text left' : Option (List ℕ)) (reader reader' : Reading) (cs : List Asked) (old new : Cell) (number : ℕ) (c : Asked) : Type 0 where
+record IsMore (s : Setting) (types : Types) (plans : ℕ → List Fate) (text left' : Option (List ℕ)) (reader reader' : Reading) (cs : List Asked) (old new : Cell) (number : ℕ) (c : Asked) : Type 0 where
   count : length (cs ++ c ∷ []) ≡ number
-  dealt : new.dealt ≡ number
-  bits : new.bits ≡ old.bits
-  journals : new.journals ≡ with_command s number c old.journals
-  kept : IsKept s (cs ++ c ∷ []) new.journals
+  kept : IsKept s plans (cs ++ c ∷ []) new
   told : IfTold text (IsBehind types reader' left' (cs ++ c ∷ []))
-  earlier : output_of s cs new.journals ≡ output_of s cs old.journals
-  output : output_of s (cs ++ c ∷ []) new.journals ≡ output_of s cs old.journals ++ report_in s number c new.journals
+  earlier : output_of s cs (journals_of new) ≡ output_of s cs (journals_of old)
+  output : output_of s (cs ++ c ∷ []) (journals_of new) ≡ output_of s cs (journals_of old) ++ report_in s number c (journals_of new)
 
-one_more : (s : Setting) (types : Types) (text left left' : Option (List ℕ)) (reader reader' : Reading) (old new : Cell) (before now : Option (List ℕ)) (number : ℕ) (c : Asked)
-    → (so : IsSoFar s types text reader left old before now) → reader.max_lines ≡ MOST_LINES → reader.max_bytes ≡ MOST_BYTES
+one_more : (s : Setting) (types : Types) (plans : ℕ → List Fate) (text left left' : Option (List ℕ)) (reader reader' : Reading) (old new : Cell) (before now : Option (List ℕ)) (number : ℕ) (c : Asked)
+    → (so : IsSoFar s types plans text reader left old before now) → reader.max_lines ≡ MOST_LINES → reader.max_bytes ≡ MOST_BYTES
     → ((t : List ℕ) → StandsIn t reader left → Shows types t reader (step.Command number c))
     → ((t : List ℕ) → StandsIn t reader left → StandsIn t reader' left')
-    → number ≡ reader.lines + 1 → new ≡ after_line s number c old
-    → IsMore s types text left' reader reader' so.commands old new number c
-one_more s types text left left' reader reader' old new before now number c so lines bytes shows stands is grown =
+    → number ≡ reader.lines + 1 → IsAfter s number c old new
+    → IsMore s types plans text left' reader reader' so.commands old new number c
+one_more s types plans text left left' reader reader' old new before now number c so lines bytes shows stands is after =
     let cs = so.commands in
     let k : number ≡ length cs + 1 = omega (arith, is, so.count) in
-    let moves = command_moves s cs c old.journals number so.kept k in
-    let journals : new.journals ≡ with_command s number c old.journals = ap (λ (x : Cell). x.journals) grown in
+    let legal = kept_legal s plans cs old so.kept in
+    let moved = moves s plans cs c old new number so.kept after in
     record {
       count = omega (arith, length-append cs (c ∷ []), k);
-      dealt = ap (λ (x : Cell). x.dealt) grown;
-      bits = ap (λ (x : Cell). x.bits) grown;
-      journals = journals;
-      kept = subst (IsKept s (cs ++ c ∷ [])) (sym journals) (kept_command s cs c old.journals number so.kept k);
+      kept = kept_more s plans cs c old new number so.kept k after;
       told = told_more types text reader reader' left left' cs number c so.told so.count lines bytes shows stands;
-      earlier = ap (output_of s cs) journals ∙ output_kept s cs old.journals (with_command s number c old.journals) number so.kept k moves;
-      output = ap (output_of s (cs ++ c ∷ [])) journals ∙ output_more s cs c old.journals (with_command s number c old.journals) number so.kept k moves
-          ∙ ap (λ x. output_of s cs old.journals ++ report_in s number c x) (sym journals);
+      earlier = output_kept s cs (journals_of old) (journals_of new) number legal k moved;
+      output = output_more s cs c (journals_of old) (journals_of new) number legal k moved;
     }
 
-pub so_far_more : (s : Setting) (types : Types) (text left left' : Option (List ℕ)) (reader reader' : Reading) (old new : Cell) (before now now' : Option (List ℕ)) (number : ℕ) (c : Asked)
-    → IsSoFar s types text reader left old before now → reader.max_lines ≡ MOST_LINES → reader.max_bytes ≡ MOST_BYTES
+pub so_far_more : (s : Setting) (types : Types) (plans : ℕ → List Fate) (text left left' : Option (List ℕ)) (reader reader' : Reading) (old new : Cell) (before now now' : Option (List ℕ)) (number : ℕ) (c : Asked)
+    → IsSoFar s types plans text reader left old before now → reader.max_lines ≡ MOST_LINES → reader.max_bytes ≡ MOST_BYTES
     → ((t : List ℕ) → StandsIn t reader left → Shows types t reader (step.Command number c))
     → ((t : List ℕ) → StandsIn t reader left → StandsIn t reader' left')
     → number ≡ reader.lines + 1 → reader'.lines ≡ reader.lines + 1
-    → new ≡ after_line s number c old → Appends now now' (report_in s number c new.journals)
-    → IsSoFar s types text reader' left' new before now'
-so_far_more s types text left left' reader reader' old new before now now' number c so lines bytes shows stands is grows grown wrote =
+    → IsAfter s number c old new → Appends now now' (report_in s number c (journals_of new))
+    → IsSoFar s types plans text reader' left' new before now'
+so_far_more s types plans text left left' reader reader' old new before now now' number c so lines bytes shows stands is grows grown wrote =
     let cs = so.commands in
-    let more = one_more s types text left left' reader reader' old new before now number c so lines bytes shows stands is grown in
+    let more = one_more s types plans text left left' reader reader' old new before now number c so lines bytes shows stands is grown in
     record {
       setting = so.setting;
-      bits = more.bits ∙ so.bits;
       commands = cs ++ c ∷ [];
       count = omega (arith, more.count, is, grows);
-      dealt = omega (arith, more.dealt, is, grows);
       kept = more.kept;
-      output = subst (Appends before now') (sym more.output) (Appends-trans before now now' (output_of s cs old.journals) (report_in s number c new.journals) so.output wrote);
+      output = subst (Appends before now') (sym more.output) (Appends-trans before now now' (output_of s cs (journals_of old)) (report_in s number c (journals_of new)) so.output wrote);
       told = more.told;
     }
 
@@ -193,23 +181,22 @@ stops_of (status.Limit which) types (Some text) left left' reader reader' cs tol
 
 -- ---- the ends
 
-over_with : (end : Status) (s : Setting) (types : Types) (text left left' : Option (List ℕ)) (reader reader' : Reading) (c : Cell) (before now : Option (List ℕ))
-    → (so : IsSoFar s types text reader left c before now) → reader.max_lines ≡ MOST_LINES → reader.max_bytes ≡ MOST_BYTES
+over_with : (end : Status) (s : Setting) (types : Types) (plans : ℕ → List Fate) (text left left' : Option (List ℕ)) (reader reader' : Reading) (c : Cell) (before now : Option (List ℕ))
+    → (so : IsSoFar s types plans text reader left c before now) → reader.max_lines ≡ MOST_LINES → reader.max_bytes ≡ MOST_BYTES
     → ((t : List ℕ) → StandsIn t reader left → Finishes t reader end)
     → ((t : List ℕ) → StandsIn t reader left → StandsIn t reader' left')
     → HoldsBack reader reader' end → (last : Option ℕ) (a b : ℕ) → IsReadEnd end last a b
-    → Writes end s so.commands c.journals before now → EndsAs end s types text left' c before now
-over_with end s types text left left' reader reader' c before now so lines bytes finishes stands holds last a b may wrote = inr (record {
+    → Writes end s so.commands (journals_of c) before now → EndsAs end s types plans text left' c before now
+over_with end s types plans text left left' reader reader' c before now so lines bytes finishes stands holds last a b may wrote = inr (record {
   commands = so.commands;
-  count = so.count ∙ sym so.dealt;
-  dealt = so.kept.dealt;
+  kept = so.kept;
   first = first_of types text so.commands reader left so.told;
   stops = stops_of end types text left left' reader reader' so.commands so.told so.count lines bytes finishes stands holds last a b may;
   output = wrote;
 })
 
-written_by : (end : Status) (s : Setting) (cs : List Asked) (c : Cell) (before now : Option (List ℕ)) (last : Option ℕ) (a b : ℕ) → IsReadEnd end last a b → Appends before now (output_of s cs c.journals)
-    → Writes end s cs c.journals before now
+written_by : (end : Status) (s : Setting) (cs : List Asked) (c : Cell) (before now : Option (List ℕ)) (last : Option ℕ) (a b : ℕ) → IsReadEnd end last a b → Appends before now (output_of s cs (journals_of c))
+    → Writes end s cs (journals_of c) before now
 written_by status.Done s cs c before now last a b may wrote = wrote
 written_by status.ReadFault s cs c before now last a b may wrote = wrote
 written_by status.Usage s cs c before now last a b may wrote = absurd may
@@ -218,14 +205,14 @@ written_by status.NoMemory s cs c before now last a b may wrote = inl wrote
 written_by (status.Limit which) s cs c before now last a b may wrote = wrote
 
 -- where no line is left to deal with
-pub over_ends : (end : Status) (s : Setting) (types : Types) (text left left' : Option (List ℕ)) (reader reader' : Reading) (c : Cell) (before now : Option (List ℕ))
-    → IsSoFar s types text reader left c before now → reader.max_lines ≡ MOST_LINES → reader.max_bytes ≡ MOST_BYTES
+pub over_ends : (end : Status) (s : Setting) (types : Types) (plans : ℕ → List Fate) (text left left' : Option (List ℕ)) (reader reader' : Reading) (c : Cell) (before now : Option (List ℕ))
+    → IsSoFar s types plans text reader left c before now → reader.max_lines ≡ MOST_LINES → reader.max_bytes ≡ MOST_BYTES
     → ((t : List ℕ) → StandsIn t reader left → Finishes t reader end)
     → ((t : List ℕ) → StandsIn t reader left → StandsIn t reader' left')
     → HoldsBack reader reader' end → (last : Option ℕ) (a b : ℕ) → IsReadEnd end last a b
-    → EndsAs end s types text left' c before now
-over_ends end s types text left left' reader reader' c before now so lines bytes finishes stands holds last a b may =
-    over_with end s types text left left' reader reader' c before now so lines bytes finishes stands holds last a b may (written_by end s so.commands c before now last a b may so.output)
+    → EndsAs end s types plans text left' c before now
+over_ends end s types plans text left left' reader reader' c before now so lines bytes finishes stands holds last a b may =
+    over_with end s types plans text left left' reader reader' c before now so lines bytes finishes stands holds last a b may (written_by end s so.commands c before now last a b may so.output)
 
 -- the reader holds less than a piece
 read_near : (text : List ℕ) (reader : Reading) (left : Option (List ℕ)) (count : ℕ) → StandsIn text reader left → IsLittle reader → count ≡ reader.lines → IfTold left (IsReadNear text count)
@@ -248,23 +235,22 @@ no_claim None left count = tt
 no_claim (Some text) left count = tt
 
 -- where the sink failed
-pub fault_ends : (why : Stop) (s : Setting) (types : Types) (text left left' : Option (List ℕ)) (reader reader' : Reading) (old new : Cell) (before now now' : Option (List ℕ)) (number : ℕ) (c : Asked)
-    → IsSoFar s types text reader left old before now → reader.max_lines ≡ MOST_LINES → reader.max_bytes ≡ MOST_BYTES
+pub fault_ends : (why : Stop) (s : Setting) (types : Types) (plans : ℕ → List Fate) (text left left' : Option (List ℕ)) (reader reader' : Reading) (old new : Cell) (before now now' : Option (List ℕ)) (number : ℕ) (c : Asked)
+    → IsSoFar s types plans text reader left old before now → reader.max_lines ≡ MOST_LINES → reader.max_bytes ≡ MOST_BYTES
     → ((t : List ℕ) → StandsIn t reader left → Shows types t reader (step.Command number c))
     → ((t : List ℕ) → StandsIn t reader left → StandsIn t reader' left')
     → number ≡ reader.lines + 1 → reader'.lines ≡ reader.lines + 1 → IsLittle reader' → why ≡ stop.Fault → StopsAs why s number c old new now now'
-    → EndsAs status.WriteFault s types text left' new before now'
-fault_ends why s types text left left' reader reader' old new before now now' number c so lines bytes shows stands is grows little fault stopped =
+    → EndsAs status.WriteFault s types plans text left' new before now'
+fault_ends why s types plans text left left' reader reader' old new before now now' number c so lines bytes shows stands is grows little fault stopped =
     ended (subst (λ w. StopsAs w s number c old new now now') fault stopped)
   where
-    ended : (new ≡ after_line s number c old) × AppendsFront now now' (report_in s number c new.journals) → EndsAs status.WriteFault s types text left' new before now'
+    ended : (IsAfter s number c old new) × AppendsFront now now' (report_in s number c (journals_of new)) → EndsAs status.WriteFault s types plans text left' new before now'
     ended (grown, (front, (rest, (whole, wrote)))) =
         let cs = so.commands in
-        let more = one_more s types text left left' reader reader' old new before now number c so lines bytes shows stands is grown in
+        let more = one_more s types plans text left left' reader reader' old new before now number c so lines bytes shows stands is grown in
         inr (record {
           commands = cs ++ c ∷ [];
-          count = more.count ∙ sym more.dealt;
-          dealt = more.kept.dealt;
+          kept = more.kept;
           first = first_of types text (cs ++ c ∷ []) reader' left' more.told;
           stops = some_dealt types text left' reader' (cs ++ c ∷ []) more.told little (omega (arith, more.count, is, grows)) (omega (arith, more.count, is));
           output = record {
@@ -273,8 +259,8 @@ fault_ends why s types text left left' reader reader' old new before now now' nu
             all = refl;
             front = front;
             rest = rest;
-            report = ap (λ k. report_in s k c new.journals) more.count ∙ whole;
-            output = subst (λ x. Appends before now' (x ++ front)) (sym more.earlier) (Appends-trans before now now' (output_of s cs old.journals) front so.output wrote);
+            report = ap (λ k. report_in s k c (journals_of new)) more.count ∙ whole;
+            output = subst (λ x. Appends before now' (x ++ front)) (sym more.earlier) (Appends-trans before now now' (output_of s cs (journals_of old)) front so.output wrote);
           };
         })
 
@@ -289,32 +275,30 @@ pub appends_nothing : (a b : Option (List ℕ)) → Keeps a b → Appends a b []
 appends_nothing a b kept = appends_kept a a b [] (Appends-nil a) kept
 
 -- where memory wanted before a line's report was written
-pub memory_ends : (why : Stop) (s : Setting) (types : Types) (text left left' : Option (List ℕ)) (reader reader' : Reading) (old new : Cell) (before now now' : Option (List ℕ)) (number : ℕ) (c : Asked)
-    → IsSoFar s types text reader left old before now → reader.max_lines ≡ MOST_LINES → reader.max_bytes ≡ MOST_BYTES
+pub memory_ends : (why : Stop) (s : Setting) (types : Types) (plans : ℕ → List Fate) (text left left' : Option (List ℕ)) (reader reader' : Reading) (old new : Cell) (before now now' : Option (List ℕ)) (number : ℕ) (c : Asked)
+    → IsSoFar s types plans text reader left old before now → reader.max_lines ≡ MOST_LINES → reader.max_bytes ≡ MOST_BYTES
     → ((t : List ℕ) → StandsIn t reader left → Shows types t reader (step.Command number c))
     → ((t : List ℕ) → StandsIn t reader left → StandsIn t reader' left')
     → number ≡ reader.lines + 1 → why ≡ stop.Memory → StopsAs why s number c old new now now'
-    → EndsAs status.NoMemory s types text left' new before now'
-memory_ends why s types text left left' reader reader' old new before now now' number c so lines bytes shows stands is memory stopped =
+    → EndsAs status.NoMemory s types plans text left' new before now'
+memory_ends why s types plans text left left' reader reader' old new before now now' number c so lines bytes shows stands is memory stopped =
     let told = subst (λ w. StopsAs w s number c old new now now') memory stopped in
-    ended told.0 (appends_kept before now now' (output_of s so.commands old.journals) so.output told.1)
+    ended told.0 (appends_kept before now now' (output_of s so.commands (journals_of old)) so.output told.1)
   where
-    ended : IsAllOrNothing s number c old new → Appends before now' (output_of s so.commands old.journals) → EndsAs status.NoMemory s types text left' new before now'
-    ended (inl same) wrote = subst (λ (x : Cell). EndsAs status.NoMemory s types text left' x before now') (sym same) (inr (record {
+    ended : IsAllOrNothing s number c old new → Appends before now' (output_of s so.commands (journals_of old)) → EndsAs status.NoMemory s types plans text left' new before now'
+    ended (inl same) wrote = subst (λ (x : Cell). EndsAs status.NoMemory s types plans text left' x before now') (sym same) (inr (record {
       commands = so.commands;
-      count = so.count ∙ sym so.dealt;
-      dealt = so.kept.dealt;
+      kept = so.kept;
       first = first_of types text so.commands reader left so.told;
       stops = no_claim text left' (length so.commands);
       output = inl wrote;
     }))
     ended (inr grown) wrote =
         let cs = so.commands in
-        let more = one_more s types text left left' reader reader' old new before now number c so lines bytes shows stands is grown in
+        let more = one_more s types plans text left left' reader reader' old new before now number c so lines bytes shows stands is grown in
         inr (record {
           commands = cs ++ c ∷ [];
-          count = more.count ∙ sym more.dealt;
-          dealt = more.kept.dealt;
+          kept = more.kept;
           first = first_of types text (cs ++ c ∷ []) reader' left' more.told;
           stops = no_claim text left' (length (cs ++ c ∷ []));
           output = inr (record { earlier = cs; last = c; all = refl; output = subst (Appends before now') (sym more.earlier) wrote });
@@ -329,15 +313,14 @@ keeps_same : (a : Option (List ℕ)) → Keeps a a
 keeps_same None = tt
 keeps_same (Some x) = refl
 
-pub opened_ends : (s : Setting) (types : Types) (text left : Option (List ℕ)) (c : Cell) (before : Option (List ℕ)) → c ≡ opened s → EndsAs status.NoMemory s types text left c before before
-opened_ends s types text left c before is = subst (λ (x : Cell). EndsAs status.NoMemory s types text left x before before) (sym is) (inr (record {
+pub opened_ends : (s : Setting) (types : Types) (plans : ℕ → List Fate) (text left : Option (List ℕ)) (c : Cell) (before : Option (List ℕ)) → IsKept s plans [] c → EndsAs status.NoMemory s types plans text left c before before
+opened_ends s types plans text left c before kept = inr (record {
   commands = [];
-  count = refl;
-  dealt = (kept_none s).dealt;
+  kept = kept;
   first = firsts_none types text;
   stops = no_claim text left 0;
   output = inl (Appends-nil before);
-}))
+})
 
-pub unopened_ends : (s : Setting) (types : Types) (text left : Option (List ℕ)) (c : Cell) (before : Option (List ℕ)) → (c.journals ≡ []) × (c.dealt ≡ 0) → EndsAs status.NoMemory s types text left c before before
-unopened_ends s types text left c before is = inl (record { memory = refl; none = is.0; dealt = is.1; kept = keeps_same before })
+pub unopened_ends : (s : Setting) (types : Types) (plans : ℕ → List Fate) (text left : Option (List ℕ)) (c : Cell) (before : Option (List ℕ)) → (c.lanes ≡ []) × (c.dealt ≡ 0) → EndsAs status.NoMemory s types plans text left c before before
+unopened_ends s types plans text left c before is = inl (record { memory = refl; none = is.0; dealt = is.1; kept = keeps_same before })

@@ -1,248 +1,134 @@
 -- One line more keeps what a session keeps.
-use Rattle.std.proofs.Common.{◌≡◌, ◌≢◌, ◌==◌, ◌⊎◌, ℕ, zero, suc, ◌+◌, ◌^◌, ◌<◌, ◌≤◌, Bool, true, false, List, [], ◌∷◌, ◌++◌, Some, inl, inr, refl, sym, ap, ◌∙◌, subst, arith, IsSome, MatchBool, length, set, get_or-set_same, get_or-set_other, length-append, length-set, slice_get, eq-eqb, replicate}
-use Rattle.std.proofs.lemmas.Bool.{cases_eq, false≢true}
-use Rattle.std.proofs.lemmas.List.{length-replicate}
-use Rattle.std.proofs.lemmas.Nat.{mod_below, pow_pos}
-use Rattle.global_ids.specs.Keys.{key_of}
-use Rattle.lane_laws.specs.Journals.{Journal, events_of}
-use Rattle.lane_laws.specs.Legal.{IsLegal}
-use Rattle.lane_laws.specs.Readers.{begun_in, wrote_in, closed_in, before_line}
-use Rattle.lane_laws.proofs.Lookups.{line_other, some_of}
-use Rattle.lane_laws.proofs.OrderLaws.{fresh_begun}
+use Rattle.std.proofs.Common.{◌≡◌, ◌⊎◌, ◌≤◌, ◌+◌, ℕ, List, [], ◌∷◌, ◌++◌, Some, inl, inr, refl, sym, ap, ◌∙◌, subst, arith, length, length-append, length-set, slice_get, set}
+use Rattle.std.proofs.lemmas.Bool.{cases_eq}
+use Rattle.std.proofs.lemmas.Option.{slice_get_within}
+use Rattle.carriers.specs.declared.fate.Fate.{Fate}
+use Rattle.messages.specs.declared.operation.Operation.{Operation}
+use Rattle.messages.specs.declared.outcome.Outcome.{Outcome}
+use Rattle.lane_core.specs.LaneValues.{LaneValue}
+use Rattle.session_settings.specs.declared.setting.Setting.{Setting}
+use Rattle.session_lanes.specs.Lives.{Lines, last_line, outcome_in}
+use Rattle.session_lanes.specs.Serving.{bucket_in, IsServing}
+use Rattle.session_lanes.proofs.OneLine.{IsLine, line_is, line_outcome}
+use Rattle.session_lanes.proofs.Served.{serving_fresh, carried_out, serves_more}
+use Rattle.cell_session.specs.Cells.{Cell, journals_of}
+use Rattle.cell_session.specs.Keeping.{IsKept}
+use Rattle.cell_session.specs.Lanes.{Journal, lane_of_id, journal_in}
+use Rattle.cell_session.specs.Operations.{with_line, lines_of_lane}
+use Rattle.cell_session.specs.Steps.{IsOperatedIn, IsAfter}
 use Rattle.cell_session.specs.declared.asked.Asked.{Asked}
 use Rattle.cell_session.specs.declared.asked.Asked.TheVariants as command
-use Rattle.cell_session.specs.Cells.{Cell}
-use Rattle.cell_session.specs.Lanes.{lane_of_id, journal_in}
-use Rattle.cell_session.specs.LaneState.{IsClosed, drawn, IsUnder}
-use Rattle.messages.specs.declared.operation.Operation.{Operation}
-use Rattle.cell_session.specs.Operations.{HasOperation, HasEvents}
-use Rattle.cell_session.specs.Settings.{lane_count, IsSetting}
-use Rattle.cell_session.specs.SoFar.{IsKept}
-use Rattle.cell_session.specs.Steps.{IsReady, after_operation, with_operation, with_command}
-use Rattle.cell_session.specs.declared.setting.Setting.{Setting}
-use Rattle.cell_session.proofs.LineMoves.{IsLine, IsSame, line_operation, has_operation, events_stay}
+use Rattle.cell_session.proofs.LaneLists.{journal_at, journal_set, journal_other, lane_set, lines_more, with_own, with_other, lines_low}
 
-pub lane_small : (bits : ℕ) (id : List ℕ) → lane_of_id bits id < 2 ^ bits
-unfolding lane_of_id
-lane_small bits id = mod_below (key_of id) (2 ^ bits) (pow_pos bits)
+lines_next : (s : Setting) (lane k : ℕ) (cs : List Asked) (c : Asked) → k ≡ length cs + 1 → lines_of_lane s lane (cs ++ c ∷ []) ≡ with_line s lane k c (lines_of_lane s lane cs)
+lines_next s lane k cs c is = lines_more s lane cs c ∙ ap (λ n. with_line s lane n c (lines_of_lane s lane cs)) (sym is)
 
--- in each lane the line has its events, or nothing changed
-abbrev pub Moves : Setting → ℕ → List Journal → List Journal → Type 0
-Moves s k Js Js' = (lane : ℕ) → lane < lane_count s → IsLine s.version k (journal_in lane Js) (journal_in lane Js') ⊎ (journal_in lane Js' ≡ journal_in lane Js)
+count_next : (cs : List Asked) (c : Asked) (k : ℕ) → k ≡ length cs + 1 → k ≡ length (cs ++ c ∷ [])
+count_next cs c k is = omega (arith, is, length-append cs (c ∷ []))
 
-other_line : (j n k : ℕ) → j < n → k ≡ n + 1 → j + 1 ≢ k
-other_line j n k h is e = omega arith
+-- ---- a line without an operation
 
--- an element of a list with one more at its end
-pub slice_get_push : {X : Type 0} (xs : List X) (x : X) (k : ℕ) (y : X) → slice_get (xs ++ x ∷ []) k ≡ Some y → ((k < length xs) × (slice_get xs k ≡ Some y)) ⊎ ((k ≡ length xs) × (x ≡ y))
-slice_get_push [] x zero y h = inr (refl, cc)
-slice_get_push [] x (suc k) y h = cc
-slice_get_push (z ∷ xs) x zero y h = inl (omega arith, h)
-slice_get_push (z ∷ xs) x (suc k) y h = elim (slice_get_push xs x k y h) [ inl old ↦ inl (omega (arith, old.0), old.1) | inr new ↦ inr (omega (arith, new.0), new.1) ]
-
--- what a lane had of another line, it has
-moved_same : (v k : ℕ) (J J' : Journal) → IsLine v k J J' ⊎ (J' ≡ J) → (j : ℕ) → j ≢ k → IsSame j J J'
-moved_same v k J J' (inl line) j h = record {
-  events = line.other_events j h;
-  before = line.other_before j h;
-  begun = line.other_begun j h;
-  wrote = line.other_wrote j h;
-  closed = line.other_closed j h;
-}
-moved_same v k J J' (inr same) j h = record {
-  events = ap (events_of j) same;
-  before = ap (before_line j) same;
-  begun = ap (begun_in j) same;
-  wrote = ap (wrote_in j) same;
-  closed = ap (closed_in j) same;
+kept_plain : (s : Setting) (plans : ℕ → List Fate) (cs : List Asked) (c : Asked) (old new : Cell) (k : ℕ) → IsKept s plans cs old → k ≡ length cs + 1 → ((lane : ℕ) (lines : Lines) → with_line s lane k c lines ≡ lines)
+    → new ≡ record old { dealt = k } → IsKept s plans (cs ++ c ∷ []) new
+kept_plain s plans cs c old new k kept is none now = record {
+  bits = ap (λ (x : Cell). x.bits) now ∙ kept.bits;
+  newest = ap (λ (x : Cell). x.newest) now ∙ kept.newest;
+  dealt = ap (λ (x : Cell). x.dealt) now ∙ count_next cs c k is;
+  lanes = ap (λ (x : Cell). length x.lanes) now ∙ kept.lanes;
+  serving = λ lane v at. subst (λ ls. IsServing s (plans lane) lane ls v) (sym (lines_next s lane k cs c is ∙ none lane (lines_of_lane s lane cs)))
+      (kept.serving lane v (subst (λ (x : Cell). slice_get x.lanes lane ≡ Some v) now at));
 }
 
-moved_legal : (v k : ℕ) (J J' : Journal) → IsLine v k J J' ⊎ (J' ≡ J) → IsLegal J → IsLegal J'
-moved_legal v k J J' (inl line) legal = line.legal
-moved_legal v k J J' (inr same) legal = subst IsLegal (sym same) legal
+-- ---- a line with one
 
-moved_closed : (v k : ℕ) (J J' : Journal) → IsLine v k J J' ⊎ (J' ≡ J) → IsClosed J → IsClosed J'
-moved_closed v k J J' (inl line) closed = line.closed
-moved_closed v k J J' (inr same) closed = subst IsClosed (sym same) closed
-
-moved_few : (v k n : ℕ) (J J' : Journal) → IsLine v k J J' ⊎ (J' ≡ J) → drawn J ≤ n → drawn J' ≤ n + 1
-moved_few v k n J J' (inl line) h = omega (arith, line.few)
-moved_few v k n J J' (inr same) h = omega (arith, ap drawn same)
-
-moved_under : (v k : ℕ) (J J' : Journal) → IsLine v k J J' ⊎ (J' ≡ J) → IsUnder v J → IsUnder v J'
-moved_under v k J J' (inl line) h = line.under h
-moved_under v k J J' (inr same) h = subst (IsUnder v) (sym same) h
-
--- the new line began after the earlier ones were closed
-own_order : (v k : ℕ) (J J' : Journal) (m : IsLine v k J J' ⊎ (J' ≡ J)) → events_of k J ≡ [] → IsClosed J → IsSome (begun_in k J') → (j : ℕ) → j ≢ k → IsSome (begun_in j J')
-    → IsSome (closed_in j (before_line k J'))
-own_order v k J J' (inl line) fresh closed some j h began =
-    let was = some_of (begun_in j J) (subst IsSome (line.other_begun j h) began) in
-    subst (λ x. IsSome (closed_in j x)) (sym line.own_before) (closed j was.0 was.1)
-own_order v k J J' (inr same) fresh closed some j h began = absurd (false≢true (subst IsSome (ap (begun_in k) same ∙ fresh_begun J k fresh) some))
-
-lane_order : (s : Setting) (cs : List Asked) (Js Js' : List Journal) (k lane : ℕ) → IsKept s cs Js → k ≡ length cs + 1 → lane < lane_count s
-    → IsLine s.version k (journal_in lane Js) (journal_in lane Js') ⊎ (journal_in lane Js' ≡ journal_in lane Js)
-    → (earlier line : ℕ) → earlier < line → IsSome (begun_in earlier (journal_in lane Js')) → IsSome (begun_in line (journal_in lane Js'))
-    → IsSome (closed_in earlier (before_line line (journal_in lane Js')))
-lane_order s cs Js Js' k lane kept is h m earlier line before first second = elim (cases_eq line k) [
-  | inl own ↦
-      let fresh = kept.dealt.no_others k lane h (inr (omega arith)) in
-      subst (λ n. IsSome (closed_in earlier (before_line n (journal_in lane Js')))) (sym own)
-      (own_order s.version k (journal_in lane Js) (journal_in lane Js') m fresh (kept.closed lane h) (subst (λ n. IsSome (begun_in n (journal_in lane Js'))) own second) earlier (λ e. omega arith) first)
-  | inr other ↦
-      let same = moved_same s.version k (journal_in lane Js) (journal_in lane Js') m line other in
-      let began : IsSome (begun_in line (journal_in lane Js)) = subst IsSome same.begun second in
-      elim (cases_eq earlier k) [
-        | inl own ↦ absurd (later line own before began)
-        | inr apart ↦
-            let was = moved_same s.version k (journal_in lane Js) (journal_in lane Js') m earlier apart in
-            subst (λ x. IsSome (closed_in earlier x)) (sym same.before) (kept.dealt.in_order earlier line lane h before (subst IsSome was.begun first) began)
-      ]
-]
-  where
-    later : (line : ℕ) → earlier ≡ k → earlier < line → IsSome (begun_in line (journal_in lane Js)) → ⊥
-    later line own before began =
-        let none = fresh_begun (journal_in lane Js) line (kept.dealt.no_others line lane h (inr (omega arith))) in
-        false≢true (subst IsSome none began)
-
-pub kept_step : (s : Setting) (cs : List Asked) (c : Asked) (Js Js' : List Journal) (k : ℕ) → IsKept s cs Js → k ≡ length cs + 1 → length Js' ≡ lane_count s → Moves s k Js Js'
-    → ((lane : ℕ) → lane < lane_count s → HasEvents s lane k c (journal_in lane Js')) → IsKept s (cs ++ c ∷ []) Js'
-kept_step s cs c Js Js' k kept is lanes moves own = record {
-  dealt = record {
-    lanes = lanes;
-    legal = λ lane h. moved_legal s.version k _ _ (moves lane h) (kept.dealt.legal lane h);
-    events = λ j lane x at h. elim (slice_get_push cs c j x at) [
-      | inl old ↦
-          let apart = other_line j (length cs) k old.0 is in
-          events_stay s _ _ lane (j + 1) x (moved_same s.version k _ _ (moves lane h) (j + 1) apart) (kept.dealt.events j lane x old.1 h)
-      | inr new ↦
-          let same : k ≡ j + 1 = omega (arith, new.0) in
-          subst (λ (y : Asked). HasEvents s lane (j + 1) y (journal_in lane Js')) new.1 (subst (λ n. HasEvents s lane n c (journal_in lane Js')) same (own lane h))
-    ];
-    no_others = λ line lane h far.
-        let apart : line ≢ k = λ e. far_apart cs c line k is e far in
-        (moved_same s.version k _ _ (moves lane h) line apart).events ∙ kept.dealt.no_others line lane h (nearer cs c line far);
-    in_order = λ earlier line lane h before first second. lane_order s cs Js Js' k lane kept is h (moves lane h) earlier line before first second;
-  };
-  closed = λ lane h. moved_closed s.version k _ _ (moves lane h) (kept.closed lane h);
-  few = λ lane h. omega (arith, moved_few s.version k (length cs) _ _ (moves lane h) (kept.few lane h), length-append cs (c ∷ []));
-  under = λ lane h. moved_under s.version k _ _ (moves lane h) (kept.under lane h);
-}
-  where
-    far_apart : (cs : List Asked) (c : Asked) (line k : ℕ) → k ≡ length cs + 1 → line ≡ k → (line ≡ 0) ⊎ (length (cs ++ c ∷ []) < line) → ⊥
-    far_apart cs c line k is e (inl none) = omega arith
-    far_apart cs c line k is e (inr far) = omega (arith, length-append cs (c ∷ []))
-
-    nearer : (cs : List Asked) (c : Asked) (line : ℕ) → (line ≡ 0) ⊎ (length (cs ++ c ∷ []) < line) → (line ≡ 0) ⊎ (length cs < line)
-    nearer cs c line (inl none) = inl none
-    nearer cs c line (inr far) = inr (omega (arith, length-append cs (c ∷ [])))
-
--- ---- each command
-
-no_move : (s : Setting) (k : ℕ) (Js : List Journal) → Moves s k Js Js
-no_move s k Js lane h = inr refl
-
-fresh_in : (s : Setting) (cs : List Asked) (Js : List Journal) (k lane : ℕ) → IsKept s cs Js → k ≡ length cs + 1 → lane < lane_count s → events_of k (journal_in lane Js) ≡ []
-fresh_in s cs Js k lane kept is h = kept.dealt.no_others k lane h (inr (omega arith))
-
--- a lane other than the one that was written
-set_other : (Js : List Journal) (lane at : ℕ) (J : Journal) → lane ≢ at → journal_in lane (set Js at J) ≡ journal_in lane Js
-set_other Js lane at J h = get_or-set_other Js at lane J [] h
-
-set_same : (Js : List Journal) (lane at : ℕ) (J : Journal) → lane ≡ at → at < length Js → journal_in lane (set Js at J) ≡ J
-set_same Js lane at J e h = ap (λ n. journal_in n (set Js at J)) e ∙ get_or-set_same Js at J [] h
-
-set_moves : (s : Setting) (k : ℕ) (Js : List Journal) (at : ℕ) (J : Journal) → at < length Js → IsLine s.version k (journal_in at Js) J → Moves s k Js (set Js at J)
-set_moves s k Js at J h line lane within = elim (cases_eq lane at) [
-  | inl same ↦ inl (subst (λ (x : Journal). IsLine s.version k (journal_in lane Js) x) (sym (set_same Js lane at J same h)) (subst (λ n. IsLine s.version k (journal_in n Js) J) (sym same) line))
-  | inr other ↦ inr (set_other Js lane at J other)
-]
-
-pick_true : (P Q : Type 0) (t : Bool) → t ≡ true → P → MatchBool t P Q
-pick_true P Q true h p = p
-pick_true P Q false h p = cc
-
-pick_false : (P Q : Type 0) (t : Bool) → t ≡ false → Q → MatchBool t P Q
-pick_false P Q true h q = cc
-pick_false P Q false h q = q
-
--- a line has its events in the lane of its document alone
-only_there : (s : Setting) (k : ℕ) (Js : List Journal) (at : ℕ) (J : Journal) (There : Journal → Type 0) → at < length Js → There J → ((lane : ℕ) → lane < lane_count s → events_of k (journal_in lane Js) ≡ [])
-    → (lane : ℕ) → lane < lane_count s → MatchBool (at == lane) (There (journal_in lane (set Js at J))) (events_of k (journal_in lane (set Js at J)) ≡ [])
-only_there s k Js at J There h there fresh lane within = elim (cases_eq lane at) [
-  | inl same ↦ pick_true _ _ (at == lane) (eq-eqb at lane (sym same)) (subst There (sym (set_same Js lane at J same h)) there)
-  | inr other ↦ pick_false _ _ (at == lane) (line_other at lane (λ e. other (sym e))) (ap (events_of k) (set_other Js lane at J other) ∙ fresh lane within)
-]
-
-lane_in : (s : Setting) (cs : List Asked) (Js : List Journal) (id : List ℕ) → IsKept s cs Js → lane_of_id s.bits id < length Js
-lane_in s cs Js id kept = subst (λ n. lane_of_id s.bits id < n) (sym kept.dealt.lanes) (lane_small s.bits id)
-
--- the events of an operation in the lane of its document
-operation_line : (s : Setting) (cs : List Asked) (Js : List Journal) (k : ℕ) (op : Operation) → IsKept s cs Js → k ≡ length cs + 1
-    → IsLine s.version k (journal_in (lane_of_id s.bits op.id) Js) (after_operation s k op (journal_in (lane_of_id s.bits op.id) Js))
-operation_line s cs Js k op kept is =
+-- the lane of the operation serves it
+served : (s : Setting) (plans : ℕ → List Fate) (cs : List Asked) (op : Operation) (old new : Cell) (k : ℕ) (x : Outcome) → IsKept s plans cs old → k ≡ length cs + 1 → (d : IsOperatedIn s k op old new x)
+    → IsServing s (plans (lane_of_id s.bits op.id)) (lane_of_id s.bits op.id) (record { number = k; operation = op } ∷ lines_of_lane s (lane_of_id s.bits op.id) cs) d.after
+served s plans cs op old new k x kept is d =
     let at = lane_of_id s.bits op.id in
-    let small = lane_small s.bits op.id in
-    line_operation s (journal_in at Js) k op (kept.dealt.legal at small) (kept.closed at small) (fresh_in s cs Js k at kept is small)
+    let low : last_line (lines_of_lane s at cs) ≤ length cs = lines_low s at cs in
+    serves_more s (plans at) at k d.owner (lines_of_lane s at cs) op d.before d.after x (kept.serving at d.before d.there) (omega (arith, is, low)) d.small d.operated
 
--- a line has its events in one lane, or in none
-operation_moves : (s : Setting) (cs : List Asked) (Js : List Journal) (k : ℕ) (op : Operation) → IsKept s cs Js → k ≡ length cs + 1 → Moves s k Js (with_operation s k op Js)
-operation_moves s cs Js k op kept is = set_moves s k Js (lane_of_id s.bits op.id) _ (lane_in s cs Js op.id kept) (operation_line s cs Js k op kept is)
-
-pub command_moves : (s : Setting) (cs : List Asked) (c : Asked) (Js : List Journal) (k : ℕ) → IsKept s cs Js → k ≡ length cs + 1 → Moves s k Js (with_command s k c Js)
-command_moves s cs command.Blank Js k kept is = no_move s k Js
-command_moves s cs command.TooLong Js k kept is = no_move s k Js
-command_moves s cs (command.Bad why) Js k kept is = no_move s k Js
-command_moves s cs (command.Feed op) Js k kept is = operation_moves s cs Js k op kept is
-
-kept_operation : (s : Setting) (cs : List Asked) (Js : List Journal) (k : ℕ) (op : Operation) → IsKept s cs Js → k ≡ length cs + 1 → IsKept s (cs ++ command.Feed op ∷ []) (with_operation s k op Js)
-kept_operation s cs Js k op kept is =
+serves_each : (s : Setting) (plans : ℕ → List Fate) (cs : List Asked) (op : Operation) (old new : Cell) (k : ℕ) (x : Outcome) → IsKept s plans cs old → k ≡ length cs + 1 → (d : IsOperatedIn s k op old new x)
+    → (lane : ℕ) (v : LaneValue) → slice_get (set old.lanes (lane_of_id s.bits op.id) d.after) lane ≡ Some v → IsServing s (plans lane) lane (lines_of_lane s lane (cs ++ command.Feed op ∷ [])) v
+serves_each s plans cs op old new k x kept is d lane v h =
     let at = lane_of_id s.bits op.id in
-    let J = journal_in at Js in
-    let fresh = fresh_in s cs Js k at kept is (lane_small s.bits op.id) in
-    let line = operation_line s cs Js k op kept is in
-    kept_step s cs (command.Feed op) Js (with_operation s k op Js) k kept is (length-set Js at (after_operation s k op J) ∙ kept.dealt.lanes) (operation_moves s cs Js k op kept is)
-    (λ lane h. only_there s k Js at (after_operation s k op J) (HasOperation s k op) (lane_in s cs Js op.id kept) (has_operation s J (after_operation s k op J) k op refl line fresh) (λ l b. fresh_in s cs Js k l kept is b) lane h)
+    elim (lane_set old.lanes at lane d.after v h) [
+      | inl here ↦
+          subst (λ ls. IsServing s (plans lane) lane ls v) (sym (lines_next s lane k cs (command.Feed op) is ∙ with_own s lane k op (lines_of_lane s lane cs) here.0))
+          (subst (λ w. IsServing s (plans lane) lane (record { number = k; operation = op } ∷ lines_of_lane s lane cs) w) here.1
+          (subst (λ n. IsServing s (plans n) n (record { number = k; operation = op } ∷ lines_of_lane s n cs) d.after) here.0 (served s plans cs op old new k x kept is d)))
+      | inr there ↦
+          subst (λ ls. IsServing s (plans lane) lane ls v) (sym (lines_next s lane k cs (command.Feed op) is ∙ with_other s lane k op (lines_of_lane s lane cs) there.0)) (kept.serving lane v there.1)
+    ]
 
-pub kept_command : (s : Setting) (cs : List Asked) (c : Asked) (Js : List Journal) (k : ℕ) → IsKept s cs Js → k ≡ length cs + 1 → IsKept s (cs ++ c ∷ []) (with_command s k c Js)
-kept_command s cs command.Blank Js k kept is = kept_step s cs command.Blank Js Js k kept is kept.dealt.lanes (no_move s k Js) (λ lane h. fresh_in s cs Js k lane kept is h)
-kept_command s cs command.TooLong Js k kept is = kept_step s cs command.TooLong Js Js k kept is kept.dealt.lanes (no_move s k Js) (λ lane h. fresh_in s cs Js k lane kept is h)
-kept_command s cs (command.Bad why) Js k kept is = kept_step s cs (command.Bad why) Js Js k kept is kept.dealt.lanes (no_move s k Js) (λ lane h. fresh_in s cs Js k lane kept is h)
-kept_command s cs (command.Feed op) Js k kept is = kept_operation s cs Js k op kept is
-
--- ---- the start, and the next line
-
-pub empty_journal : (n lane : ℕ) → journal_in lane (replicate n []) ≡ []
-empty_journal zero lane = get_none lane
-  where
-    get_none : (lane : ℕ) → journal_in lane [] ≡ []
-    get_none zero = refl
-    get_none (suc lane) = refl
-empty_journal (suc n) zero = refl
-empty_journal (suc n) (suc lane) = empty_journal n lane
-
-pub kept_none : (s : Setting) → IsKept s [] (replicate (lane_count s) [])
-kept_none s = record {
-  dealt = record {
-    lanes = length-replicate (lane_count s) [];
-    legal = λ lane h. subst IsLegal (sym (empty_journal (lane_count s) lane)) tt;
-    events = λ k lane c at h. cc at;
-    no_others = λ line lane h far. ap (events_of line) (empty_journal (lane_count s) lane);
-    in_order = λ earlier line lane h before first second. absurd (false≢true (subst IsSome (ap (begun_in line) (empty_journal (lane_count s) lane)) second));
-  };
-  closed = λ lane h. subst IsClosed (sym (empty_journal (lane_count s) lane)) (λ line b begun. cc begun);
-  few = λ lane h. omega (arith, ap drawn (empty_journal (lane_count s) lane));
-  under = λ lane h. subst (IsUnder s.version) (sym (empty_journal (lane_count s) lane)) refl;
+kept_operation : (s : Setting) (plans : ℕ → List Fate) (cs : List Asked) (op : Operation) (old new : Cell) (k : ℕ) (x : Outcome) → IsKept s plans cs old → k ≡ length cs + 1 → IsOperatedIn s k op old new x
+    → IsKept s plans (cs ++ command.Feed op ∷ []) new
+kept_operation s plans cs op old new k x kept is d = record {
+  bits = ap (λ (c : Cell). c.bits) d.now ∙ kept.bits;
+  newest = ap (λ (c : Cell). c.newest) d.now ∙ kept.newest;
+  dealt = ap (λ (c : Cell). c.dealt) d.now ∙ count_next cs (command.Feed op) k is;
+  lanes = ap (λ (c : Cell). length c.lanes) d.now ∙ length-set old.lanes (lane_of_id s.bits op.id) d.after ∙ kept.lanes;
+  serving = λ lane v at. serves_each s plans cs op old new k x kept is d lane v (subst (λ (c : Cell). slice_get c.lanes lane ≡ Some v) d.now at);
 }
 
-pub ready_next : (s : Setting) (cs : List Asked) (c : Cell) (k : ℕ) → IsSetting s → c.bits ≡ s.bits → IsKept s cs c.journals → k ≡ length cs + 1 → length cs < 2 ^ 63 → IsReady s k c
-ready_next s cs c k setting bits kept is few = record {
-  setting = setting;
-  bits = bits;
-  lanes = kept.dealt.lanes;
-  fresh = λ lane h. fresh_in s cs c.journals k lane kept is h;
-  few = λ lane h. omega (arith, kept.few lane h);
-  under = λ lane h. kept.under lane h;
-  legal = λ lane h. kept.dealt.legal lane h;
-}
+pub kept_more : (s : Setting) (plans : ℕ → List Fate) (cs : List Asked) (c : Asked) (old new : Cell) (k : ℕ) → IsKept s plans cs old → k ≡ length cs + 1 → IsAfter s k c old new → IsKept s plans (cs ++ c ∷ []) new
+kept_more s plans cs command.Blank old new k kept is now = kept_plain s plans cs command.Blank old new k kept is (λ lane lines. refl) now
+kept_more s plans cs command.TooLong old new k kept is now = kept_plain s plans cs command.TooLong old new k kept is (λ lane lines. refl) now
+kept_more s plans cs (command.Bad why) old new k kept is now = kept_plain s plans cs (command.Bad why) old new k kept is (λ lane lines. refl) now
+kept_more s plans cs (command.Feed op) old new k kept is now = kept_operation s plans cs op old new k now.0 kept is now.1
+
+pub dealt_more : (s : Setting) (c : Asked) (old new : Cell) (k : ℕ) → IsAfter s k c old new → new.dealt ≡ k
+dealt_more s command.Blank old new k now = ap (λ (x : Cell). x.dealt) now
+dealt_more s command.TooLong old new k now = ap (λ (x : Cell). x.dealt) now
+dealt_more s (command.Bad why) old new k now = ap (λ (x : Cell). x.dealt) now
+dealt_more s (command.Feed op) old new k now = ap (λ (x : Cell). x.dealt) (now.1).now
+
+-- ---- what the line moves
+
+-- in each lane the line came, or nothing changed
+abbrev pub Moves : ℕ → List Journal → List Journal → Type 0
+Moves k Js Js' = (lane : ℕ) → IsLine k (journal_in lane Js) (journal_in lane Js') ⊎ (journal_in lane Js' ≡ journal_in lane Js)
+
+-- the line in the lane of its operation
+line_there : (s : Setting) (plans : ℕ → List Fate) (cs : List Asked) (op : Operation) (old new : Cell) (k : ℕ) (x : Outcome) → IsKept s plans cs old → (d : IsOperatedIn s k op old new x) → IsLine k (d.before).journal (d.after).journal
+line_there s plans cs op old new k x kept d =
+    let at = lane_of_id s.bits op.id in
+    let c = carried_out s (plans at) at k d.owner (lines_of_lane s at cs) op d.before d.after x (kept.serving at d.before d.there) d.small d.operated in
+    line_is s (bucket_in s at) (record { number = k; operation = op }) (d.before).journal (d.after).journal c.0
+
+-- the journals of the lane of an operation, before it and after
+before_at : (s : Setting) (op : Operation) (old new : Cell) (k : ℕ) (x : Outcome) (d : IsOperatedIn s k op old new x) → journal_in (lane_of_id s.bits op.id) (journals_of old) ≡ (d.before).journal
+before_at s op old new k x d = journal_at old.lanes (lane_of_id s.bits op.id) d.before d.there
+
+pub after_at : (s : Setting) (op : Operation) (old new : Cell) (k : ℕ) (x : Outcome) (d : IsOperatedIn s k op old new x) → journal_in (lane_of_id s.bits op.id) (journals_of new) ≡ (d.after).journal
+after_at s op old new k x d =
+    ap (λ (c : Cell). journal_in (lane_of_id s.bits op.id) (journals_of c)) d.now ∙ journal_set old.lanes (lane_of_id s.bits op.id) d.after (slice_get_within old.lanes (lane_of_id s.bits op.id) d.before d.there)
+
+operation_moves : (s : Setting) (plans : ℕ → List Fate) (cs : List Asked) (op : Operation) (old new : Cell) (k : ℕ) (x : Outcome) → IsKept s plans cs old → IsOperatedIn s k op old new x → Moves k (journals_of old) (journals_of new)
+operation_moves s plans cs op old new k x kept d lane = elim (cases_eq (lane_of_id s.bits op.id) lane) [
+  | inl here ↦ inl (subst (λ n. IsLine k (journal_in n (journals_of old)) (journal_in n (journals_of new))) here
+      (subst (λ J. IsLine k J (journal_in (lane_of_id s.bits op.id) (journals_of new))) (sym (before_at s op old new k x d))
+      (subst (IsLine k (d.before).journal) (sym (after_at s op old new k x d)) (line_there s plans cs op old new k x kept d))))
+  | inr there ↦ inr (ap (λ (c : Cell). journal_in lane (journals_of c)) d.now ∙ journal_other old.lanes (lane_of_id s.bits op.id) lane d.after there)
+]
+
+no_move : (k : ℕ) (old new : Cell) → new ≡ record old { dealt = k } → Moves k (journals_of old) (journals_of new)
+no_move k old new now lane = inr (ap (λ (c : Cell). journal_in lane (journals_of c)) now)
+
+pub moves : (s : Setting) (plans : ℕ → List Fate) (cs : List Asked) (c : Asked) (old new : Cell) (k : ℕ) → IsKept s plans cs old → IsAfter s k c old new → Moves k (journals_of old) (journals_of new)
+moves s plans cs command.Blank old new k kept now = no_move k old new now
+moves s plans cs command.TooLong old new k kept now = no_move k old new now
+moves s plans cs (command.Bad why) old new k kept now = no_move k old new now
+moves s plans cs (command.Feed op) old new k kept now = operation_moves s plans cs op old new k now.0 kept now.1
+
+-- the outcome of the line is the one that it was closed with
+pub outcome_after : (s : Setting) (plans : ℕ → List Fate) (cs : List Asked) (op : Operation) (old new : Cell) (k : ℕ) (x : Outcome) → IsKept s plans cs old → k ≡ length cs + 1 → IsOperatedIn s k op old new x
+    → outcome_in k (journal_in (lane_of_id s.bits op.id) (journals_of new)) ≡ Some x
+outcome_after s plans cs op old new k x kept is d =
+    let at = lane_of_id s.bits op.id in
+    let low : last_line (lines_of_lane s at cs) ≤ length cs = lines_low s at cs in
+    let serving = kept.serving at d.before d.there in
+    let fresh = serving_fresh s (plans at) at k (lines_of_lane s at cs) d.before serving (omega (arith, is, low)) in
+    let c = carried_out s (plans at) at k d.owner (lines_of_lane s at cs) op d.before d.after x serving d.small d.operated in
+    ap (outcome_in k) (after_at s op old new k x d) ∙ line_outcome s (bucket_in s at) (record { number = k; operation = op }) (d.before).journal (d.after).journal fresh.unclosed c.0 ∙ ap Some c.1

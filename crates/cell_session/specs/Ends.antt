@@ -9,12 +9,12 @@ use Rattle.io_ends.specs.declared.sizes.TheConstants.{PIECE}
 use Rattle.doc_types.specs.SchemaCodes.{Types}
 use Rattle.cell_session.specs.Asking.{asked_of}
 use Rattle.cell_session.specs.declared.asked.Asked.{Asked}
-use Rattle.lane_laws.specs.Journals.{Journal}
 use Rattle.reports.specs.ReportText.{usage_text}
 use Rattle.cell_session.specs.Output.{report_in, output_of}
-use Rattle.cell_session.specs.Settings.{lane_count}
+use Rattle.cell_session.specs.Lanes.{Journal}
+use Rattle.session_settings.specs.Settings.{lane_count}
+use Rattle.session_settings.specs.declared.setting.Setting.{Setting}
 use Rattle.cell_session.specs.declared.limits.TheConstants.{MOST_LINES, MOST_BYTES}
-use Rattle.cell_session.specs.declared.setting.Setting.{Setting}
 use Rattle.cell_session.specs.declared.status.Status.{Status}
 use Rattle.cell_session.specs.declared.status.Status.TheVariants as status
 

@@ -1,9 +1,20 @@
 -- The lanes of a cluster.
-use Rattle.std.specs.Prelude.{◌<◌, ℕ, List, [], slice_index_or, IsSome}
+use Rattle.std.specs.Prelude.{◌≡◌, ◌<◌, ℕ, true, List, [], Some, slice_get, slice_index_or, IsSome}
+use Rattle.carriers.specs.declared.fate.Fate.{Fate}
 use Rattle.global_ids.specs.Keys.{key_of, lane_of}
-use Rattle.lane_laws.specs.Journals.{Journal}
-use Rattle.lane_laws.specs.Legal.{IsLegal}
-use Rattle.lane_laws.specs.Readers.{begun_in, closed_in, before_line}
+use Rattle.lane_journals.specs.Readers.{began, closed, before_line}
+use Rattle.lane_journals.specs.Meanings.{history}
+use Rattle.lane_journals.specs.KeptJournals.{IsLegal}
+use Rattle.lane_journals.specs.declared.event.LaneEvent.{LaneEvent}
+use Rattle.lane_carriage.specs.Carriage.{IsCarried}
+use Rattle.lane_core.specs.LaneValues.{LaneValue}
+use Rattle.lane_keeping.specs.LaneKeeping.{setting_of}
+use Rattle.session_settings.specs.declared.setting.Setting.{Setting}
+use Rattle.session_lanes.specs.Promises.{IsComplete, KeepsWrites}
+use Rattle.session_lanes.specs.Serving.{bucket_in}
+
+abbrev pub Journal : Type 0
+Journal = List LaneEvent
 
 -- the lane of a document: that of its key
 unfoldable pub lane_of_id : ℕ → List ℕ → ℕ
@@ -13,12 +24,30 @@ lane_of_id bits id = lane_of (key_of id) bits
 abbrev pub journal_in : ℕ → List Journal → Journal
 journal_in lane Js = slice_index_or Js lane []
 
--- the journal of each lane is legal
-abbrev pub AreLegal : List Journal → Type 0
-AreLegal Js = (lane : ℕ) → IsLegal (journal_in lane Js)
+-- the journal of each lane is legal, as the lane is set up
+abbrev pub AreLegal : Setting → List Journal → Type 0
+AreLegal s Js = (lane : ℕ) → IsLegal (setting_of (bucket_in s lane) s.rules) (journal_in lane Js)
 
 -- of two lines that began in one lane the earlier is closed before the later begins
 abbrev pub AreInOrder : List Journal → Type 0
 AreInOrder Js = (lane earlier line : ℕ) → earlier < line
-    → IsSome (begun_in earlier (journal_in lane Js)) → IsSome (begun_in line (journal_in lane Js))
-    → IsSome (closed_in earlier (before_line line (journal_in lane Js)))
+    → IsSome (began earlier (history (journal_in lane Js))) → IsSome (began line (history (journal_in lane Js)))
+    → closed earlier (before_line line (history (journal_in lane Js))) ≡ true
+
+-- in each lane the carrier gave one fate per message, in order of number, and each message had the events of its
+-- fate; the fates that were planned are those from the start
+pub record HasFates (planned : List Fate) (v : LaneValue) : Type 0 where
+  pub carried : IsCarried v.given v.journal
+  pub planned_are : v.planned ≡ planned
+
+abbrev pub HaveFates : (ℕ → List Fate) → List LaneValue → Type 0
+HaveFates plans lanes = (lane : ℕ) (v : LaneValue) → slice_get lanes lane ≡ Some v → HasFates (plans lane) v
+
+-- the durability theorem holds in each lane
+abbrev pub AreDurable : Setting → List Journal → Type 0
+AreDurable s Js = (lane : ℕ) → KeepsWrites s.rules.acks (history (journal_in lane Js))
+
+-- in each lane a line of which no message was lost came to what nodes answered, a put or a remove without condition to
+-- its acknowledgement, but for want of memory
+abbrev pub AreComplete : Setting → List LaneValue → Type 0
+AreComplete s lanes = (lane : ℕ) (v : LaneValue) → slice_get lanes lane ≡ Some v → IsComplete s (bucket_in s lane) v

@@ -1,20 +1,16 @@
--- For a reader: Settings, Choices, Cells, Lanes, Operations, Output and Ends. The others serve the calls
--- below the top one.
+-- For a reader: Cells, Lanes, Operations, Output and Ends. The others serve the calls below the top one.
 pub mod StatusNumbers
-pub mod Settings
-pub mod Choices
 pub mod Cells
 pub mod Lanes
-pub mod LineEvents
-pub mod LaneState
+pub mod Asking
 pub mod Operations
 pub mod Output
 pub mod Ends
-pub mod Stores
+pub mod Sizes
+pub mod Rows
+pub mod Keeping
 pub mod Steps
 pub mod Answering
 pub mod Reads
 pub mod Dealing
 pub mod SoFar
-pub mod Asking
-pub mod Deeds

@@ -1,75 +1,41 @@
--- What the lines of a session began, wrote and closed.
-use Rattle.std.specs.Prelude.{◌≡◌, ◌==◌, ◌⊎◌, ℕ, ◌+◌, ◌<◌, List, [], Option, None, Some, slice_get, MatchBool}
-use Rattle.std.specs.FinMap as fin
-use Rattle.stamps.specs.declared.stamp.Stamp.{Stamp}
+-- What the lines of a session did.
+use Rattle.std.specs.Prelude.{◌≡◌, ◌==◌, ℕ, ◌+◌, ◌<◌, List, [], ◌∷◌, length, reverse, Option, None, Some, slice_get, if◌then◌else◌}
 use Rattle.io_ends.specs.Lines.{lines_of}
-use Rattle.documents.specs.Fields.{Contents}
-use Rattle.entry_maps.specs.declared.entry.Entry.{Entry}
 use Rattle.doc_types.specs.SchemaCodes.{Types}
+use Rattle.op_machine.specs.Plans.{IsOwn}
+use Rattle.messages.specs.declared.operation.Operation.{Operation}
+use Rattle.lane_journals.specs.Meanings.{history}
+use Rattle.lane_operations.specs.OperationKeeping.{IsFresh, IsPlainGet}
+use Rattle.session_settings.specs.declared.setting.Setting.{Setting}
+use Rattle.session_lanes.specs.Lives.{Lines, IsLife, IsNone}
+use Rattle.session_lanes.specs.Serving.{bucket_in}
 use Rattle.cell_session.specs.Asking.{asked_of}
+use Rattle.cell_session.specs.Lanes.{Journal, lane_of_id, journal_in}
 use Rattle.cell_session.specs.declared.asked.Asked.{Asked}
 use Rattle.cell_session.specs.declared.asked.Asked.TheVariants as command
-use Rattle.lane_laws.specs.Journals.{Journal, events_of}
-use Rattle.lane_laws.specs.Readers.{Beginning, begun_in, wrote_in, closed_in, before_line, store_of}
-use Rattle.messages.specs.declared.outcome.Outcome.TheVariants as outcome
-use Rattle.cell_session.specs.Lanes.{lane_of_id, journal_in}
-use Rattle.cell_session.specs.Deeds.{deed_of}
-use Rattle.cell_session.specs.LineEvents.{next_stamp}
-use Rattle.cell_session.specs.declared.deed.Deed.{Deed}
-use Rattle.cell_session.specs.declared.deed.Deed.TheVariants.{Write, Draw, Show}
-use Rattle.messages.specs.declared.operation.Operation.{Operation}
-use Rattle.messages.specs.declared.outcome.Outcome.{Outcome}
-use Rattle.cell_session.specs.declared.setting.Setting.{Setting}
 
--- how an operation begins
-abbrev pub beginning_of : Setting → List ℕ → Option Stamp → Beginning
-beginning_of s id stamp = record { distributor = s.distributor; version = s.version; id = id; stamp = stamp }
+-- ---- the lines of a lane
 
--- the stamp that a line draws: the next one as it began
-abbrev pub drawn_by : Setting → ℕ → Journal → Stamp
-drawn_by s line J = next_stamp s.version (before_line line J)
+abbrev pub with_operation : Setting → ℕ → ℕ → Operation → Lines → Lines
+with_operation s lane line op lines = if lane_of_id s.bits op.id == lane then record { number = line; operation = op } ∷ lines else lines
 
--- what the operation of a line saw of its document: the newest entry as the line began
-abbrev pub seen_by : ℕ → List ℕ → Journal → Option Entry
-seen_by line id J = fin.get (store_of (before_line line J)) id
+-- with this line, where it asks for an operation on a document of the lane
+abbrev pub with_line : Setting → ℕ → ℕ → Asked → Lines → Lines
+with_line s lane line command.Blank lines = lines
+with_line s lane line command.TooLong lines = lines
+with_line s lane line (command.Bad why) lines = lines
+with_line s lane line (command.Feed op) lines = with_operation s lane line op lines
 
--- it began with the next stamp, wrote one entry with it, and was acknowledged with it
-pub record HasWrite (s : Setting) (line : ℕ) (id : List ℕ) (body : Option Contents) (J : Journal) : Type 0 where
-  pub begun : begun_in line J ≡ Some (beginning_of s id (Some (drawn_by s line J)))
-  pub wrote : wrote_in line J ≡ Some (record { stamp = drawn_by s line J; id = id; body = body })
-  pub closed : closed_in line J ≡ Some (outcome.Acked (drawn_by s line J))
+-- of lines, the newest first, those that ask for an operation in a lane
+abbrev pub lines_in : Setting → ℕ → List Asked → Lines
+lines_in s lane [] = []
+lines_in s lane (c ∷ cs) = with_line s lane (length cs + 1) c (lines_in s lane cs)
 
--- it began with the next stamp, wrote nothing, and ended so
-pub record HasDraw (s : Setting) (line : ℕ) (id : List ℕ) (ending : Outcome) (J : Journal) : Type 0 where
-  pub begun : begun_in line J ≡ Some (beginning_of s id (Some (drawn_by s line J)))
-  pub wrote : wrote_in line J ≡ None
-  pub closed : closed_in line J ≡ Some ending
+-- of lines, the oldest first
+abbrev pub lines_of_lane : Setting → ℕ → List Asked → Lines
+lines_of_lane s lane cs = lines_in s lane (reverse cs)
 
--- it began without a stamp, wrote nothing, and ended so
-pub record HasRead (s : Setting) (line : ℕ) (id : List ℕ) (ending : Outcome) (J : Journal) : Type 0 where
-  pub begun : begun_in line J ≡ Some (beginning_of s id None)
-  pub wrote : wrote_in line J ≡ None
-  pub closed : closed_in line J ≡ Some ending
-
-abbrev pub HasDeed : Setting → ℕ → List ℕ → Deed → Journal → Type 0
-HasDeed s line id (Write body) J = HasWrite s line id body J
-HasDeed s line id (Draw ending) J = HasDraw s line id ending J
-HasDeed s line id (Show ending) J = HasRead s line id ending J
-
--- the line has what its operation does by what it saw: the entry that it wrote is the operation's effect on that
-abbrev pub HasOperation : Setting → ℕ → Operation → Journal → Type 0
-HasOperation s line op J = HasDeed s line op.id (deed_of op (seen_by line op.id J)) J
-
--- this in the lane of the document's key, and no event in any other lane
-abbrev pub OnlyIn : Setting → ℕ → List ℕ → ℕ → Journal → Type 0 → Type 0
-OnlyIn s lane id line J there = MatchBool (lane_of_id s.bits id == lane) there (events_of line J ≡ [])
-
--- what a line has in a lane
-abbrev pub HasEvents : Setting → ℕ → ℕ → Asked → Journal → Type 0
-HasEvents s lane line command.Blank J = events_of line J ≡ []
-HasEvents s lane line command.TooLong J = events_of line J ≡ []
-HasEvents s lane line (command.Bad why) J = events_of line J ≡ []
-HasEvents s lane line (command.Feed op) J = OnlyIn s lane op.id line J (HasOperation s line op J)
+-- ---- what they did
 
 -- the line at a place of the text, from 0, asks for this under a schema, where the source tells its text
 abbrev pub IsCommandAt : Types → Option (List ℕ) → ℕ → Asked → Type 0
@@ -77,15 +43,20 @@ IsCommandAt types None at c = Unit {0}
 IsCommandAt types (Some text) at c =
     (bytes : List ℕ) × ((slice_get (lines_of text) at ≡ Some bytes) × (c ≡ asked_of types bytes))
 
--- the line after so many has the events of what it asks for
-pub record HasOutcome (s : Setting) (types : Types) (text : Option (List ℕ)) (at : ℕ)
-    (Js : List Journal) : Type 0 where
-  pub asked : Asked
-  pub told : IsCommandAt types text at asked
-  pub events : (lane : ℕ) → HasEvents s lane (at + 1) asked (journal_in lane Js)
+-- each line dealt with that asks for an operation did what it wants in the lane of its key, one after the other; and
+-- nothing else happened in any lane
+pub record HaveOutcomes (s : Setting) (types : Types) (text : Option (List ℕ)) (dealt : ℕ) (Js : List Journal) : Type 0 where
+  -- what the lines dealt with asked for
+  pub asked : List Asked
+  pub count : length asked ≡ dealt
+  pub told : (at : ℕ) (c : Asked) → slice_get asked at ≡ Some c → IsCommandAt types text at c
+  pub lives : (lane : ℕ) → lane < length Js → IsLife s (bucket_in s lane) (lines_of_lane s lane asked) (journal_in lane Js)
+  -- no other line has an event
+  pub no_others : (lane line : ℕ) → IsNone line (lines_of_lane s lane asked) → IsFresh (history (journal_in lane Js)) line
 
--- each line dealt with has its events, and no event is of another line
-pub record HaveOutcomes (s : Setting) (types : Types) (text : Option (List ℕ)) (dealt : ℕ)
-    (Js : List Journal) : Type 0 where
-  pub each : (at : ℕ) → at < dealt → HasOutcome s types text at Js
-  pub no_others : (lane line : ℕ) → (line ≡ 0) ⊎ (dealt < line) → events_of line (journal_in lane Js) ≡ []
+-- a put's document has the id of its operation, and a get has no condition
+abbrev pub IsOwnAsked : Asked → Type 0
+IsOwnAsked command.Blank = Unit {0}
+IsOwnAsked command.TooLong = Unit {0}
+IsOwnAsked (command.Bad why) = Unit {0}
+IsOwnAsked (command.Feed op) = IsOwn op.id op.kind × IsPlainGet op

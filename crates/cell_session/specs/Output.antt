@@ -5,15 +5,15 @@ use Rattle.documents.specs.Fields.{Contents}
 use Rattle.entry_maps.specs.declared.entry.Entry.{Entry}
 use Rattle.cell_session.specs.declared.asked.Asked.{Asked}
 use Rattle.cell_session.specs.declared.asked.Asked.TheVariants as command
-use Rattle.lane_laws.specs.Journals.{Journal}
-use Rattle.lane_laws.specs.Readers.{closed_in, entry_at}
+use Rattle.lane_journals.specs.Meanings.{entry_at}
+use Rattle.session_settings.specs.declared.setting.Setting.{Setting}
+use Rattle.session_lanes.specs.Lives.{outcome_in}
 use Rattle.messages.specs.declared.outcome.Outcome.{Outcome}
 use Rattle.messages.specs.declared.outcome.Outcome.TheVariants as outcome
 use Rattle.reports.specs.ReportText.{report_text}
 use Rattle.reports.specs.declared.answer.Answer.{Answer}
 use Rattle.reports.specs.declared.answer.Answer.TheVariants as answer
-use Rattle.cell_session.specs.Lanes.{lane_of_id, journal_in}
-use Rattle.cell_session.specs.declared.setting.Setting.{Setting}
+use Rattle.cell_session.specs.Lanes.{Journal, lane_of_id, journal_in}
 
 -- a found document is that of the entry with the stamp
 abbrev pub body_answer : List ℕ → Option Contents → Stamp → Option Answer
@@ -55,7 +55,7 @@ closed_answer (Some ending) J = outcome_answer ending (entry_of ending J)
 
 -- the answer of an operation, by the journal of its lane
 abbrev pub operation_answer : Setting → ℕ → List ℕ → List Journal → Option Answer
-operation_answer s line id Js = let J = journal_in (lane_of_id s.bits id) Js in closed_answer (closed_in line J) J
+operation_answer s line id Js = let J = journal_in (lane_of_id s.bits id) Js in closed_answer (outcome_in line J) J
 
 -- the answer of a line; a blank one has none
 abbrev pub answer_in : Setting → ℕ → Asked → List Journal → Option Answer

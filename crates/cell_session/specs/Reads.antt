@@ -5,6 +5,7 @@ use Rattle.io_ends.specs.Lines.{lines_of, NoLineFeed}
 use Rattle.io_ends.specs.Reading.{Reading, Grows, IsLittle, IsWithin, Reaches}
 use Rattle.doc_types.specs.SchemaCodes.{Types}
 use Rattle.cell_session.specs.Asking.{asked_of}
+use Rattle.cell_session.specs.Operations.{IsOwnAsked}
 use Rattle.cell_session.specs.declared.next_command.Step.{Step}
 use Rattle.cell_session.specs.declared.next_command.Step.TheVariants as step
 use Rattle.cell_session.specs.declared.status.Status.{Status}
@@ -46,6 +47,11 @@ Shows types text old (step.Command number command) =
     ((bytes : List ℕ) × ((slice_get (lines_of text) old.lines ≡ Some bytes) × (command ≡ asked_of types bytes)))
     × IsWithin text old
 Shows types text old (step.Over end) = Finishes text old end
+
+-- a command of a step is one that may be dealt with
+abbrev pub IsOwnStep : Step → Type 0
+IsOwnStep (step.Command number command) = IsOwnAsked command
+IsOwnStep (step.Over end) = Unit {0}
 
 -- an end that may come of reading; a fault of the source only where its count rose
 abbrev pub IsReadEnd : Status → Option ℕ → ℕ → ℕ → Type 0

@@ -3,14 +3,18 @@ ghost use Rattle.std.specs.Io.KnownBytes.{Appends};
 ghost use Rattle.io_ends.specs.Causes.{HasRisen};
 ghost use Rattle.cell_session.specs.Answering.{StopsAs};
 ghost use Rattle.cell_session.specs.Output.{bytes_of, report_in};
-ghost use Rattle.cell_session.specs.Steps.{IsReady, after_line};
+ghost use Rattle.cell_session.specs.Cells.{journals_of};
+ghost use Rattle.cell_session.specs.Keeping.{IsReady};
+ghost use Rattle.cell_session.specs.Operations.{IsOwnAsked};
+ghost use Rattle.cell_session.specs.Steps.{IsAfter};
 ghost use Rattle.cell_session.specs.declared.answering.Stop.TheVariants as stop;
 
 use crate::asked::Asked;
 use crate::cluster::Cluster;
-use crate::setting::Setting;
+use carriers::Carrier;
 use io_ends::{Sink, WriteFault, write_all};
 use reports::{Answer, report};
+use session_settings::Setting;
 use std::alloc::Global;
 use thiserror::Error;
 use value_lists::NoMemory;
@@ -41,20 +45,21 @@ impl From<WriteFault> for Stop {
 }
 
 /// Deals with a line's command and writes its report.
-pub fn answer_line<K: Sink>(
+pub fn answer_line<K: Sink, C: Carrier + Drop>(
     alloc: Global,
-    setting: Setting,
+    setting: &Setting,
     line: u32,
     command: Asked,
     sink: &mut K,
-    cluster: &mut Cluster,
+    cluster: &mut Cluster<C>,
 ) -> Result<(), Stop>
-    requires { IsReady setting line cluster.old }
-    ensures dealt { OnOk result (cluster.new ≡ after_line setting line command cluster.old) }
+    requires ready { IsReady setting.now line cluster.old }
+    requires own { IsOwnAsked command }
+    ensures dealt { OnOk result (IsAfter setting.now line command cluster.old cluster.new) }
     ensures written { OnOk result (Appends (K.written sink.old) (K.written sink.new)
-        (report_in setting line command cluster.new.journals)) }
+        (report_in setting.now line command (journals_of cluster.new))) }
     ensures stopped { IfErr result (λ why.
-        StopsAs why setting line command cluster.old cluster.new (K.written sink.old) (K.written sink.new)) }
+        StopsAs why setting.now line command cluster.old cluster.new (K.written sink.old) (K.written sink.new)) }
     ensures count { K.faults sink.old ≤ K.faults sink.new }
     ensures fault { IfErr result (λ why. why ≡ stop.Fault
         → HasRisen K.last (K.faults sink.old) (K.faults sink.new)) }

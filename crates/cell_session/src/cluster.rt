@@ -1,24 +1,36 @@
-ghost use Rattle.std.specs.Prelude.{◌≡◌, ◌==◌, ◌<◌, ◌≤◌, ◌^◌, ◌⊎◌, [], length, IfOk, OnOk, OnErr, IsTrue};
+ghost use Rattle.std.specs.Prelude.{◌≡◌, ◌==◌, ◌<◌, ◌≤◌, ◌^◌, ◌⊎◌, ℕ, [], Some, length, List, IfOk, OnOk, OnErr, IsTrue, slice_get};
 ghost use Rattle.std.specs.Option.{option_copied};
 ghost use Rattle.global_ids.specs.Keys.{key_of, lane_of};
-ghost use Rattle.lane_laws.specs.Journals.{past};
+ghost use Rattle.lane_journals.specs.KeptJournals.{past};
+ghost use Rattle.lane_journals.specs.Meanings.{entry_at};
+ghost use Rattle.messages.specs.declared.outcome.Outcome.{Outcome};
+ghost use Rattle.session_settings.specs.Settings.{IsSetting, lane_count};
 ghost use Rattle.cell_session.specs.Answering.{IsAllOrNothing};
-ghost use Rattle.cell_session.specs.Cells.{is_empty};
+ghost use Rattle.cell_session.specs.Cells.{is_empty, journals_of};
+ghost use Rattle.cell_session.specs.Keeping.{IsReady};
 ghost use Rattle.cell_session.specs.Lanes.{lane_of_id, journal_in};
-ghost use Rattle.cell_session.specs.Output.{body_answer, found_answer, outcome_answer, operation_answer, answer_in};
-ghost use Rattle.cell_session.specs.Settings.{IsSetting};
-ghost use Rattle.cell_session.specs.Steps.{IsReady, ending_of, with_operation, grown, after_line, opened};
-ghost use Rattle.cell_session.specs.Stores.{stored_in, entries_in};
+ghost use Rattle.cell_session.specs.Operations.{IsOwnAsked};
+ghost use Rattle.cell_session.specs.Output.{body_answer, found_answer, outcome_answer, entry_of, operation_answer, answer_in};
+ghost use Rattle.cell_session.specs.Rows.{ShowsRows};
+ghost use Rattle.cell_session.specs.Sizes.{HasSize};
+ghost use Rattle.cell_session.specs.Steps.{IsOperatedIn, IsAfter};
+ghost use Rattle.lane_operations.specs.OperationKeeping.{IsPlainGet};
+ghost use Rattle.op_machine.specs.Plans.{IsOwn};
 
 use crate::asked::Asked;
-use crate::lane::Lane;
-use crate::setting::Setting;
-use document_ids::DocId;
+use bucket_db::Row;
+use bucket_ids::Bucket;
+use carriers::Carrier;
+use cluster_states::ClusterState;
 use entry_maps::Entry;
 use global_ids::{key_of, lane_of};
-use lane_laws::LaneEvent;
+use ideal_nodes::owner;
+use lane_core::Lane;
+use lane_journals::LaneEvent;
 use messages::{Operation, Outcome};
 use reports::Answer;
+use session_lanes::{owner_of, run_operation};
+use session_settings::Setting;
 use stamps::Stamp;
 use std::alloc::Global;
 use std::marker::Model;
@@ -26,14 +38,14 @@ use value_lists::{NoMemory, TryCopy};
 
 /// The lanes that a session leaves: none, or all of them.
 #[derive(Drop)]
-pub struct Cluster {
+pub struct Cluster<C: Carrier + Drop> {
     bits: u8,
-    node: u8,
-    lanes: Vec<Lane>,
+    newest: ClusterState,
+    lanes: Vec<Lane<C>>,
     dealt: u32,
 }
 
-impl Model for Cluster {
+impl<C: Carrier + Drop> Model for Cluster<C> {
     ghost use Rattle.std.specs.Prelude.{length};
     ghost use Rattle.cell_session.specs.Cells.{Cell, cell_code, IsCluster};
 
@@ -41,29 +53,29 @@ impl Model for Cluster {
 
     ghost coded = { cell_code };
 
-    ghost view = { λ c. record { bits = c.bits; node = c.node; journals = c.lanes.items; dealt = c.dealt } };
+    ghost view = { λ c. record { bits = c.bits; newest = c.newest; lanes = c.lanes.items; dealt = c.dealt } };
 
     ghost invariant = { λ c. IsCluster c.bits (length c.lanes.items) };
 }
 
 /// The lane of a key; takes no memory.
-fn lane_at(key: u64, bits: u8) -> usize
+fn lane_at(key: u64, bits: u8) -> u8
     requires some { 1 ≤ bits }
     requires most { bits ≤ 6 }
     ensures value { result ≡ lane_of key bits }
     ensures within { result < 2 ^ bits }
 {
-    usize::from(lane_of(key, bits))
+    lane_of(key, bits)
 }
 
-impl Cluster {
+impl<C: Carrier + Drop> Cluster<C> {
     /// A cluster without lanes; takes no memory.
-    pub fn empty(alloc: Global) -> Cluster
+    pub fn empty(alloc: Global) -> Cluster<C>
         ensures { IsTrue (is_empty result) }
     {
         Cluster {
             bits: 1,
-            node: 0,
+            newest: ClusterState::default(),
             lanes: Vec::new(alloc),
             dealt: 0,
         }
@@ -78,7 +90,7 @@ impl Cluster {
 
     /// How many lanes there are.
     pub fn lanes(&self) -> u8
-        ensures { result ≡ length self.now.journals }
+        ensures { result ≡ length self.now.lanes }
     {
         self.lanes.len() as u8
     }
@@ -92,7 +104,7 @@ impl Cluster {
 
     /// The journal of a lane, oldest event first; that of a lane that isn't there is empty.
     pub fn journal(&self, lane: u8) -> &[LaneEvent]
-        ensures { past result.now ≡ journal_in lane self.now.journals }
+        ensures { past result.now ≡ journal_in lane (journals_of self.now) }
     {
         match self.lanes.get(usize::from(lane)) {
             Some(lane) => lane.journal(),
@@ -100,53 +112,54 @@ impl Cluster {
         }
     }
 
-    /// The newest entry of a document, if a lane has one; takes no memory.
-    pub fn entry(&self, id: &DocId) -> Option<&Entry>
-        ensures { option_copied result ≡ stored_in id.now self.now }
+    /// The rows of a lane, by the distributor that owns it under the newest state, in rising bucket number; none
+    /// before that state was opened there.
+    pub fn rows(&self, lane: u8) -> &[Row]
+        ensures { ShowsRows self.now.bits lane self.now.newest (slice_get self.now.lanes lane) result.now }
     {
-        self.entry_at(key_of(id), id)
+        let Some(there) = self.lanes.get(usize::from(lane)) else {
+            return &[];
+        };
+        self.own_rows(lane, there)
     }
 
-    /// The same of a document whose key is known.
-    #[tactic(auto, unfolding(crate::specs::Lanes::lane_of_id))]
-    fn entry_at(&self, key: u64, id: &DocId) -> Option<&Entry>
-        requires { key ≡ key_of id.now }
-        ensures { option_copied result ≡ stored_in id.now self.now }
+    /// Those of a lane that is there.
+    fn own_rows<'a>(&'a self, lane: u8, there: &'a Lane<C>) -> &'a [Row]
+        requires within { lane < 2 ^ self.now.bits }
+        ensures { ShowsRows self.now.bits lane self.now.newest (Some there.now) result.now }
     {
-        self.lanes.get(lane_at(key, self.bits))?.entry_at(key, id)
-    }
-
-    /// How many entries the stores of a node hold, removes among them; at most 2^64 - 1.
-    pub fn store_size(&self, node: u8) -> u64
-        ensures { result ≡ entries_in node self.now }
-    {
-        if node != self.node {
-            return 0;
+        match owner(Bucket::new(self.bits, u64::from(lane)), &self.newest) {
+            Some(owner) => there.rows(owner),
+            None => &[],
         }
+    }
+
+    /// How many entries the stores of a node hold in all lanes, removes among them; at most 2^64 - 1.
+    pub fn store_size(&self, node: u8) -> u64
+        ensures { HasSize node (journals_of self.now) result }
+    {
         let mut size = 0u64;
         for lane in &self.lanes {
-            size = size.saturating_add(lane.entries());
+            size = size.saturating_add(lane.entries_at(node));
         }
         size
     }
 
-    /// Makes the lanes. The only error is want of memory, which leaves none.
-    pub fn open(&mut self, alloc: Global, setting: Setting) -> Result<(), NoMemory>
-        requires empty { IsTrue (is_empty self.old) }
-        requires setting { IsSetting setting }
-        ensures ok { OnOk result (self.new ≡ opened setting) }
-        ensures err { OnErr result ((self.new.journals ≡ []) × (self.new.dealt ≡ 0)) }
+    /// Takes these lanes, in which no line was dealt with.
+    pub fn take(&mut self, setting: &Setting, lanes: Vec<Lane<C>>)
+        requires setting { IsSetting setting.now }
+        requires all { length lanes.items ≡ lane_count setting.now }
+        ensures { self.new ≡ record {
+          bits = setting.now.bits;
+          newest = setting.now.initial;
+          lanes = lanes.items;
+          dealt = 0;
+        } }
     {
-        self.dealt = 0;
-        let count = 1usize << setting.bits;
-        let mut lanes = Vec::with_capacity(alloc, count)?;
-        while lanes.len() < count {
-            lanes.push(Lane::new(alloc))?;
-        }
         self.bits = setting.bits;
-        self.node = setting.node;
+        self.newest = setting.initial;
         self.lanes = lanes;
-        Ok(())
+        self.dealt = 0;
     }
 
     /// Deals with a line's command in the lane of its key, and gives the line's answer, which a blank
@@ -154,14 +167,15 @@ impl Cluster {
     pub fn deal(
         &mut self,
         alloc: Global,
-        setting: Setting,
+        setting: &Setting,
         line: u32,
         command: Asked,
     ) -> Result<Option<Answer>, NoMemory>
-        requires { IsReady setting line self.old }
-        ensures ok { IfOk result (λ answer. (self.new ≡ after_line setting line command self.old)
-            × (answer ≡ answer_in setting line command self.new.journals)) }
-        ensures err { OnErr result (IsAllOrNothing setting line command self.old self.new) }
+        requires ready { IsReady setting.now line self.old }
+        requires own { IsOwnAsked command }
+        ensures ok { IfOk result (λ answer. IsAfter setting.now line command self.old self.new
+            × (answer ≡ answer_in setting.now line command (journals_of self.new))) }
+        ensures err { OnErr result (IsAllOrNothing setting.now line command self.old self.new) }
     {
         match command {
             Asked::Blank => {
@@ -184,57 +198,50 @@ impl Cluster {
     fn answer_operation(
         &mut self,
         alloc: Global,
-        setting: Setting,
+        setting: &Setting,
         line: u32,
         operation: &Operation,
     ) -> Result<Option<Answer>, NoMemory>
-        requires { IsReady setting line self.old }
+        requires ready { IsReady setting.now line self.old }
+        requires own { IsOwn operation.now.id operation.now.kind }
+        requires plain { IsPlainGet operation.now }
         ensures ok { IfOk result (λ answer.
-            (self.new ≡ grown self.old line (with_operation setting line operation.now self.old.journals))
-            × (answer ≡ operation_answer setting line operation.now.id self.new.journals)) }
+            ((ending : Outcome) × IsOperatedIn setting.now line operation.now self.old self.new ending)
+            × (answer ≡ operation_answer setting.now line operation.now.id (journals_of self.new))) }
         ensures err { OnErr result ((self.new ≡ self.old)
-            ⊎ (self.new ≡ grown self.old line (with_operation setting line operation.now self.old.journals))) }
+            ⊎ ((ending : Outcome) × IsOperatedIn setting.now line operation.now self.old self.new ending)) }
     {
-        let key = key_of(&operation.id);
-        let outcome = self.operate(alloc, setting, line, key, operation)?;
-        self.answer(alloc, key, &operation.id, outcome)
+        let at = lane_at(key_of(&operation.id), setting.bits);
+        let outcome = self.operate(setting, at, line, operation)?;
+        self.answer(alloc, at, outcome)
     }
 
-    /// Does what an operation asks for in the lane of its document.
-    #[tactic(auto, unfolding(crate::specs::Lanes::lane_of_id))]
+    /// Does what an operation asks for in its lane.
     fn operate(
         &mut self,
-        alloc: Global,
-        setting: Setting,
+        setting: &Setting,
+        at: u8,
         line: u32,
-        key: u64,
         operation: &Operation,
     ) -> Result<Outcome, NoMemory>
-        requires ready { IsReady setting line self.old }
-        requires key { key ≡ key_of operation.now.id }
-        ensures ok { IfOk result (λ ending.
-            (self.new ≡ grown self.old line (with_operation setting line operation.now self.old.journals))
-            × (ending ≡ ending_of setting operation.now
-            (journal_in (lane_of_id setting.bits operation.now.id) self.old.journals))) }
+        requires ready { IsReady setting.now line self.old }
+        requires own { IsOwn operation.now.id operation.now.kind }
+        requires plain { IsPlainGet operation.now }
+        requires at { at ≡ lane_of_id setting.now.bits operation.now.id }
+        ensures ok { IfOk result (λ ending. IsOperatedIn setting.now line operation.now self.old self.new ending) }
         ensures err { OnErr result (self.new ≡ self.old) }
     {
-        let at = lane_at(key, setting.bits);
-        let lane = &mut self.lanes[at];
-        let outcome = lane.operate(alloc, setting, line, key, operation)?;
+        let owner = owner_of(setting, at);
+        let lane = &mut self.lanes[usize::from(at)];
+        let outcome = run_operation(lane, line, operation, owner)?;
         self.dealt = line;
         Ok(outcome)
     }
 
-    /// The answer that an outcome is, where what it found is the newest entry of this document.
-    fn answer(
-        &self,
-        alloc: Global,
-        key: u64,
-        id: &DocId,
-        outcome: Outcome,
-    ) -> Result<Option<Answer>, NoMemory>
-        requires { key ≡ key_of id.now }
-        ensures { IfOk result (λ answer. answer ≡ outcome_answer outcome (stored_in id.now self.now)) }
+    /// The answer that an outcome in a lane is.
+    fn answer(&self, alloc: Global, at: u8, outcome: Outcome) -> Result<Option<Answer>, NoMemory>
+        ensures { IfOk result (λ answer. answer
+            ≡ outcome_answer outcome (entry_of outcome (journal_in at (journals_of self.now)))) }
     {
         match outcome {
             Outcome::Acked { stamp } => Ok(Some(Answer::Acked { stamp })),
@@ -242,7 +249,7 @@ impl Cluster {
             Outcome::Nothing { .. } => Ok(Some(Answer::Nothing)),
             Outcome::ConditionFailed { seen } => Ok(Some(Answer::ConditionFailed { seen })),
             Outcome::BadUpdate { fault } => Ok(Some(Answer::BadUpdate { fault })),
-            Outcome::Found { stamp } => found_answer(alloc, self.entry_at(key, id), stamp),
+            Outcome::Found { stamp } => found_answer(alloc, self.entry_at(at, stamp), stamp),
             Outcome::TooFew {
                 answered,
                 needed,
@@ -257,6 +264,14 @@ impl Cluster {
             }
             Outcome::NoMemory => Ok(Some(Answer::NoMemory)),
         }
+    }
+
+    /// The entry that was written in a lane with a stamp.
+    fn entry_at(&self, at: u8, stamp: Stamp) -> Option<&Entry>
+        ensures { option_copied result
+            ≡ entry_at stamp (journal_in at (journals_of self.now)) }
+    {
+        self.lanes.get(usize::from(at))?.entry(stamp)
     }
 }
 

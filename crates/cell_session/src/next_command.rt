@@ -1,6 +1,6 @@
 ghost use Rattle.std.specs.Prelude.{◌≡◌, ◌≤◌, ℕ, List};
 ghost use Rattle.io_ends.specs.Reading.{StandsIn};
-ghost use Rattle.cell_session.specs.Reads.{Advances, Shows, CausedBySource, IsOfLine};
+ghost use Rattle.cell_session.specs.Reads.{Advances, Shows, CausedBySource, IsOwnStep, IsOfLine};
 
 use crate::asked::{Asked, asked_of};
 use crate::status::Status;
@@ -31,6 +31,7 @@ pub fn next_command<S: Source>(
         → Shows schema.now text reader.old result }
     ensures stands { (text : List ℕ) → StandsIn text reader.old (S.left source.old)
         → StandsIn text reader.new (S.left source.new) }
+    ensures own { IsOwnStep result }
     ensures count { S.faults source.old ≤ S.faults source.new }
     ensures cause { CausedBySource result S.last (S.faults source.old) (S.faults source.new) }
 {

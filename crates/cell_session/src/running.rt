@@ -3,55 +3,64 @@ ghost use Rattle.std.specs.String.{string_bytes};
 ghost use Rattle.std.specs.Io.KnownBytes.{Appends};
 ghost use Rattle.io_ends.specs.Causes.{HasRisen};
 ghost use Rattle.reports.specs.ReportText.{usage_text};
-ghost use Rattle.cell_session.specs.Cells.{is_empty};
-ghost use Rattle.cell_session.specs.Choices.{Chooses, AreWrong};
+ghost use Rattle.session_settings.specs.Choices.{Chooses, AreWrong};
+ghost use Rattle.session_settings.specs.Settings.{IsSetting};
+ghost use Rattle.session_settings.specs.declared.choice.Choice.{Choice};
+ghost use Rattle.cell_session.specs.Cells.{is_empty, journals_of};
 ghost use Rattle.cell_session.specs.Dealing.{EndsAs};
 ghost use Rattle.cell_session.specs.Ends.{IfTold, commands_of, HasLanes, DealsWith, PassesLimit, Writes, UsageEnd};
-ghost use Rattle.cell_session.specs.Lanes.{AreLegal, AreInOrder};
+ghost use Rattle.cell_session.specs.Lanes.{AreLegal, AreDurable, AreInOrder, HaveFates, AreComplete};
 ghost use Rattle.cell_session.specs.Operations.{HaveOutcomes};
-ghost use Rattle.cell_session.specs.Settings.{IsSetting};
-ghost use Rattle.cell_session.specs.declared.choice.Choice.{Choice};
 
 use crate::answering::{Stop, answer_line};
-use crate::choice::read_choice;
 use crate::cluster::Cluster;
 use crate::limits::{MOST_BYTES, MOST_LINES};
 use crate::next_command::{Step, next_command};
-use crate::setting::Setting;
+use crate::opening::open_cluster;
 use crate::status::Status;
+use carriers::Carriers;
 use doc_types::Schema;
 use io_ends::{LimitKind, LineReader, Sink, Source, write_all};
 use reports::usage_report;
+use session_lanes::laws::{lanes_are_complete, lanes_are_durable};
+use session_settings::{Setting, read_choice};
 use std::alloc::Global;
 use words_line::WordsFault;
 
 /// Runs a session: reads the lines of the source, deals with each in order, and writes its report
 /// before the next line is read. The first word is the program's name. It waits for nobody and always
 /// returns.
-pub fn run_one<S: Source, K: Sink>(
+pub fn run_one<S: Source, K: Sink, C: Carriers>(
     alloc: Global,
     words: &[String],
     source: &mut S,
     sink: &mut K,
-    cluster: &mut Cluster,
+    carriers: &mut C,
+    cluster: &mut Cluster<C::One>,
 ) -> Status
     requires { IsTrue (is_empty cluster.old) }
 
-    // the journals: which are legal, whether lines overlap, how many there are
-    ensures legal_lanes { AreLegal cluster.new.journals }
-    ensures lines_in_order { AreInOrder cluster.new.journals }
+    // the journals: which are legal, what is kept of them, whether lines overlap, how many there are, what became
+    // of messages
+    ensures legal_lanes { (c : Choice) → Chooses (map string_bytes words.now) c
+        → AreLegal c.setting (journals_of cluster.new) }
+    ensures durability { (c : Choice) → Chooses (map string_bytes words.now) c
+        → AreDurable c.setting (journals_of cluster.new) }
+    ensures lines_in_order { AreInOrder (journals_of cluster.new) }
+    ensures fates { HaveFates (C.plans carriers.old) cluster.new.lanes }
     ensures lanes { (c : Choice) → Chooses (map string_bytes words.now) c
-        → HasLanes result c.setting cluster.new.journals }
+        → HasLanes result c.setting (journals_of cluster.new) }
 
-    // the lines: which were dealt with, what each of them began, wrote and closed, and the bytes that
-    // answer them
+    // the lines: which were dealt with, what each of them did, and the bytes that answer them
     ensures dealt_with { (c : Choice) → Chooses (map string_bytes words.now) c
         → IfTold (S.left source.old) (λ text. DealsWith result text cluster.new.dealt (S.left source.new)) }
     ensures one_outcome { (c : Choice) → Chooses (map string_bytes words.now) c
-        → HaveOutcomes c.setting c.schema (S.left source.old) cluster.new.dealt cluster.new.journals }
+        → HaveOutcomes c.setting c.schema (S.left source.old) cluster.new.dealt (journals_of cluster.new) }
+    ensures completeness { (c : Choice) → Chooses (map string_bytes words.now) c
+        → AreComplete c.setting cluster.new.lanes }
     ensures bytes_written { (c : Choice) → Chooses (map string_bytes words.now) c
         → IfTold (S.left source.old) (λ text. Writes result c.setting
-        (commands_of c.schema text cluster.new.dealt) cluster.new.journals
+        (commands_of c.schema text cluster.new.dealt) (journals_of cluster.new)
         (K.written sink.old) (K.written sink.new)) }
 
     // wrong words: the one usage line is written, nothing is read, and the cluster is as it was
@@ -72,8 +81,18 @@ pub fn run_one<S: Source, K: Sink>(
     ensures source_calm { S.faults source.old ≤ S.faults source.new }
     ensures sink_calm { K.faults sink.old ≤ K.faults sink.new }
 {
+    lanes_are_durable();
+    lanes_are_complete();
     match read_choice(alloc, words) {
-        Ok(choice) => run_lines(alloc, choice.setting, &choice.schema, source, sink, cluster),
+        Ok(choice) => run_lines(
+            alloc,
+            &choice.setting,
+            &choice.schema,
+            source,
+            sink,
+            carriers,
+            cluster,
+        ),
         Err(WordsFault::Usage) => refuse_words(alloc, sink),
         Err(WordsFault::NoMemory) => Status::NoMemory,
     }
@@ -95,17 +114,18 @@ fn refuse_words<K: Sink>(alloc: Global, sink: &mut K) -> Status
 }
 
 /// Runs the lines of the source in new lanes.
-fn run_lines<S: Source, K: Sink>(
+fn run_lines<S: Source, K: Sink, C: Carriers>(
     alloc: Global,
-    setting: Setting,
+    setting: &Setting,
     schema: &Schema,
     source: &mut S,
     sink: &mut K,
-    cluster: &mut Cluster,
+    carriers: &mut C,
+    cluster: &mut Cluster<C::One>,
 ) -> Status
     requires empty { IsTrue (is_empty cluster.old) }
-    requires setting { IsSetting setting }
-    ensures ended { EndsAs result setting schema.now (S.left source.old) (S.left source.new) cluster.new
+    requires setting { IsSetting setting.now }
+    ensures ended { EndsAs result setting.now schema.now (C.plans carriers.old) (S.left source.old) (S.left source.new) cluster.new
         (K.written sink.old) (K.written sink.new) }
     ensures read_fault { result ≡ Status.ReadFault
         → HasRisen S.last (S.faults source.old) (S.faults source.new) }
@@ -114,7 +134,7 @@ fn run_lines<S: Source, K: Sink>(
     ensures source_calm { S.faults source.old ≤ S.faults source.new }
     ensures sink_calm { K.faults sink.old ≤ K.faults sink.new }
 {
-    let Ok(()) = cluster.open(alloc, setting) else {
+    let Ok(()) = open_cluster(alloc, setting, carriers, cluster) else {
         return Status::NoMemory;
     };
     let Ok(mut reader) = LineReader::new(alloc, MOST_BYTES, MOST_LINES) else {

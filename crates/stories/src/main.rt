@@ -3,12 +3,15 @@
 //! file and a line there.
 #![tactic(auto)]
 
+mod fated;
 mod left;
 mod story;
 
+use crate::fated::FirstLaneFates;
 use crate::left::print_left;
 use crate::story::Story;
 use anyhow::Result;
+use carriers::Fate;
 use cell_session::{Cluster, run_one};
 use io_ends::{MemorySink, MemorySource};
 use std::alloc::Global;
@@ -46,7 +49,15 @@ fn tell(alloc: Global, story: &Story) -> Result<(Vec<u8>, u8)> {
     let mut source = MemorySource::new(input, copied(alloc, &story.reads)?);
     let mut sink = MemorySink::new(alloc, copied(alloc, &story.writes)?);
     let mut cluster = Cluster::empty(alloc);
-    let status = run_one(alloc, &story.words, &mut source, &mut sink, &mut cluster);
+    let mut carriers = FirstLaneFates::new(copied_fates(alloc, &story.fates)?);
+    let status = run_one(
+        alloc,
+        &story.words,
+        &mut source,
+        &mut sink,
+        &mut carriers,
+        &mut cluster,
+    );
     let mut output = Vec::new(alloc);
     output.extend_from_slice(sink.bytes())?;
     Ok((output, status.number()))
@@ -55,6 +66,12 @@ fn tell(alloc: Global, story: &Story) -> Result<(Vec<u8>, u8)> {
 fn copied(alloc: Global, calls: &[u64]) -> Result<Vec<u64>> {
     let mut copy = Vec::new(alloc);
     copy.extend_from_slice(calls)?;
+    Ok(copy)
+}
+
+fn copied_fates(alloc: Global, fates: &[Fate]) -> Result<Vec<Fate>> {
+    let mut copy = Vec::new(alloc);
+    copy.extend_from_slice(fates)?;
     Ok(copy)
 }
 

@@ -1,4 +1,5 @@
 use anyhow::{Result, anyhow};
+use carriers::Fate;
 use std::alloc::Global;
 
 /// A worked session.
@@ -12,6 +13,8 @@ pub struct Story {
     pub reads: Vec<u64>,
     /// The calls of the sink that fail.
     pub writes: Vec<u64>,
+    /// The fates of the first messages of lane 0; all others are delivered.
+    pub fates: Vec<Fate>,
     /// The bytes that it must write.
     pub output: Vec<u8>,
     /// The exit status that it must end with.
@@ -28,16 +31,54 @@ impl Story {
         let (output, status) = rest.rsplit_once('\n').unwrap_or(("", rest));
         let mut words = Vec::new(alloc);
         for word in first.split(' ') {
-            words.push(String::from_str(alloc, word)?)?;
+            words.push(word_of(alloc, word)?)?;
         }
         Ok(Story {
             words,
             input: expand(alloc, input)?,
             reads: calls(alloc, input, "%source_fails ")?,
             writes: calls(alloc, input, "%sink_fails ")?,
+            fates: fates(alloc, input)?,
             output: expand(alloc, output)?,
             status: status.parse::<u8>()?,
         })
+    }
+}
+
+/// A word, in which `+` stands for a space.
+fn word_of(alloc: Global, text: &str) -> Result<String> {
+    let mut word = String::new(alloc);
+    let mut is_first = true;
+    for piece in text.split('+') {
+        if !is_first {
+            word.push_str(" ")?;
+        }
+        is_first = false;
+        word.push_str(piece)?;
+    }
+    Ok(word)
+}
+
+/// The fates that the lines say which begin with `%fates`.
+fn fates(alloc: Global, lines: &str) -> Result<Vec<Fate>> {
+    let mut fates = Vec::new(alloc);
+    for line in lines.lines() {
+        if let Some(rest) = line.strip_prefix("%fates ") {
+            for word in rest.split(' ') {
+                fates.push(fate_of(word)?)?;
+            }
+        }
+    }
+    Ok(fates)
+}
+
+fn fate_of(word: &str) -> Result<Fate> {
+    match word {
+        "deliver" => Ok(Fate::Deliver),
+        "lose_request" => Ok(Fate::LoseRequest),
+        "lose_reply" => Ok(Fate::LoseReply),
+        "twice" => Ok(Fate::Twice),
+        _ => Ok(Fate::Late(word.parse::<u32>()?)),
     }
 }
 
@@ -59,7 +100,9 @@ fn calls(alloc: Global, lines: &str, word: &str) -> Result<Vec<u64>> {
 /// - `%long N` for a line of N letters x;
 /// - `%bytes B ..` for these bytes, without a line feed;
 /// - `%open` takes the last line feed away, so that the next line goes on there;
-/// - `%source_fails N` and `%sink_fails N` stand for nothing: call N of that end fails.
+/// - `%source_fails N` and `%sink_fails N` stand for nothing: call N of that end fails;
+/// - `%fates F ..` stands for nothing: the first messages of lane 0 have these fates, where a number is that
+///   of a late one.
 fn expand(alloc: Global, lines: &str) -> Result<Vec<u8>> {
     let mut bytes = Vec::new(alloc);
     for line in lines.lines() {
@@ -93,7 +136,10 @@ fn push(bytes: &mut Vec<u8>, line: &str) -> Result<()> {
         }
     } else if line == "%open" {
         bytes.pop();
-    } else if !line.starts_with("%source_fails ") && !line.starts_with("%sink_fails ") {
+    } else if !line.starts_with("%source_fails ")
+        && !line.starts_with("%sink_fails ")
+        && !line.starts_with("%fates ")
+    {
         bytes.extend_from_slice(line.as_bytes())?;
         bytes.push(b'\n')?;
     }

@@ -2,6 +2,7 @@
 //! `cell_session::run_one`; here its two ends are tied to the process.
 #![tactic(auto)]
 
+use carriers::PlanCarriers;
 use cell_session::{Cluster, Status, run_one};
 use io_ends::{StdSink, StdSource};
 use std::process::ExitCode;
@@ -12,7 +13,14 @@ fn main(rt: HostRuntime) -> ExitCode {
     let mut sink = StdSink::new(rt.stdout());
     let mut cluster = Cluster::empty(rt.alloc());
     let status = match read_words(&rt) {
-        Ok(words) => run_one(rt.alloc(), &words, &mut source, &mut sink, &mut cluster),
+        Ok(words) => run_one(
+            rt.alloc(),
+            &words,
+            &mut source,
+            &mut sink,
+            &mut PlanCarriers,
+            &mut cluster,
+        ),
         Err(_) => Status::NoMemory,
     };
     // the process ends here, and what the lanes hold goes with it

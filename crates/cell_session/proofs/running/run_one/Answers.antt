@@ -1,28 +1,60 @@
-use Rattle.std.proofs.Common.{◌∙◌, None, Err, ap}
-use Rattle.cell_session.proofs.Clauses.{ends_dealt, chosen_lanes, chosen_outcomes, chosen_written, empty_ends, usage_written}
+use Rattle.std.proofs.Common.{◌∙◌, [], None, Err, ap}
+use Rattle.cell_session.proofs.Clauses.{legal_durable, legal_complete, ends_in_order, ends_fates, ends_dealt, chosen_legal, chosen_lanes, chosen_outcomes, chosen_written, empty_legal, empty_in_order, empty_fates, empty_ends, usage_written}
 use Rattle.cell_session.proofs.running.run_one.Goals as goal
 
 -- ---- the words choose a session
 
+pub returns-in-Ok-clause-legal_lanes : goal.returns-in-Ok-clause-legal_lanes
+returns-in-Ok-clause-legal_lanes g c s x = chosen_legal _ _ s _ _ _ _ _ _ _ c.in-Ok.ensures.chosen x c.run_lines.ensures.ended
+
+pub returns-in-Ok-clause-durability : goal.returns-in-Ok-clause-durability
+returns-in-Ok-clause-durability g c s x = legal_durable c.lanes_are_durable.ensures _ s _ x (chosen_legal _ _ s _ _ _ _ _ _ _ c.in-Ok.ensures.chosen x c.run_lines.ensures.ended)
+
+pub returns-in-Ok-clause-completeness : goal.returns-in-Ok-clause-completeness
+returns-in-Ok-clause-completeness g c s x =
+    let ended = c.run_lines.ensures.ended in
+    legal_complete c.lanes_are_complete.ensures _ s _ _ x (chosen_legal _ _ s _ _ _ _ _ _ _ c.in-Ok.ensures.chosen x ended) (ends_fates _ _ _ _ _ _ _ _ _ ended)
+
+pub returns-in-Ok-clause-lines_in_order : goal.returns-in-Ok-clause-lines_in_order
+returns-in-Ok-clause-lines_in_order g c = ends_in_order _ _ _ _ _ _ _ _ _ c.run_lines.ensures.ended
+
+pub returns-in-Ok-clause-fates : goal.returns-in-Ok-clause-fates
+returns-in-Ok-clause-fates g c = ends_fates _ _ _ _ _ _ _ _ _ c.run_lines.ensures.ended
+
 pub returns-in-Ok-clause-lanes : goal.returns-in-Ok-clause-lanes
-returns-in-Ok-clause-lanes g c s x = chosen_lanes _ _ s _ _ _ _ _ _ c.in-Ok.ensures.chosen x c.run_lines.ensures.ended
+returns-in-Ok-clause-lanes g c s x = chosen_lanes _ _ s _ _ _ _ _ _ _ c.in-Ok.ensures.chosen x c.run_lines.ensures.ended
 
 pub returns-in-Ok-clause-dealt_with : goal.returns-in-Ok-clause-dealt_with
-returns-in-Ok-clause-dealt_with g c s x = ends_dealt _ _ _ _ _ _ _ _ c.run_lines.ensures.ended
+returns-in-Ok-clause-dealt_with g c s x = ends_dealt _ _ _ _ _ _ _ _ _ c.run_lines.ensures.ended
 
 pub returns-in-Ok-clause-one_outcome : goal.returns-in-Ok-clause-one_outcome
-returns-in-Ok-clause-one_outcome g c s x = chosen_outcomes _ _ s _ _ _ _ _ _ c.in-Ok.ensures.chosen x c.run_lines.ensures.ended
+returns-in-Ok-clause-one_outcome g c s x = chosen_outcomes _ _ s _ _ _ _ _ _ _ c.in-Ok.ensures.chosen x c.run_lines.ensures.ended
 
 pub returns-in-Ok-clause-bytes_written : goal.returns-in-Ok-clause-bytes_written
-returns-in-Ok-clause-bytes_written g c s x = chosen_written _ _ s _ _ _ _ _ _ c.in-Ok.ensures.chosen x c.run_lines.ensures.ended
+returns-in-Ok-clause-bytes_written g c s x = chosen_written _ _ s _ _ _ _ _ _ _ c.in-Ok.ensures.chosen x c.run_lines.ensures.ended
 
 -- ---- the words are wrong
+
+pub returns-in-Err-Usage-clause-durability : goal.returns-in-Err-Usage-clause-durability
+returns-in-Err-Usage-clause-durability g c s x = legal_durable c.lanes_are_durable.ensures _ s _ x (empty_legal s.setting c.args.cluster.now c.requires)
+
+pub returns-in-Err-Usage-clause-completeness : goal.returns-in-Err-Usage-clause-completeness
+returns-in-Err-Usage-clause-completeness g c s x = legal_complete c.lanes_are_complete.ensures _ s (λ lane. []) _ x (empty_legal s.setting c.args.cluster.now c.requires) (empty_fates (λ lane. []) c.args.cluster.now c.requires)
+
+pub returns-in-Err-Usage-clause-lines_in_order : goal.returns-in-Err-Usage-clause-lines_in_order
+returns-in-Err-Usage-clause-lines_in_order g c = empty_in_order c.args.cluster.now c.requires
+
+pub returns-in-Err-Usage-clause-fates : goal.returns-in-Err-Usage-clause-fates
+returns-in-Err-Usage-clause-fates g c = empty_fates _ c.args.cluster.now c.requires
 
 pub returns-in-Err-Usage-clause-lanes : goal.returns-in-Err-Usage-clause-lanes
 returns-in-Err-Usage-clause-lanes g c s x = absurd (c.read_choice.ensures.usage (c.in-Err-Usage.is ∙ ap Err c.in-Err-Usage.field-0-is) s x)
 
 pub returns-in-Err-Usage-clause-dealt_with : goal.returns-in-Err-Usage-clause-dealt_with
 returns-in-Err-Usage-clause-dealt_with g c s x = absurd (c.read_choice.ensures.usage (c.in-Err-Usage.is ∙ ap Err c.in-Err-Usage.field-0-is) s x)
+
+pub returns-in-Err-Usage-clause-one_outcome : goal.returns-in-Err-Usage-clause-one_outcome
+returns-in-Err-Usage-clause-one_outcome g c s x = absurd (c.read_choice.ensures.usage (c.in-Err-Usage.is ∙ ap Err c.in-Err-Usage.field-0-is) s x)
 
 pub returns-in-Err-Usage-clause-bytes_written : goal.returns-in-Err-Usage-clause-bytes_written
 returns-in-Err-Usage-clause-bytes_written g c s x = absurd (c.read_choice.ensures.usage (c.in-Err-Usage.is ∙ ap Err c.in-Err-Usage.field-0-is) s x)
@@ -33,5 +65,24 @@ returns-in-Err-Usage-clause-usage g c e =
 
 -- ---- memory wanted before the words were read
 
+pub returns-in-Err-NoMemory-clause-legal_lanes : goal.returns-in-Err-NoMemory-clause-legal_lanes
+returns-in-Err-NoMemory-clause-legal_lanes g c s x = empty_legal s.setting c.args.cluster.now c.requires
+
+pub returns-in-Err-NoMemory-clause-durability : goal.returns-in-Err-NoMemory-clause-durability
+returns-in-Err-NoMemory-clause-durability g c s x = legal_durable c.lanes_are_durable.ensures _ s _ x (empty_legal s.setting c.args.cluster.now c.requires)
+
+pub returns-in-Err-NoMemory-clause-completeness : goal.returns-in-Err-NoMemory-clause-completeness
+returns-in-Err-NoMemory-clause-completeness g c s x = legal_complete c.lanes_are_complete.ensures _ s (λ lane. []) _ x (empty_legal s.setting c.args.cluster.now c.requires) (empty_fates (λ lane. []) c.args.cluster.now c.requires)
+
+pub returns-in-Err-NoMemory-clause-lines_in_order : goal.returns-in-Err-NoMemory-clause-lines_in_order
+returns-in-Err-NoMemory-clause-lines_in_order g c = empty_in_order c.args.cluster.now c.requires
+
+pub returns-in-Err-NoMemory-clause-fates : goal.returns-in-Err-NoMemory-clause-fates
+returns-in-Err-NoMemory-clause-fates g c = empty_fates _ c.args.cluster.now c.requires
+
 pub returns-in-Err-NoMemory-clause-dealt_with : goal.returns-in-Err-NoMemory-clause-dealt_with
-returns-in-Err-NoMemory-clause-dealt_with g c s x = ends_dealt _ s.setting s.schema _ _ c.args.cluster.now None None (empty_ends s.setting s.schema _ _ c.args.cluster.now None c.requires)
+returns-in-Err-NoMemory-clause-dealt_with g c s x = ends_dealt _ s.setting s.schema (λ lane. []) _ _ c.args.cluster.now None None (empty_ends s.setting s.schema (λ lane. []) _ _ c.args.cluster.now None c.requires)
+
+pub returns-in-Err-NoMemory-clause-one_outcome : goal.returns-in-Err-NoMemory-clause-one_outcome
+returns-in-Err-NoMemory-clause-one_outcome g c s x =
+    chosen_outcomes _ s s _ (λ lane. []) _ None c.args.cluster.now None None x x (empty_ends s.setting s.schema (λ lane. []) _ None c.args.cluster.now None c.requires)

@@ -1,0 +1,35 @@
+-- What holds of the lanes between two lines.
+use Rattle.std.specs.Prelude.{◌≡◌, ℕ, ◌+◌, List, [], length, Some, slice_get}
+use Rattle.carriers.specs.declared.fate.Fate.{Fate}
+use Rattle.lane_core.specs.LaneValues.{LaneValue}
+use Rattle.session_settings.specs.Settings.{lane_count, IsSetting}
+use Rattle.session_settings.specs.declared.setting.Setting.{Setting}
+use Rattle.session_lanes.specs.Serving.{IsServing}
+use Rattle.cell_session.specs.Cells.{Cell}
+use Rattle.cell_session.specs.Operations.{lines_of_lane}
+use Rattle.cell_session.specs.declared.asked.Asked.{Asked}
+
+-- all lanes are there, and each serves the lines that asked for an operation in it
+pub record IsKept (s : Setting) (plans : ℕ → List Fate) (commands : List Asked) (c : Cell) : Type 0 where
+  pub bits : c.bits ≡ s.bits
+  pub newest : c.newest ≡ s.initial
+  pub dealt : c.dealt ≡ length commands
+  pub lanes : length c.lanes ≡ lane_count s
+  pub serving : (lane : ℕ) (v : LaneValue) → slice_get c.lanes lane ≡ Some v → IsServing s (plans lane) lane (lines_of_lane s lane commands) v
+
+-- the next line may be dealt with
+pub record IsReady (s : Setting) (line : ℕ) (c : Cell) : Type 0 where
+  pub setting : IsSetting s
+  pub plans : ℕ → List Fate
+  pub commands : List Asked
+  pub kept : IsKept s plans commands c
+  pub next : line ≡ length commands + 1
+
+-- so many lanes serve no line yet
+pub record AreOpenTo (s : Setting) (plans : ℕ → List Fate) (count : ℕ) (lanes : List LaneValue) : Type 0 where
+  pub count_is : length lanes ≡ count
+  pub serving : (lane : ℕ) (v : LaneValue) → slice_get lanes lane ≡ Some v → IsServing s (plans lane) lane [] v
+
+-- all lanes do
+abbrev pub AreOpen : Setting → (ℕ → List Fate) → List LaneValue → Type 0
+AreOpen s plans lanes = AreOpenTo s plans (lane_count s) lanes

@@ -1,0 +1,11 @@
+pub mod Running
+pub mod FirstEvents
+pub mod Quiet
+pub mod Leaving
+pub mod OneLine
+pub mod Living
+pub mod Served
+pub mod Answered
+pub mod Owning
+pub mod CarriedBefore
+pub mod Completing

@@ -1,0 +1,59 @@
+-- One operation in a lane, from its beginning to its close.
+use Rattle.std.specs.Prelude.{◌≡◌, ℕ, List, ◌∷◌, Option, None, Some}
+use Rattle.cluster_states.specs.declared.cluster_state.ClusterState.{ClusterState}
+use Rattle.messages.specs.declared.operation.Operation.{Operation}
+use Rattle.messages.specs.declared.outcome.Outcome.{Outcome}
+use Rattle.lane_journals.specs.declared.event.LaneEvent.{LaneEvent}
+use Rattle.lane_journals.specs.declared.event.LaneEvent.TheVariants.{Begun, Closed}
+use Rattle.lane_keeping.specs.Acting.{IsActing}
+use Rattle.lane_core.specs.LaneValues.{LaneValue, IsLaneValue, drawn, under_way_of}
+use Rattle.lane_wants.specs.Wants.{IsRun}
+use Rattle.lane_core.specs.declared.job.UnderWay.{UnderWay}
+use Rattle.lane_core.specs.declared.job.Progress.TheVariants.{Runs}
+use Rattle.session_lanes.specs.Lives.{RunsTo}
+
+-- the distributor owns the lane under the state that it holds
+abbrev pub IsOwned : LaneValue → ℕ → Type 0
+IsOwned v d = (state : ClusterState) × IsActing v.lane v.journal d state
+
+-- the lane once an operation is closed
+abbrev pub closed_with : LaneValue → ℕ → Outcome → List LaneEvent → LaneValue → LaneValue
+closed_with old line outcome run new = record old { journal = Closed line outcome ∷ run; given = new.given; under_way = None }
+
+-- the operation that was under way went on to its end
+pub record Finishes (u : UnderWay) (old new : LaneValue) (outcome : Outcome) : Type 0 where
+  pub run : List LaneEvent
+  pub runs : RunsTo old.lane old.rules u.line u.operation old.journal run outcome
+  pub after : new ≡ closed_with old u.line outcome run new
+
+abbrev pub IsFinish : Option UnderWay → LaneValue → LaneValue → Outcome → Type 0
+IsFinish None old new outcome = ⊥
+IsFinish (Some u) old new outcome = Finishes u old new outcome
+
+-- the lane while an operation is under way
+abbrev pub going_with : LaneValue → LaneValue → UnderWay → LaneValue
+going_with old new u = record old { journal = new.journal; given = new.given; under_way = Some u }
+
+-- it went on so far, and wants something more
+pub record GoesOn (u : UnderWay) (old new : LaneValue) : Type 0 where
+  pub left : ℕ
+  pub after : new ≡ going_with old new (under_way_of u.line u.operation u.distributor Runs left)
+  pub run : IsRun old.lane old.rules u.line u.operation old.journal new.journal
+
+abbrev pub IsGoing : Option UnderWay → LaneValue → LaneValue → Type 0
+IsGoing None old new = ⊥
+IsGoing (Some u) old new = GoesOn u old new
+
+-- so many calls at most are still to come
+abbrev pub left_in : Option UnderWay → ℕ
+left_in None = 0
+left_in (Some u) = u.left
+
+-- the operation of a line was begun at the owner, went on to its end, and was closed
+pub record IsOperated (line : ℕ) (o : Operation) (d : ℕ) (old new : LaneValue) (outcome : Outcome) : Type 0 where
+  pub state : ClusterState
+  pub acting : IsActing old.lane old.journal d state
+  pub run : List LaneEvent
+  pub runs : RunsTo old.lane old.rules line o (Begun line d state.version o.id (drawn o.kind state.version old.journal) ∷ old.journal) run outcome
+  pub after : new ≡ closed_with old line outcome run new
+  pub holds : IsLaneValue new
