@@ -10,11 +10,12 @@ use Rattle.messages.specs.declared.outcome.Outcome.{Outcome}
 use Rattle.lane_journals.specs.Buckets.{key_of}
 use Rattle.lane_journals.specs.Meanings.{history}
 use Rattle.lane_operations.specs.OperationKeeping.{IsFresh}
-use Rattle.lane_core.specs.LaneValues.{LaneValue}
+use Rattle.lane_core.specs.LaneValues.{LaneValue, last_state}
 use Rattle.session_settings.specs.declared.setting.Setting.{Setting}
 use Rattle.session_settings.specs.Settings.{lane_count}
 use Rattle.session_lanes.specs.Runs.{IsOwned, IsOperated}
 use Rattle.session_lanes.specs.Serving.{bucket_in, IsServing}
+use Rattle.session_lanes.proofs.Living.{last_published}
 use Rattle.session_lanes.proofs.Served.{serving_fresh, serving_owned}
 use Rattle.cell_session.specs.Cells.{Cell}
 use Rattle.cell_session.specs.Keeping.{IsReady}
@@ -59,6 +60,15 @@ pub is_owned : (s : Setting) (line lane d : ℕ) (op : Operation) (c : Cell) (v 
 is_owned s line lane d op c v ready at is small owns =
     let own = lane_of_id s.bits op.id in
     serving_owned s (ready.plans own) own d (lines_of_lane s own ready.commands) v (serving s line op c v ready at) small (subst (λ n. IsOwner (bucket_in s n) s.initial d) is owns)
+
+-- the first state was published there last
+pub is_newest : (s : Setting) (line : ℕ) (op : Operation) (c : Cell) (v : LaneValue) → IsReady s line c → slice_get c.lanes (lane_of_id s.bits op.id) ≡ Some v → last_state v.journal ≡ Some s.initial
+is_newest s line op c v ready at =
+    let own = lane_of_id s.bits op.id in
+    last_published s (bucket_in s own) (lines_of_lane s own ready.commands) v.journal (serving s line op c v ready at).life
+
+pub is_bucket : (s : Setting) (line lane : ℕ) (op : Operation) (c : Cell) (v : LaneValue) → IsReady s line c → slice_get c.lanes (lane_of_id s.bits op.id) ≡ Some v → lane ≡ lane_of_id s.bits op.id → v.lane ≡ bucket_in s lane
+is_bucket s line lane op c v ready at is = (serving s line op c v ready at).lane_is ∙ ap (bucket_in s) (sym is)
 
 in_bucket : (bits : ℕ) (id : List ℕ) → IsIn (keys.lane_bucket bits (lane_of_id bits id)) (key_of id)
 unfolding lane_of_id key_of

@@ -31,7 +31,7 @@ pub size_more : (node n size now k : ℕ) (vs : List LaneValue) (v : LaneValue) 
 size_more node n size now k vs v has below value entries is =
     let last : take (suc k) vs ≡ take k vs ++ v ∷ [] = take-suc vs k v below ∙ ap (λ x. take k vs ++ x ∷ []) (sym value) in
     let longer : map journal_is (take (k + 1) vs) ≡ map journal_is (take k vs) ++ v.journal ∷ [] =
-        ap (λ m. map journal_is (take m vs)) (next k) ∙ ap (map journal_is) last ∙ map-append journal_is (take k vs) (v ∷ []) in
+    ap (λ m. map journal_is (take m vs)) (next k) ∙ ap (map journal_is) last ∙ map-append journal_is (take k vs) (v ∷ []) in
     subst (λ Js. HasSize node Js now) (sym longer) (record {
       sizes = has.sizes ++ n ∷ [];
       are_sizes = sizes_more node n v.journal (map journal_is (take k vs)) has.sizes has.are_sizes entries;

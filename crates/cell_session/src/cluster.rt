@@ -29,7 +29,7 @@ use lane_core::Lane;
 use lane_journals::LaneEvent;
 use messages::{Operation, Outcome};
 use reports::Answer;
-use session_lanes::{owner_of, run_operation};
+use session_lanes::{owner_in, run_operation};
 use session_settings::Setting;
 use stamps::Stamp;
 use std::alloc::Global;
@@ -231,8 +231,8 @@ impl<C: Carrier + Drop> Cluster<C> {
         ensures ok { IfOk result (λ ending. IsOperatedIn setting.now line operation.now self.old self.new ending) }
         ensures err { OnErr result (self.new ≡ self.old) }
     {
-        let owner = owner_of(setting, at);
         let lane = &mut self.lanes[usize::from(at)];
+        let owner = owner_in(lane, setting, at);
         let outcome = run_operation(lane, line, operation, owner)?;
         self.dealt = line;
         Ok(outcome)

@@ -13,6 +13,7 @@ use Rattle.lane_journals.specs.Places.{state_in}
 use Rattle.lane_journals.specs.declared.event.LaneEvent.{LaneEvent}
 use Rattle.lane_journals.specs.declared.event.LaneEvent.TheVariants as event
 use Rattle.lane_journals.proofs.Basics.{or_else-some}
+use Rattle.lane_core.specs.LaneValues.{last_state}
 use Rattle.lane_wants.specs.Wants.{IsRun, Same, More, IsCutRun}
 use Rattle.session_lanes.specs.Lives.{RunsTo, outcome_in}
 use Rattle.session_lanes.proofs.Quiet.{AddsFor, wanted_adds, cut_adds}
@@ -22,6 +23,7 @@ pub record Leaves (line : ℕ) (J K : List LaneEvent) : Type 0 where
   pub held_is : (d : ℕ) → held d (history K) ≡ held d (history J)
   pub state_is : (v : ℕ) → state_in v K ≡ state_in v J
   pub published_is : (v : ℕ) → published v (history K) ≡ published v (history J)
+  pub last_is : last_state K ≡ last_state J
   pub began_is : (j : ℕ) → began j (history K) ≡ began j (history J)
   pub refused_is : (j : ℕ) → refused j (history K) ≡ refused j (history J)
   pub closed_is : (j : ℕ) → closed j (history K) ≡ closed j (history J)
@@ -36,6 +38,7 @@ leaves_itself line J = record {
   held_is = λ d. refl;
   state_is = λ v. refl;
   published_is = λ v. refl;
+  last_is = refl;
   began_is = λ j. refl;
   refused_is = λ j. refl;
   closed_is = λ j. refl;
@@ -51,6 +54,7 @@ leaves-trans line I J K a b = record {
   held_is = λ d. b.held_is d ∙ a.held_is d;
   state_is = λ v. b.state_is v ∙ a.state_is v;
   published_is = λ v. b.published_is v ∙ a.published_is v;
+  last_is = b.last_is ∙ a.last_is;
   began_is = λ j. b.began_is j ∙ a.began_is j;
   refused_is = λ j. b.refused_is j ∙ a.refused_is j;
   closed_is = λ j. b.closed_is j ∙ a.closed_is j;
@@ -77,6 +81,7 @@ leaves_event line J (event.Opened d v rows) h = record {
   held_is = λ d. refl;
   state_is = λ v. refl;
   published_is = λ v. refl;
+  last_is = refl;
   began_is = λ j. refl;
   refused_is = λ j. refl;
   closed_is = λ j. refl;
@@ -90,6 +95,7 @@ leaves_event line J (event.Sent k v d n b) h = record {
   held_is = λ d. refl;
   state_is = λ v. refl;
   published_is = λ v. refl;
+  last_is = refl;
   began_is = λ j. refl;
   refused_is = λ j. refl;
   closed_is = λ j. refl;
@@ -103,6 +109,7 @@ leaves_event line J (event.Delivered k r) h = record {
   held_is = λ d. refl;
   state_is = λ v. refl;
   published_is = λ v. refl;
+  last_is = refl;
   began_is = λ j. refl;
   refused_is = λ j. refl;
   closed_is = λ j. refl;
@@ -116,6 +123,7 @@ leaves_event line J (event.Returned k) h = record {
   held_is = λ d. refl;
   state_is = λ v. refl;
   published_is = λ v. refl;
+  last_is = refl;
   began_is = λ j. refl;
   refused_is = λ j. refl;
   closed_is = λ j. refl;
@@ -129,6 +137,7 @@ leaves_event line J (event.Decided d v x) h = record {
   held_is = λ d. refl;
   state_is = λ v. refl;
   published_is = λ v. refl;
+  last_is = refl;
   began_is = λ j. refl;
   refused_is = λ j. refl;
   closed_is = λ j. refl;
@@ -142,6 +151,7 @@ leaves_event line J (event.Prepared l b set) h = record {
   held_is = λ d. refl;
   state_is = λ v. refl;
   published_is = λ v. refl;
+  last_is = refl;
   began_is = λ j. refl;
   refused_is = λ j. refl;
   closed_is = λ j. refl;
@@ -158,6 +168,7 @@ leaves_event line J (event.Wrote l entry) h = record {
   held_is = λ d. refl;
   state_is = λ v. refl;
   published_is = λ v. refl;
+  last_is = refl;
   began_is = λ j. refl;
   refused_is = λ j. refl;
   closed_is = λ j. refl;

@@ -10,8 +10,10 @@ use Rattle.lane_journals.specs.Meanings.{history}
 use Rattle.lane_journals.specs.Places.{state_in}
 use Rattle.lane_journals.specs.declared.event.LaneEvent.{LaneEvent}
 use Rattle.lane_operations.specs.OperationKeeping.{IsFresh}
+use Rattle.lane_core.specs.LaneValues.{last_state}
 use Rattle.session_settings.specs.declared.setting.Setting.{Setting}
 use Rattle.session_lanes.specs.Lives.{heard_below, FeedLine, Lines, IsLife, IsNone, last_line, AreRising}
+use Rattle.session_lanes.proofs.FirstEvents.{last_heard}
 use Rattle.session_lanes.proofs.OneLine.{IsLine, line_is}
 
 -- ---- the first events
@@ -44,6 +46,11 @@ heard_all s lane (line ∷ lines) K life d h = (line_is s lane line life.0 K lif
 pub state_published : (s : Setting) (lane : Low) (lines : Lines) (J : List LaneEvent) → IsLife s lane lines J → state_in (s.initial).version J ≡ Some s.initial
 state_published s lane [] J life = ap (state_in (s.initial).version) life ∙ state_first s.initial 32
 state_published s lane (line ∷ lines) K life = (line_is s lane line life.0 K life.1.1).state_is _ ∙ state_published s lane lines life.0 life.1.0
+
+-- it is the one that was published last
+pub last_published : (s : Setting) (lane : Low) (lines : Lines) (J : List LaneEvent) → IsLife s lane lines J → last_state J ≡ Some s.initial
+last_published s lane [] J life = ap last_state life ∙ last_heard s.initial 32
+last_published s lane (line ∷ lines) K life = (line_is s lane line life.0 K life.1.1).last_is ∙ last_published s lane lines life.0 life.1.0
 
 -- no other state is published there
 pub published_only : (s : Setting) (lane : Low) (lines : Lines) (J : List LaneEvent) → IsLife s lane lines J → (w : ℕ) → published w (history J) ≡ true → w ≡ (s.initial).version

@@ -12,6 +12,7 @@ use Rattle.lane_journals.specs.Meanings.{history, entry_at, is_acked}
 use Rattle.lane_journals.specs.Places.{state_in}
 use Rattle.lane_journals.specs.declared.event.LaneEvent.{LaneEvent}
 use Rattle.lane_journals.specs.declared.event.LaneEvent.TheVariants.{Begun, Closed}
+use Rattle.lane_core.specs.LaneValues.{last_state}
 use Rattle.session_settings.specs.declared.setting.Setting.{Setting}
 use Rattle.session_lanes.specs.Lives.{FeedLine, IsCarriedOut, outcome_in}
 use Rattle.session_lanes.proofs.Leaving.{Leaves, leaves_to}
@@ -62,6 +63,7 @@ pub record IsLine (n : ℕ) (J K : List LaneEvent) : Type 0 where
   pub held_is : (d : ℕ) → held d (history K) ≡ held d (history J)
   pub state_is : (v : ℕ) → state_in v K ≡ state_in v J
   pub published_is : (v : ℕ) → published v (history K) ≡ published v (history J)
+  pub last_is : last_state K ≡ last_state J
   pub began_is : (j : ℕ) → j ≢ n → began j (history K) ≡ began j (history J)
   pub refused_is : (j : ℕ) → refused j (history K) ≡ refused j (history J)
   pub prepared_is : (j : ℕ) → j ≢ n → prepared j (history K) ≡ prepared j (history J)
@@ -79,6 +81,7 @@ line_by n d v id s J run x h = record {
   held_is = λ e. h.held_is e;
   state_is = λ w. h.state_is w;
   published_is = λ w. h.published_is w;
+  last_is = h.last_is;
   began_is = λ j other. h.began_is j ∙ began_other j n d v id s (history J) other;
   refused_is = λ j. h.refused_is j;
   prepared_is = λ j other. h.prepared_is j other;

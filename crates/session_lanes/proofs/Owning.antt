@@ -1,7 +1,7 @@
 -- Under a state that can be published first each lane has an owner.
-use Rattle.std.proofs.Common.{◌≡◌, ◌<◌, ℕ, suc, false, List, [], ◌∷◌, Option, None, Some, inl, inr, refl, sym, ap, ◌∙◌, arith, length, slice_index_or}
+use Rattle.std.proofs.Common.{subst, ◌≡◌, ◌<◌, ℕ, suc, false, List, [], ◌∷◌, Option, None, Some, inl, inr, refl, sym, ap, ◌∙◌, arith, length, slice_index_or}
 use Rattle.std.specs.List.{count_by}
-use Rattle.std.specs.Option.{option_or}
+use Rattle.std.specs.Option.{IfSome, option_or}
 use Rattle.std.proofs.lemmas.Bool.{cases_lt, false≢true}
 use Rattle.std.proofs.lemmas.Bool.Decides.{nat_tests}
 use Rattle.std.proofs.lemmas.List.{get_or_past}
@@ -40,3 +40,11 @@ some_up s h none = grind (arith, nat_tests)
 -- a distributor is up
 pub is_owned : (acks : ℕ) (s : State) → IsFirst acks s → ((n : ℕ) → is_up (slice_index_or s.distributors n Down) ≡ false) → ⊥
 is_owned acks s first none = some_up s (no_fault s _ first) (none_up s.distributors none)
+
+-- the owner that a lane knows, where the state was published there last
+pub known_owns : (b c : Low) (s : State) (d : ℕ) (o : Option State) → b ≡ c → o ≡ Some s → IfSome o (λ t. IsOwner b t d) → IsOwner c s d
+known_owns b c s d None same is owns = cc is
+known_owns b c s d (Some t) same is owns = subst (λ x. IsOwner x s d) same (subst (λ (y : State). IsOwner b y d) (some_is is) owns)
+  where
+    some_is : Some t ≡ Some s → t ≡ s
+    some_is e = cc

@@ -19,4 +19,4 @@ pub mod owners;
 
 pub use opening::open_lane;
 pub use operating::run_operation;
-pub use owners::owner_of;
+pub use owners::{owner_in, owner_of};

@@ -17,8 +17,11 @@ returns-clause-ok g c =
     let x = c.in_ok-outcome.outcome in
     let new = c.operate.new.self in
     let at = lane_is _ _ _ _ c.lane_at-at.ensures.value c.key_of.ensures.value in
-    IfOk-weaker c.answer.result _ _ (λ answer told. ((x, done), answered _ _ new _ c.args.operation.now x answer c.requires.ready done
-        (told ∙ ap (λ n. outcome_answer x (entry_of x (journal_in n (journals_of new)))) at))) c.answer.ensures
+    IfOk-weaker c.answer.result _ _ (λ answer told. (
+      (x, done),
+      answered _ _ new _ c.args.operation.now x answer c.requires.ready done
+          (told ∙ ap (λ n. outcome_answer x (entry_of x (journal_in n (journals_of new)))) at),
+    )) c.answer.ensures
 
 pub returns-clause-err : goal.returns-clause-err
 returns-clause-err g c = err_then c.answer.result (inr (c.in_ok-outcome.outcome, c.in_ok-outcome.ensures.ok))
