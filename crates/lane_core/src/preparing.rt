@@ -50,7 +50,15 @@ fn machine_of(
         (plan_of origin job.now.operation job.now.stamp row.now.complete row.now.active acks)) }
 {
     let operation = job.operation.copy(alloc)?;
-    Ok(OpMachine::with_key(job.key, origin, operation, job.stamp, row.complete, row.active, acks))
+    Ok(OpMachine::with_key(
+        job.key,
+        origin,
+        operation,
+        job.stamp,
+        row.complete,
+        row.active,
+        acks,
+    ))
 }
 
 /// Puts a job into another phase.
