@@ -22,6 +22,12 @@ abbrev pub IsInside : Body → Type 0
 IsInside (body.Apply b entries) = LieIn b entries
 IsInside _ = Unit {0}
 
+-- the key is that of the document that the body names, if it names one
+abbrev pub IsKeyOf : Body → ℕ → Type 0
+IsKeyOf (body.Store entry) key = key ≡ key_of entry.id
+IsKeyOf (body.Read b (Some id)) key = key ≡ key_of id
+IsKeyOf _ key = Unit {0}
+
 -- a body that may draw a serial finds one
 abbrev pub HasRoom : Body → ℕ → Type 0
 HasRoom body.Ask serial = Unit {0}

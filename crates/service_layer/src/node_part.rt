@@ -1,12 +1,13 @@
-ghost use Rattle.std.specs.Prelude.{◌≡◌, ◌<◌, ◌≤◌, ◌-◌, ◌^◌, None, Some, OnOk, OnErr};
+ghost use Rattle.std.specs.Prelude.{◌≡◌, ◌<◌, ◌≤◌, ◌-◌, ◌^◌, None, Some, IfSome, OnOk, OnErr};
 ghost use Rattle.std.specs.Option.{option_copied};
 ghost use Rattle.std.specs.FinMap as fin;
+ghost use Rattle.global_ids.specs.Keys as keys;
 ghost use Rattle.messages.specs.Noting.{noted_reply};
 ghost use Rattle.messages.specs.declared.body.Body.TheVariants as body;
 ghost use Rattle.laid_pieces.specs.Told.{IsTold};
 ghost use Rattle.replica_store.specs.Replicas.{LieIn, IsReplica};
 ghost use Rattle.service_layer.specs.Nodes.{new_node, adopt, stored, after_body};
-ghost use Rattle.service_layer.specs.Takes.{Takes, Treats, Shows, IsInside, HasRoom, told};
+ghost use Rattle.service_layer.specs.Takes.{Takes, Treats, Shows, IsInside, IsKeyOf, HasRoom, told};
 
 use crate::regions::with_region;
 use crate::replies::{Taken, done, newer, only_entry, shown};
@@ -20,6 +21,18 @@ use replica_store::{ReplicaStore, StoreFault};
 use std::alloc::Global;
 use std::marker::Model;
 use value_lists::{TryCopy, copy_all};
+
+/// The key of a document's id, which may be known.
+fn key_or(known: Option<u64>, id: &DocId) -> u64
+    requires { IfSome known (λ k. k ≡ keys.key_of id.now) }
+    ensures value { result ≡ keys.key_of id.now }
+    ensures small { result < 2 ^ 58 }
+{
+    match known {
+        Some(key) => key,
+        None => key_of(id),
+    }
+}
 
 /// What a node has in one lane.
 #[derive(Drop)]
@@ -105,11 +118,23 @@ impl NodePart {
         ensures takes { Takes self.old message.now self.new result.reply }
         ensures noted { result.noted ≡ noted_reply result.reply }
     {
+        self.take_at(None, message)
+    }
+
+    /// The same, where the key of the document that the message names may be known, so that nothing is
+    /// digested.
+    pub fn take_at(&mut self, key: Option<u64>, message: &Message) -> Taken
+        requires key { IfSome key (IsKeyOf message.now.body) }
+        requires inside { IsInside message.now.body }
+        requires room { HasRoom message.now.body self.old.serial }
+        ensures takes { Takes self.old message.now self.new result.reply }
+        ensures noted { result.noted ≡ noted_reply result.reply }
+    {
         if message.version < self.version {
             return newer(self.version);
         }
         self.adopt(message.version);
-        self.treat(&message.body)
+        self.treat(key, &message.body)
     }
 
     /// Makes a version that is not smaller its own.
@@ -125,7 +150,8 @@ impl NodePart {
     }
 
     /// Treats a body that is not too old.
-    fn treat(&mut self, body: &Body) -> Taken
+    fn treat(&mut self, key: Option<u64>, body: &Body) -> Taken
+        requires key { IfSome key (IsKeyOf body.now) }
         requires inside { IsInside body.now }
         requires room { HasRoom body.now self.old.serial }
         ensures treats { Treats self.old body.now self.new result.reply }
@@ -134,10 +160,10 @@ impl NodePart {
         match body {
             Body::Ask => shown(self.alloc, self.ask()),
             Body::Read { bucket, only } => match only {
-                Some(id) => shown(self.alloc, self.read_one(*bucket, id)),
+                Some(id) => shown(self.alloc, self.read_one(key, *bucket, id)),
                 None => shown(self.alloc, self.read(*bucket)),
             },
-            Body::Store { entry } => done(self.alloc, self.store(entry)),
+            Body::Store { entry } => done(self.alloc, self.store(key, entry)),
             Body::Apply { bucket, entries } => done(self.alloc, self.apply(*bucket, entries)),
             Body::Delete { bucket, serial } => done(self.alloc, self.delete(*bucket, *serial)),
             Body::Split { bucket } => done(self.alloc, self.split(*bucket)),
@@ -174,10 +200,11 @@ impl NodePart {
     }
 
     /// The entry of a document.
-    fn read_one(&self, bucket: Bucket, id: &DocId) -> Result<Reply, StoreFault>
+    fn read_one(&self, key: Option<u64>, bucket: Bucket, id: &DocId) -> Result<Reply, StoreFault>
+        requires { IfSome key (λ k. k ≡ keys.key_of id.now) }
         ensures { Shows self.now (body.Read bucket (Some id.now)) result }
     {
-        let key = key_of(id);
+        let key = key_or(key, id);
         if !self.store.holds(key) {
             return Err(StoreFault::NoBucket);
         }
@@ -192,13 +219,14 @@ impl NodePart {
     }
 
     /// Takes an entry; the newest of its document stays.
-    fn store(&mut self, entry: &Entry) -> Result<(), StoreFault>
-        requires { self.old.serial < 2 ^ 64 - 1 }
+    fn store(&mut self, key: Option<u64>, entry: &Entry) -> Result<(), StoreFault>
+        requires key { IfSome key (λ k. k ≡ keys.key_of entry.now.id) }
+        requires room { self.old.serial < 2 ^ 64 - 1 }
         ensures ok { OnOk result (self.new ≡ after_body (body.Store entry.now) self.old) }
         ensures err { OnErr result (self.new ≡ self.old) }
         ensures told { IsTold (told (body.Store entry.now) self.old.pieces) result }
     {
-        let key = key_of(&entry.id);
+        let key = key_or(key, &entry.id);
         if !self.store.holds(key) {
             return Err(StoreFault::NoBucket);
         }
