@@ -6,7 +6,6 @@ use Rattle.std.proofs.lemmas.List.{length-map}
 use Rattle.std.specs.Io.KnownBytes.{Appends}
 use Rattle.carriers.specs.declared.fate.Fate.{Fate}
 use Rattle.clap.specs.Walk.{Text}
-use Rattle.io_ends.specs.Lines.{lines_of, end_of}
 use Rattle.io_ends.specs.declared.next.LimitKind.{LimitKind}
 use Rattle.doc_types.specs.SchemaCodes.{Types}
 use Rattle.bucket_ids.specs.Buckets.{Low}
@@ -24,24 +23,27 @@ use Rattle.session_settings.specs.Settings.{lane_count, IsSetting}
 use Rattle.session_settings.specs.declared.choice.Choice.{Choice}
 use Rattle.session_settings.specs.declared.setting.Setting.{Setting}
 use Rattle.session_settings.proofs.Choosing.{one_choice, chosen_setting}
-use Rattle.session_lanes.specs.Lives.{IsLife, IsNone}
 use Rattle.session_lanes.specs.Promises.{IsComplete, KeepsWrites}
 use Rattle.session_lanes.specs.Serving.{bucket_in}
-use Rattle.session_lanes.proofs.Living.{others_fresh, in_order}
-use Rattle.cell_session.specs.Asking.{asked_of}
+use Rattle.session_lanes.proofs.Living.{in_order}
 use Rattle.cell_session.specs.declared.asked.Asked.{Asked}
+use Rattle.cell_session.specs.Causes.{HaveCauses}
 use Rattle.cell_session.specs.Cells.{Cell, journals_of, is_empty}
-use Rattle.cell_session.specs.Dealing.{AreFirst, EndsAs}
-use Rattle.cell_session.specs.Ends.{IfTold, commands_of, HasLanes, PassesLimit, StopsAt, DealsWith, UsageEnd, Writes}
+use Rattle.cell_session.specs.Deeds.{deeds_of_lane}
+use Rattle.cell_session.specs.Dealing.{EndsAs}
+use Rattle.cell_session.specs.Ends.{IfTold, AreFirst, OfFirst, HasLanes, PassesLimit, StopsAt, DealsWith, UsageEnd, Writes}
+use Rattle.cell_session.specs.Hearing.{HaveHeard}
 use Rattle.cell_session.specs.Keeping.{IsKept}
-use Rattle.cell_session.specs.Lanes.{Journal, journal_in, AreLegal, AreDurable, AreInOrder, HaveFates, AreComplete}
-use Rattle.cell_session.specs.Operations.{lines_of_lane, IsCommandAt, HaveOutcomes}
+use Rattle.cell_session.specs.Lanes.{Journal, journal_in, AreLegal, AreDurable, AreInOrder, AreTogether, AreComplete}
+use Rattle.cell_session.specs.Operations.{IsCommandAt, WereAsked, HaveOutcomes, HaveFates}
 use Rattle.cell_session.specs.Output.{output_of}
 use Rattle.cell_session.specs.declared.status.Status.{Status}
 use Rattle.cell_session.specs.declared.status.Status.TheVariants as status
-use Rattle.cell_session.proofs.KeptLanes.{lane_there, in_lanes, kept_legal}
+use Rattle.cell_session.proofs.KeptCauses.{AllRefused, AllShort, AllHold, AllHear, kept_causes, kept_heard}
+use Rattle.cell_session.proofs.KeptClauses.{kept_outcomes, kept_fates, kept_together}
+use Rattle.cell_session.proofs.KeptLanes.{in_lanes, kept_legal}
 use Rattle.cell_session.proofs.LaneLists.{journal_is, journal_at}
-use Rattle.cell_session.proofs.Loops.{appends_nothing, unopened_ends}
+use Rattle.cell_session.proofs.Loops.{appends_nothing, first_none, unopened_ends}
 
 -- ---- what is promised of every lane
 
@@ -54,10 +56,11 @@ AllComplete = (s : Setting) → IsSetting s → (lane : Low) (v : LaneValue) →
 pub legal_durable : AllDurable → (words : List Text) (x : Choice) (Js : List Journal) → Chooses words x → AreLegal x.setting Js → AreDurable x.setting Js
 legal_durable law words x Js chosen legal lane = law (bucket_in x.setting lane) x.setting.rules (chosen_setting words x chosen).rules.some_acks (journal_in lane Js) (legal lane)
 
-pub legal_complete : AllComplete → (words : List Text) (x : Choice) (plans : ℕ → List Fate) (vs : List LaneValue) → Chooses words x → AreLegal x.setting (map journal_is vs) → HaveFates plans vs → AreComplete x.setting vs
-legal_complete law words x plans vs chosen legal fates lane v at =
+pub legal_complete : AllComplete → (words : List Text) (x : Choice) (types : Types) (bits : ℕ) (plans : ℕ → List Fate) (text : Option (List ℕ)) (dealt : ℕ) (vs : List LaneValue) → Chooses words x → AreLegal x.setting (map journal_is vs)
+    → HaveFates types bits plans text dealt vs → AreComplete x.setting vs
+legal_complete law words x types bits plans text dealt vs chosen legal fates lane v at =
     law x.setting (chosen_setting words x chosen) (bucket_in x.setting lane) v
-    (subst (λ J. IsLegal (setting_of (bucket_in x.setting lane) x.setting.rules) J) (journal_at vs lane v at) (legal lane)) (fates lane v at).carried
+    (subst (λ J. IsLegal (setting_of (bucket_in x.setting lane) x.setting.rules) J) (journal_at vs lane v at) (legal lane)) (fates.fates lane v at).carried
 
 -- ---- where there is no lane
 
@@ -98,16 +101,16 @@ pub ends_in_order : (end : Status) (s : Setting) (types : Types) (plans : ℕ �
 ends_in_order end s types plans text left c before now (inl none) = none_in_order c none.none
 ends_in_order end s types plans text left c before now (inr some) = λ lane.
     in_lanes (λ n J. IsOrdered J) c.lanes (λ n earlier line early first second. absurd (false≢true second))
-    (λ n v at. let is = some.kept.serving n v at in in_order s (bucket_in s n) (lines_of_lane s n some.commands) v.journal is.life is.rising) lane
+    (λ n v at. let is = some.kept.serving n v at in in_order s (bucket_in s n) (deeds_of_lane s n some.commands) v.journal is.life is.rising) lane
 
-pub none_fates : (plans : ℕ → List Fate) (c : Cell) → c.lanes ≡ [] → HaveFates plans c.lanes
-none_fates plans c none lane v at = absurd (no_lane c.lanes lane v none at)
+pub none_together : (c : Cell) → c.lanes ≡ [] → AreTogether (journals_of c)
+none_together c none lane other there = absurd (omega (arith, there, ap (λ vs. length (map journal_is vs)) none))
 
-pub ends_fates : (end : Status) (s : Setting) (types : Types) (plans : ℕ → List Fate) (text left : Option (List ℕ)) (c : Cell) (before now : Option (List ℕ)) → EndsAs end s types plans text left c before now → HaveFates plans c.lanes
-ends_fates end s types plans text left c before now (inl none) = none_fates plans c none.none
-ends_fates end s types plans text left c before now (inr some) = λ lane v at. let is = some.kept.serving lane v at in record { carried = (is.holds).carried; planned_are = is.planned_are }
+pub ends_together : (end : Status) (s : Setting) (types : Types) (plans : ℕ → List Fate) (text left : Option (List ℕ)) (c : Cell) (before now : Option (List ℕ)) → EndsAs end s types plans text left c before now → AreTogether (journals_of c)
+ends_together end s types plans text left c before now (inl none) = none_together c none.none
+ends_together end s types plans text left c before now (inr some) = kept_together s plans some.commands c some.kept
 
-all_lanes : (end : Status) (s : Setting) (cs : List Asked) (c : Cell) (before now : Option (List ℕ)) → length (journals_of c) ≡ lane_count s → Writes end s cs (journals_of c) before now → HasLanes end s (journals_of c)
+all_lanes : (end : Status) (s : Setting) (cs : List Asked) (c : Cell) (before now : Option (List ℕ)) → length (journals_of c) ≡ lane_count s → Writes end s cs c.lanes before now → HasLanes end s (journals_of c)
 all_lanes status.Done s cs c before now is wrote = is
 all_lanes status.ReadFault s cs c before now is wrote = is
 all_lanes status.WriteFault s cs c before now is wrote = is
@@ -121,95 +124,110 @@ ends_lanes end s types plans text left c before now (inr some) = all_lanes end s
 
 -- ---- which lines were dealt with
 
-none_dealt : (text left : Option (List ℕ)) (count : ℕ) → count ≡ 0 → IfTold text (λ t. DealsWith status.NoMemory t count left)
-unfolding end_of
-none_dealt None left count is = tt
-none_dealt (Some t) left count is = subst (λ n. DealsWith status.NoMemory t n left) (sym is) (record { within = record { some = omega arith; few = omega arith; within = omega arith }; stops = tt })
+-- of the first lines of a text this holds
+told_first : (types : Types) (bits : ℕ) (text : Option (List ℕ)) (cs : List Asked) (dealt : ℕ) (P : List ℕ → List Asked → Type 0) → length cs ≡ dealt → IfTold text (λ t. AreFirst types bits t cs) → IfTold text (λ t. P t cs)
+    → IfTold text (λ t. OfFirst types bits t dealt (P t))
+told_first types bits None cs dealt P count first holds = tt
+told_first types bits (Some t) cs dealt P count first holds = (cs, (count, (first, holds)))
 
-some_dealt : (end : Status) (types : Types) (text left : Option (List ℕ)) (cs : List Asked) → IfTold text (λ t. AreFirst types t cs) → IfTold text (λ t. StopsAt end t (length cs) left) → IfTold text (λ t. DealsWith end t (length cs) left)
-some_dealt end types None left cs first stops = tt
-some_dealt end types (Some t) left cs first stops = record { within = first.within; stops = stops }
+told_none : (types : Types) (bits : ℕ) (text : Option (List ℕ)) → IfTold text (λ t. AreFirst types bits t [])
+told_none types bits None = tt
+told_none types bits (Some t) = first_none types bits t
 
-pub ends_dealt : (end : Status) (s : Setting) (types : Types) (plans : ℕ → List Fate) (text left : Option (List ℕ)) (c : Cell) (before now : Option (List ℕ)) → EndsAs end s types plans text left c before now → IfTold text (λ t. DealsWith end t c.dealt left)
-ends_dealt end s types plans text left c before now (inl none) = subst (λ e. IfTold text (λ t. DealsWith e t c.dealt left)) (sym none.memory) (none_dealt text left c.dealt none.dealt)
-ends_dealt end s types plans text left c before now (inr some) = subst (λ n. IfTold text (λ t. DealsWith end t n left)) (sym some.kept.dealt) (some_dealt end types text left some.commands some.first some.stops)
+nothing_told : (text : Option (List ℕ)) → IfTold text (λ t. Unit {0})
+nothing_told None = tt
+nothing_told (Some t) = tt
 
-stopped_limit : (which : LimitKind) (text left : Option (List ℕ)) (count : ℕ) → IfTold text (λ t. DealsWith (status.Limit which) t count left) → IfTold text (λ t. PassesLimit which t count)
-stopped_limit which None left count told = tt
-stopped_limit which (Some t) left count told = told.stops
+pub ends_dealt : (end : Status) (s : Setting) (types : Types) (plans : ℕ → List Fate) (text left : Option (List ℕ)) (c : Cell) (before now : Option (List ℕ)) → EndsAs end s types plans text left c before now
+    → IfTold text (λ t. DealsWith end types s.bits t c.dealt left)
+ends_dealt end s types plans text left c before now (inl none) = subst (λ e. IfTold text (λ t. DealsWith e types s.bits t c.dealt left)) (sym none.memory)
+    (told_first types s.bits text [] c.dealt (λ t. StopsAt status.NoMemory types s.bits t left) (sym none.dealt) (told_none types s.bits text) (nothing_told text))
+ends_dealt end s types plans text left c before now (inr some) = told_first types s.bits text some.commands c.dealt (λ t. StopsAt end types s.bits t left) (sym some.kept.dealt) some.first some.stops
 
 pub ends_limit : (end : Status) (s : Setting) (types : Types) (plans : ℕ → List Fate) (text left : Option (List ℕ)) (c : Cell) (before now : Option (List ℕ)) → EndsAs end s types plans text left c before now → (which : LimitKind) → end ≡ status.Limit which
-    → IfTold text (λ t. PassesLimit which t c.dealt)
-ends_limit end s types plans text left c before now ends which is =
-    stopped_limit which text left c.dealt (subst (λ e. IfTold text (λ t. DealsWith e t c.dealt left)) is (ends_dealt end s types plans text left c before now ends))
+    → IfTold text (λ t. OfFirst types s.bits t c.dealt (PassesLimit which types s.bits t))
+ends_limit end s types plans text left c before now ends which is = subst (λ e. IfTold text (λ t. DealsWith e types s.bits t c.dealt left)) is (ends_dealt end s types plans text left c before now ends)
 
--- ---- what each line did
+-- ---- what each line asked for and did
 
-some_is : {A : Type 0} (x y : A) → Some x ≡ Some y → x ≡ y
-some_is x y e = cc
+asked_at : (types : Types) (bits : ℕ) (text : Option (List ℕ)) (cs : List Asked) (k : ℕ) (c : Asked) → IfTold text (λ t. AreFirst types bits t cs) → slice_get cs k ≡ Some c → IsCommandAt types bits text k c
+asked_at types bits None cs k c first at = tt
+asked_at types bits (Some t) cs k c first at = first.asked k c at
 
-taken_at : (types : Types) (lines : List (List ℕ)) (n k : ℕ) (c : Asked) → slice_get (map (asked_of types) (take n lines)) k ≡ Some c → (bytes : List ℕ) × ((slice_get lines k ≡ Some bytes) × (c ≡ asked_of types bytes))
-taken_at types lines zero k c h = cc h
-taken_at types [] (suc n) k c h = cc h
-taken_at types (l ∷ lines) (suc n) zero c h = (l, (refl, sym (some_is (asked_of types l) c h)))
-taken_at types (l ∷ lines) (suc n) (suc k) c h = taken_at types lines n k c h
-
-asked_at : (types : Types) (text : Option (List ℕ)) (cs : List Asked) (k : ℕ) (c : Asked) → IfTold text (λ t. AreFirst types t cs) → slice_get cs k ≡ Some c → IsCommandAt types text k c
-asked_at types None cs k c first at = tt
-asked_at types (Some t) cs k c first at = taken_at types (lines_of t) (length cs) k c (ap (λ l. slice_get l k) (sym first.lines) ∙ at)
-
-kept_outcomes : (s : Setting) (types : Types) (plans : ℕ → List Fate) (text : Option (List ℕ)) (cs : List Asked) (c : Cell) → IfTold text (λ t. AreFirst types t cs) → IsKept s plans cs c → HaveOutcomes s types text c.dealt (journals_of c)
-kept_outcomes s types plans text cs c first kept = record {
-  asked = cs;
-  count = sym kept.dealt;
-  told = λ at a is. asked_at types text cs at a first is;
-  lives = λ lane there.
-      let found = lane_there c.lanes lane (omega (arith, there, length-map c.lanes journal_is)) in
-      subst (IsLife s (bucket_in s lane) (lines_of_lane s lane cs)) (sym (journal_at c.lanes lane found.0 found.1)) (kept.serving lane found.0 found.1).life;
-  no_others = λ lane line. in_lanes (λ n J. IsNone line (lines_of_lane s n cs) → IsFresh (history J) line) c.lanes
-      (λ n none. record { unbegun = refl; unrefused = refl; unprepared = refl; unwritten = refl; unclosed = refl })
-      (λ n v at none. others_fresh s (bucket_in s n) (lines_of_lane s n cs) v.journal (kept.serving n v at).life line none) lane;
-}
+were_asked : (types : Types) (bits : ℕ) (text : Option (List ℕ)) (cs : List Asked) (dealt : ℕ) → length cs ≡ dealt → IfTold text (λ t. AreFirst types bits t cs) → WereAsked types bits text dealt cs
+were_asked types bits text cs dealt count first = record { count = count; told = λ at c there. asked_at types bits text cs at c first there }
 
 none_outcomes : (s : Setting) (types : Types) (text : Option (List ℕ)) (c : Cell) → c.lanes ≡ [] → c.dealt ≡ 0 → HaveOutcomes s types text c.dealt (journals_of c)
 none_outcomes s types text c none dealt = record {
   asked = [];
-  count = sym dealt;
-  told = λ at a is. absurd (no_command at a is);
+  were_asked = were_asked types s.bits text [] c.dealt (sym dealt) (told_none types s.bits text);
   lives = λ lane there. absurd (omega (arith, there, ap (λ vs. length (map journal_is vs)) none));
   no_others = λ lane line other. subst (λ J. IsFresh (history J) line) (sym (nothing_in c.lanes lane none))
       (record { unbegun = refl; unrefused = refl; unprepared = refl; unwritten = refl; unclosed = refl });
 }
-  where
-    no_command : (at : ℕ) (a : Asked) → slice_get [] at ≡ Some a → ⊥
-    no_command zero a h = cc h
-    no_command (suc at) a h = cc h
 
 pub ends_outcomes : (end : Status) (s : Setting) (types : Types) (plans : ℕ → List Fate) (text left : Option (List ℕ)) (c : Cell) (before now : Option (List ℕ)) → EndsAs end s types plans text left c before now → HaveOutcomes s types text c.dealt (journals_of c)
 ends_outcomes end s types plans text left c before now (inl none) = none_outcomes s types text c none.none none.dealt
-ends_outcomes end s types plans text left c before now (inr some) = kept_outcomes s types plans text some.commands c some.first some.kept
+ends_outcomes end s types plans text left c before now (inr some) = kept_outcomes s types plans text some.commands c (were_asked types s.bits text some.commands c.dealt (sym some.kept.dealt) some.first) some.kept
+
+pub none_fates : (types : Types) (bits : ℕ) (plans : ℕ → List Fate) (text : Option (List ℕ)) (c : Cell) → c.lanes ≡ [] → c.dealt ≡ 0 → HaveFates types bits plans text c.dealt c.lanes
+none_fates types bits plans text c none dealt = record {
+  asked = [];
+  were_asked = were_asked types bits text [] c.dealt (sym dealt) (told_none types bits text);
+  fates = λ lane v at. absurd (no_lane c.lanes lane v none at);
+}
+
+pub ends_fates : (end : Status) (s : Setting) (types : Types) (plans : ℕ → List Fate) (text left : Option (List ℕ)) (c : Cell) (before now : Option (List ℕ)) → EndsAs end s types plans text left c before now
+    → HaveFates types s.bits plans text c.dealt c.lanes
+ends_fates end s types plans text left c before now (inl none) = none_fates types s.bits plans text c none.none none.dealt
+ends_fates end s types plans text left c before now (inr some) = kept_fates s types plans text some.commands c (were_asked types s.bits text some.commands c.dealt (sym some.kept.dealt) some.first) some.kept
+
+none_causes : (s : Setting) (types : Types) (text : Option (List ℕ)) (c : Cell) → c.lanes ≡ [] → c.dealt ≡ 0 → HaveCauses s types text c.dealt c.lanes
+none_causes s types text c none dealt = record {
+  asked = [];
+  were_asked = were_asked types s.bits text [] c.dealt (sym dealt) (told_none types s.bits text);
+  refused = λ lane v at line owner version. absurd (no_lane c.lanes lane v none at);
+  short = λ lane v at line answered needed absent. absurd (no_lane c.lanes lane v none at);
+}
+
+pub ends_causes : AllRefused → AllShort → (end : Status) (s : Setting) → IsSetting s → (types : Types) (plans : ℕ → List Fate) (text left : Option (List ℕ)) (c : Cell) (before now : Option (List ℕ)) → EndsAs end s types plans text left c before now
+    → HaveCauses s types text c.dealt c.lanes
+ends_causes refused short end s setting types plans text left c before now (inl none) = none_causes s types text c none.none none.dealt
+ends_causes refused short end s setting types plans text left c before now (inr some) =
+    kept_causes refused short s setting types plans text some.commands c (were_asked types s.bits text some.commands c.dealt (sym some.kept.dealt) some.first) some.kept
+
+none_heard : (s : Setting) (types : Types) (text : Option (List ℕ)) (c : Cell) → c.lanes ≡ [] → c.dealt ≡ 0 → HaveHeard s types text c.dealt c.lanes
+none_heard s types text c none dealt = record {
+  asked = [];
+  were_asked = were_asked types s.bits text [] c.dealt (sym dealt) (told_none types s.bits text);
+  holds = λ lane v at. absurd (no_lane c.lanes lane v none at);
+  hears = λ lane v at. absurd (no_lane c.lanes lane v none at);
+}
+
+pub ends_heard : AllHold → AllHear → (end : Status) (s : Setting) (types : Types) (plans : ℕ → List Fate) (text left : Option (List ℕ)) (c : Cell) (before now : Option (List ℕ)) → EndsAs end s types plans text left c before now
+    → HaveHeard s types text c.dealt c.lanes
+ends_heard hold hear end s types plans text left c before now (inl none) = none_heard s types text c none.none none.dealt
+ends_heard hold hear end s types plans text left c before now (inr some) =
+    kept_heard hold hear s types plans text some.commands c (were_asked types s.bits text some.commands c.dealt (sym some.kept.dealt) some.first) some.kept
 
 -- ---- the bytes written
 
-some_written : (end : Status) (s : Setting) (types : Types) (text : Option (List ℕ)) (cs : List Asked) (c : Cell) (before now : Option (List ℕ)) → IfTold text (λ t. AreFirst types t cs) → length cs ≡ c.dealt → Writes end s cs (journals_of c) before now
-    → IfTold text (λ t. Writes end s (commands_of types t c.dealt) (journals_of c) before now)
-some_written end s types None cs c before now first count wrote = tt
-some_written end s types (Some t) cs c before now first count wrote = subst (λ l. Writes end s l (journals_of c) before now) (first.lines ∙ ap (commands_of types t) count) wrote
-
-none_written : (s : Setting) (types : Types) (text : Option (List ℕ)) (c : Cell) (before now : Option (List ℕ)) → c.dealt ≡ 0 → Appends before now [] → IfTold text (λ t. Writes status.NoMemory s (commands_of types t c.dealt) (journals_of c) before now)
-none_written s types None c before now is wrote = tt
-none_written s types (Some t) c before now is wrote = inl (subst (λ n. Appends before now (output_of s (commands_of types t n) (journals_of c))) (sym is) wrote)
+all_told : (text : Option (List ℕ)) (P : Type 0) → P → IfTold text (λ t. P)
+all_told None P holds = tt
+all_told (Some t) P holds = holds
 
 pub ends_written : (end : Status) (s : Setting) (types : Types) (plans : ℕ → List Fate) (text left : Option (List ℕ)) (c : Cell) (before now : Option (List ℕ)) → EndsAs end s types plans text left c before now
-    → IfTold text (λ t. Writes end s (commands_of types t c.dealt) (journals_of c) before now)
-ends_written end s types plans text left c before now (inl none) =
-    subst (λ e. IfTold text (λ t. Writes e s (commands_of types t c.dealt) (journals_of c) before now)) (sym none.memory) (none_written s types text c before now none.dealt (appends_nothing before now none.kept))
-ends_written end s types plans text left c before now (inr some) = some_written end s types text some.commands c before now some.first (sym some.kept.dealt) some.output
+    → IfTold text (λ t. OfFirst types s.bits t c.dealt (λ commands. Writes end s commands c.lanes before now))
+ends_written end s types plans text left c before now (inl none) = subst (λ e. IfTold text (λ t. OfFirst types s.bits t c.dealt (λ commands. Writes e s commands c.lanes before now))) (sym none.memory)
+    (told_first types s.bits text [] c.dealt (λ t commands. Writes status.NoMemory s commands c.lanes before now) (sym none.dealt) (told_none types s.bits text)
+    (all_told text (Writes status.NoMemory s [] c.lanes before now) (inl (appends_nothing before now none.kept))))
+ends_written end s types plans text left c before now (inr some) =
+    told_first types s.bits text some.commands c.dealt (λ t commands. Writes end s commands c.lanes before now) (sym some.kept.dealt) some.first (all_told text (Writes end s some.commands c.lanes before now) some.output)
 
 -- ---- no session over lines ends with usage
 
-not_usage : (end : Status) (s : Setting) (cs : List Asked) (c : Cell) (before now : Option (List ℕ)) → Writes end s cs (journals_of c) before now → end ≡ status.Usage → ⊥
-not_usage end s cs c before now wrote is = subst (λ e. Writes e s cs (journals_of c) before now) is wrote
+not_usage : (end : Status) (s : Setting) (cs : List Asked) (c : Cell) (before now : Option (List ℕ)) → Writes end s cs c.lanes before now → end ≡ status.Usage → ⊥
+not_usage end s cs c before now wrote is = subst (λ e. Writes e s cs c.lanes before now) is wrote
 
 pub ends_usage : (end : Status) (s : Setting) (types : Types) (plans : ℕ → List Fate) (text left : Option (List ℕ)) (c : Cell) (before now : Option (List ℕ)) → EndsAs end s types plans text left c before now → end ≡ status.Usage → ⊥
 ends_usage end s types plans text left c before now (inl none) is = cc (none.memory, is)
@@ -232,10 +250,30 @@ pub chosen_outcomes : (words : List Text) (a x : Choice) (end : Status) (plans :
 chosen_outcomes words a x end plans text left c before now p q ends =
     subst (λ (y : Choice). HaveOutcomes y.setting y.schema text c.dealt (journals_of c)) (one_choice words a x p q) (ends_outcomes end a.setting a.schema plans text left c before now ends)
 
+pub chosen_fates : (words : List Text) (a x : Choice) (end : Status) (plans : ℕ → List Fate) (text left : Option (List ℕ)) (c : Cell) (before now : Option (List ℕ)) → Chooses words a → Chooses words x
+    → EndsAs end a.setting a.schema plans text left c before now → HaveFates x.schema (x.setting).bits plans text c.dealt c.lanes
+chosen_fates words a x end plans text left c before now p q ends =
+    subst (λ (y : Choice). HaveFates y.schema (y.setting).bits plans text c.dealt c.lanes) (one_choice words a x p q) (ends_fates end a.setting a.schema plans text left c before now ends)
+
+pub chosen_causes : AllRefused → AllShort → (words : List Text) (a x : Choice) (end : Status) (plans : ℕ → List Fate) (text left : Option (List ℕ)) (c : Cell) (before now : Option (List ℕ)) → Chooses words a → Chooses words x
+    → EndsAs end a.setting a.schema plans text left c before now → HaveCauses x.setting x.schema text c.dealt c.lanes
+chosen_causes refused short words a x end plans text left c before now p q ends =
+    subst (λ (y : Choice). HaveCauses y.setting y.schema text c.dealt c.lanes) (one_choice words a x p q) (ends_causes refused short end a.setting (chosen_setting words a p) a.schema plans text left c before now ends)
+
+pub chosen_heard : AllHold → AllHear → (words : List Text) (a x : Choice) (end : Status) (plans : ℕ → List Fate) (text left : Option (List ℕ)) (c : Cell) (before now : Option (List ℕ)) → Chooses words a → Chooses words x
+    → EndsAs end a.setting a.schema plans text left c before now → HaveHeard x.setting x.schema text c.dealt c.lanes
+chosen_heard hold hear words a x end plans text left c before now p q ends =
+    subst (λ (y : Choice). HaveHeard y.setting y.schema text c.dealt c.lanes) (one_choice words a x p q) (ends_heard hold hear end a.setting a.schema plans text left c before now ends)
+
+pub chosen_dealt : (words : List Text) (a x : Choice) (end : Status) (plans : ℕ → List Fate) (text left : Option (List ℕ)) (c : Cell) (before now : Option (List ℕ)) → Chooses words a → Chooses words x
+    → EndsAs end a.setting a.schema plans text left c before now → IfTold text (λ t. DealsWith end x.schema (x.setting).bits t c.dealt left)
+chosen_dealt words a x end plans text left c before now p q ends =
+    subst (λ (y : Choice). IfTold text (λ t. DealsWith end y.schema (y.setting).bits t c.dealt left)) (one_choice words a x p q) (ends_dealt end a.setting a.schema plans text left c before now ends)
+
 pub chosen_written : (words : List Text) (a x : Choice) (end : Status) (plans : ℕ → List Fate) (text left : Option (List ℕ)) (c : Cell) (before now : Option (List ℕ)) → Chooses words a → Chooses words x
-    → EndsAs end a.setting a.schema plans text left c before now → IfTold text (λ t. Writes end x.setting (commands_of x.schema t c.dealt) (journals_of c) before now)
+    → EndsAs end a.setting a.schema plans text left c before now → IfTold text (λ t. OfFirst x.schema (x.setting).bits t c.dealt (λ commands. Writes end x.setting commands c.lanes before now))
 chosen_written words a x end plans text left c before now p q ends =
-    subst (λ (y : Choice). IfTold text (λ t. Writes end y.setting (commands_of y.schema t c.dealt) (journals_of c) before now)) (one_choice words a x p q)
+    subst (λ (y : Choice). IfTold text (λ t. OfFirst y.schema (y.setting).bits t c.dealt (λ commands. Writes end y.setting commands c.lanes before now))) (one_choice words a x p q)
     (ends_written end a.setting a.schema plans text left c before now ends)
 
 -- a cluster that is empty, as memory wanted before the words were read
@@ -265,5 +303,8 @@ empty_legal s c h = none_legal s c (empty_cell c h).0
 pub empty_in_order : (c : Cell) → IsTrue (is_empty c) → AreInOrder (journals_of c)
 empty_in_order c h = none_in_order c (empty_cell c h).0
 
-pub empty_fates : (plans : ℕ → List Fate) (c : Cell) → IsTrue (is_empty c) → HaveFates plans c.lanes
-empty_fates plans c h = none_fates plans c (empty_cell c h).0
+pub empty_together : (c : Cell) → IsTrue (is_empty c) → AreTogether (journals_of c)
+empty_together c h = none_together c (empty_cell c h).0
+
+pub empty_fates : (types : Types) (bits : ℕ) (plans : ℕ → List Fate) (text : Option (List ℕ)) (c : Cell) → IsTrue (is_empty c) → HaveFates types bits plans text c.dealt c.lanes
+empty_fates types bits plans text c h = none_fates types bits plans text c (empty_cell c h).0 (empty_cell c h).1

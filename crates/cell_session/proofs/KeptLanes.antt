@@ -6,7 +6,7 @@ use Rattle.lane_journals.specs.KeptJournals.{IsLegal}
 use Rattle.lane_core.specs.LaneValues.{LaneValue}
 use Rattle.lane_keeping.specs.LaneKeeping.{setting_of}
 use Rattle.session_settings.specs.declared.setting.Setting.{Setting}
-use Rattle.session_lanes.specs.Lives.{Lines}
+use Rattle.session_lanes.specs.Lives.{Deed}
 use Rattle.session_lanes.specs.Serving.{bucket_in, IsServing}
 use Rattle.cell_session.specs.Cells.{Cell, journals_of}
 use Rattle.cell_session.specs.Keeping.{IsKept}
@@ -26,8 +26,8 @@ in_lanes P vs empty each lane = elim (cases_lt lane (length vs)) [
   | inr past ↦ subst (P lane) (sym (journal_past vs lane (omega (arith, past)))) (empty lane)
 ]
 
-serving_legal : (s : Setting) (planned : List Fate) (lane : ℕ) (lines : Lines) (v : LaneValue) → IsServing s planned lane lines v → IsLegal (setting_of (bucket_in s lane) s.rules) v.journal
-serving_legal s planned lane lines v is = subst (λ b. IsLegal (setting_of b s.rules) v.journal) is.lane_is (subst (λ r. IsLegal (setting_of v.lane r) v.journal) is.rules_are (is.holds).legal)
+serving_legal : (s : Setting) (planned : List Fate) (lane : ℕ) (deeds : List Deed) (v : LaneValue) → IsServing s planned lane deeds v → IsLegal (setting_of (bucket_in s lane) s.rules) v.journal
+serving_legal s planned lane deeds v is = subst (λ b. IsLegal (setting_of b s.rules) v.journal) is.lane_is (subst (λ r. IsLegal (setting_of v.lane r) v.journal) is.rules_are (is.holds).legal)
 
 pub kept_legal : (s : Setting) (plans : ℕ → List Fate) (cs : List Asked) (c : Cell) → IsKept s plans cs c → AreLegal s (journals_of c)
-kept_legal s plans cs c kept = in_lanes (λ lane J. IsLegal (setting_of (bucket_in s lane) s.rules) J) c.lanes (λ lane. tt) (λ lane v at. serving_legal s (plans lane) lane _ v (kept.serving lane v at))
+kept_legal s plans cs c kept = in_lanes (λ lane J. IsLegal (setting_of (bucket_in s lane) s.rules) J) c.lanes (λ lane. tt) (λ lane v at. serving_legal s _ lane _ v (kept.serving lane v at))

@@ -1,29 +1,36 @@
 -- How a cluster is seen.
 use Rattle.std.specs.Prelude.{◌≡◌, ◌==◌, ◌&&◌, ◌⊎◌, ℕ, ◌^◌, ◌≤◌, Bool, List, length, map, refl}
 use Rattle.std.specs.Coded.{Coded, code_by, coded×, coded_ℕ, coded_list}
+use Rattle.cluster_states.specs.Publishing.{Told}
 use Rattle.cluster_states.specs.declared.cluster_state.ClusterState.{ClusterState}
 use Rattle.cluster_states.specs.contracts.cluster_state.ClusterState as states
 use Rattle.lane_core.specs.LaneValues.{LaneValue, lane_code}
 use Rattle.lane_journals.specs.declared.event.LaneEvent.{LaneEvent}
 
--- how many low bits of a key tell the lanes apart; the state that was published last; what each lane is; and how
--- many lines were dealt with
+-- how many low bits of a key tell the lanes apart; the states that were published, and how many acknowledgements a
+-- write needs; what each lane is; and how many lines were dealt with
 pub record Cell : Type 0 where
   pub bits : ℕ
-  pub newest : ClusterState
+  pub told : Told
   pub lanes : List LaneValue
   pub dealt : ℕ
 
+abbrev pub told_code : Coded Told
+told_code = code_by (ℕ × List ClusterState) (coded× coded_ℕ (coded_list states.the_row.coded)) (λ t. (t.acks, t.states)) (λ p. record { acks = p.0; states = p.1 }) (λ _. refl)
+
 abbrev pub cell_code : Coded Cell
-cell_code = code_by (ℕ × (ClusterState × (List LaneValue × ℕ)))
-    (coded× coded_ℕ (coded× states.the_row.coded (coded× (coded_list lane_code) coded_ℕ)))
-    (λ c. (c.bits, (c.newest, (c.lanes, c.dealt))))
-    (λ p. record { bits = p.0; newest = p.1.0; lanes = p.1.1.0; dealt = p.1.1.1 })
+cell_code = code_by (ℕ × (Told × (List LaneValue × ℕ)))
+    (coded× coded_ℕ (coded× told_code (coded× (coded_list lane_code) coded_ℕ)))
+    (λ c. (c.bits, (c.told, (c.lanes, c.dealt))))
+    (λ p. record { bits = p.0; told = p.1.0; lanes = p.1.1.0; dealt = p.1.1.1 })
     (λ _. refl)
 
 -- the journal of each lane, newest event first
+abbrev pub journals : List LaneValue → List (List LaneEvent)
+journals vs = map (λ (v : LaneValue). v.journal) vs
+
 abbrev pub journals_of : Cell → List (List LaneEvent)
-journals_of c = map (λ (v : LaneValue). v.journal) c.lanes
+journals_of c = journals c.lanes
 
 -- there is no lane, and no line was dealt with
 abbrev pub is_empty : Cell → Bool

@@ -1,5 +1,5 @@
 -- What each status says.
-use Rattle.std.specs.Prelude.{◌≡◌, ◌⊎◌, ℕ, ◌+◌, ◌<◌, ◌≤◌, List, [], ◌∷◌, ◌++◌, length, map, take, drop, Option, None, Some}
+use Rattle.std.specs.Prelude.{◌≡◌, ◌⊎◌, ℕ, ◌+◌, ◌<◌, ◌≤◌, true, List, [], ◌∷◌, ◌++◌, length, drop, Option, None, Some, slice_get}
 use Rattle.std.specs.Io.KnownBytes.{Appends, Keeps}
 use Rattle.io_ends.specs.Causes.{AppendsFront}
 use Rattle.io_ends.specs.Lines.{lines_of, end_of, NoLineFeed}
@@ -7,14 +7,17 @@ use Rattle.io_ends.specs.declared.next.LimitKind.{LimitKind}
 use Rattle.io_ends.specs.declared.next.LimitKind.TheVariants as limit
 use Rattle.io_ends.specs.declared.sizes.TheConstants.{PIECE}
 use Rattle.doc_types.specs.SchemaCodes.{Types}
-use Rattle.cell_session.specs.Asking.{asked_of}
+use Rattle.cell_session.specs.Asking.{IsAsked, is_state, state_lines}
+use Rattle.cell_session.specs.Operations.{IsCommandAt}
 use Rattle.cell_session.specs.declared.asked.Asked.{Asked}
 use Rattle.reports.specs.ReportText.{usage_text}
+use Rattle.lane_core.specs.LaneValues.{LaneValue}
+use Rattle.cell_session.specs.Deeds.{told_of}
 use Rattle.cell_session.specs.Output.{report_in, output_of}
 use Rattle.cell_session.specs.Lanes.{Journal}
 use Rattle.session_settings.specs.Settings.{lane_count}
 use Rattle.session_settings.specs.declared.setting.Setting.{Setting}
-use Rattle.cell_session.specs.declared.limits.TheConstants.{MOST_LINES, MOST_BYTES}
+use Rattle.cell_session.specs.declared.limits.TheConstants.{MOST_LINES, MOST_BYTES, MOST_STATES}
 use Rattle.cell_session.specs.declared.status.Status.{Status}
 use Rattle.cell_session.specs.declared.status.Status.TheVariants as status
 
@@ -23,9 +26,19 @@ abbrev pub IfTold : Option (List ℕ) → (List ℕ → Type 0) → Type 0
 IfTold None P = Unit {0}
 IfTold (Some bytes) P = P bytes
 
--- what the first lines of a text ask for under a schema
-abbrev pub commands_of : Types → List ℕ → ℕ → List Asked
-commands_of types text count = map (asked_of types) (take count (lines_of text))
+-- these are what the first lines of a text ask for under a schema in a session of 2^bits lanes; the lines end within
+-- the limits, and no more of them are read as states than a session may have
+pub record AreFirst (types : Types) (bits : ℕ) (text : List ℕ) (commands : List Asked) : Type 0 where
+  pub asked : (at : ℕ) (c : Asked) → slice_get commands at ≡ Some c → IsCommandAt types bits (Some text) at c
+  pub some : length commands ≤ length (lines_of text)
+  pub few : length commands ≤ MOST_LINES
+  pub within : end_of (length commands) text ≤ MOST_BYTES
+  pub few_states : state_lines commands ≤ MOST_STATES
+
+-- the first so many lines ask for commands of which this holds
+abbrev pub OfFirst : Types → ℕ → List ℕ → ℕ → (List Asked → Type 0) → Type 0
+OfFirst types bits text count P =
+    (commands : List Asked) × ((length commands ≡ count) × (AreFirst types bits text commands × P commands))
 
 -- ---- lanes
 
@@ -40,12 +53,6 @@ HasLanes status.Usage s Js = ⊥
 
 -- ---- which lines were dealt with
 
--- the text has so many lines, and the last of them ends within the limits
-pub record AreWithin (text : List ℕ) (count : ℕ) : Type 0 where
-  pub some : count ≤ length (lines_of text)
-  pub few : count ≤ MOST_LINES
-  pub within : end_of count text ≤ MOST_BYTES
-
 -- what was read behind these lines has no line feed: the next line wasn't whole yet
 abbrev pub IsReadTo : List ℕ → ℕ → List ℕ → Type 0
 IsReadTo text count left = (held : List ℕ) × (NoLineFeed held × (drop (end_of count text) text ≡ held ++ left))
@@ -56,55 +63,70 @@ abbrev pub IsReadNear : List ℕ → ℕ → List ℕ → Type 0
 IsReadNear text count left =
     (held : List ℕ) × ((length held < PIECE) × (drop (end_of count text) text ≡ held ++ left))
 
--- there is one line more, and it is past the limit
-abbrev pub PassesLimit : LimitKind → List ℕ → ℕ → Type 0
-PassesLimit limit.Lines text count = (count < length (lines_of text)) × (count ≡ MOST_LINES)
-PassesLimit limit.Bytes text count =
-    (count < length (lines_of text)) × ((count < MOST_LINES) × (MOST_BYTES < end_of (count + 1) text))
+-- there is one line more, which ends within the limits and is read as a state, and as many lines before it were as a
+-- session may have
+pub record PassesStates (types : Types) (bits : ℕ) (text : List ℕ) (commands : List Asked) : Type 0 where
+  pub bytes : List ℕ
+  pub line : slice_get (lines_of text) (length commands) ≡ Some bytes
+  pub few : length commands < MOST_LINES
+  pub within : end_of (length commands + 1) text ≤ MOST_BYTES
+  pub command : Asked
+  pub asked : IsAsked types bits bytes command
+  pub state : is_state command ≡ true
+  pub before : state_lines commands ≡ MOST_STATES
 
--- why no further line was dealt with
-abbrev pub StopsAt : Status → List ℕ → ℕ → Option (List ℕ) → Type 0
-StopsAt status.Done text count left = count ≡ length (lines_of text)
-StopsAt status.ReadFault text count left = IfTold left (IsReadTo text count)
-StopsAt status.WriteFault text count left = (0 < count) × IfTold left (IsReadNear text count)
-StopsAt status.NoMemory text count left = Unit {0}
-StopsAt (status.Limit which) text count left = PassesLimit which text count
-StopsAt status.Usage text count left = ⊥
+-- there is one line more, and it is past the limit; no line is read as upkeep yet
+abbrev pub PassesLimit : LimitKind → Types → ℕ → List ℕ → List Asked → Type 0
+PassesLimit limit.Lines types bits text commands =
+    (length commands < length (lines_of text)) × (length commands ≡ MOST_LINES)
+PassesLimit limit.Bytes types bits text commands = (length commands < length (lines_of text))
+    × ((length commands < MOST_LINES) × (MOST_BYTES < end_of (length commands + 1) text))
+PassesLimit limit.States types bits text commands = PassesStates types bits text commands
+PassesLimit limit.Maintains types bits text commands = ⊥
 
--- the first lines of the text were dealt with, up to where the session stops
-pub record DealsWith (end : Status) (text : List ℕ) (count : ℕ) (left : Option (List ℕ)) : Type 0 where
-  pub within : AreWithin text count
-  pub stops : StopsAt end text count left
+-- why no line was dealt with behind those that asked for these
+abbrev pub StopsAt : Status → Types → ℕ → List ℕ → Option (List ℕ) → List Asked → Type 0
+StopsAt status.Done types bits text left commands = length commands ≡ length (lines_of text)
+StopsAt status.ReadFault types bits text left commands = IfTold left (IsReadTo text (length commands))
+StopsAt status.WriteFault types bits text left commands =
+    (0 < length commands) × IfTold left (IsReadNear text (length commands))
+StopsAt status.NoMemory types bits text left commands = Unit {0}
+StopsAt (status.Limit which) types bits text left commands = PassesLimit which types bits text commands
+StopsAt status.Usage types bits text left commands = ⊥
+
+-- so many first lines of the text were dealt with, up to where the session stops
+abbrev pub DealsWith : Status → Types → ℕ → List ℕ → ℕ → Option (List ℕ) → Type 0
+DealsWith end types bits text count left = OfFirst types bits text count (StopsAt end types bits text left)
 
 -- ---- the bytes written
 
 -- the sink took the reports of all lines but the last, and a front of that one's
-pub record TakesFront (s : Setting) (commands : List Asked) (Js : List Journal)
+pub record TakesFront (s : Setting) (commands : List Asked) (lanes : List LaneValue)
     (before now : Option (List ℕ)) : Type 0 where
   pub earlier : List Asked
   pub last : Asked
   pub all : commands ≡ earlier ++ last ∷ []
   pub front : List ℕ
   pub rest : List ℕ
-  pub report : report_in s (length commands) last Js ≡ front ++ rest
-  pub output : Appends before now (output_of s earlier Js ++ front)
+  pub report : report_in s (told_of s earlier) (length commands) last lanes ≡ front ++ rest
+  pub output : Appends before now (output_of s earlier lanes ++ front)
 
 -- the sink took the reports of all lines but the last
-pub record TakesAllButOne (s : Setting) (commands : List Asked) (Js : List Journal)
+pub record TakesAllButOne (s : Setting) (commands : List Asked) (lanes : List LaneValue)
     (before now : Option (List ℕ)) : Type 0 where
   pub earlier : List Asked
   pub last : Asked
   pub all : commands ≡ earlier ++ last ∷ []
-  pub output : Appends before now (output_of s earlier Js)
+  pub output : Appends before now (output_of s earlier lanes)
 
-abbrev pub Writes : Status → Setting → List Asked → List Journal → Option (List ℕ) → Option (List ℕ) → Type 0
-Writes status.Done s commands Js before now = Appends before now (output_of s commands Js)
-Writes status.ReadFault s commands Js before now = Appends before now (output_of s commands Js)
-Writes (status.Limit which) s commands Js before now = Appends before now (output_of s commands Js)
-Writes status.WriteFault s commands Js before now = TakesFront s commands Js before now
-Writes status.NoMemory s commands Js before now =
-    Appends before now (output_of s commands Js) ⊎ TakesAllButOne s commands Js before now
-Writes status.Usage s commands Js before now = ⊥
+abbrev pub Writes : Status → Setting → List Asked → List LaneValue → Option (List ℕ) → Option (List ℕ) → Type 0
+Writes status.Done s commands lanes before now = Appends before now (output_of s commands lanes)
+Writes status.ReadFault s commands lanes before now = Appends before now (output_of s commands lanes)
+Writes (status.Limit which) s commands lanes before now = Appends before now (output_of s commands lanes)
+Writes status.WriteFault s commands lanes before now = TakesFront s commands lanes before now
+Writes status.NoMemory s commands lanes before now =
+    Appends before now (output_of s commands lanes) ⊎ TakesAllButOne s commands lanes before now
+Writes status.Usage s commands lanes before now = ⊥
 
 -- ---- wrong words
 

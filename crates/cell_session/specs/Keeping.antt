@@ -6,16 +6,17 @@ use Rattle.session_settings.specs.Settings.{lane_count, IsSetting}
 use Rattle.session_settings.specs.declared.setting.Setting.{Setting}
 use Rattle.session_lanes.specs.Serving.{IsServing}
 use Rattle.cell_session.specs.Cells.{Cell}
-use Rattle.cell_session.specs.Operations.{lines_of_lane}
+use Rattle.cell_session.specs.Deeds.{told_of, deeds_of_lane, planned_for}
 use Rattle.cell_session.specs.declared.asked.Asked.{Asked}
 
--- all lanes are there, and each serves the lines that asked for an operation in it
+-- all lanes are there, and in each just the deeds of the lines so far were done, and these fates planned
 pub record IsKept (s : Setting) (plans : ℕ → List Fate) (commands : List Asked) (c : Cell) : Type 0 where
   pub bits : c.bits ≡ s.bits
-  pub newest : c.newest ≡ s.initial
+  pub told : c.told ≡ told_of s commands
   pub dealt : c.dealt ≡ length commands
   pub lanes : length c.lanes ≡ lane_count s
-  pub serving : (lane : ℕ) (v : LaneValue) → slice_get c.lanes lane ≡ Some v → IsServing s (plans lane) lane (lines_of_lane s lane commands) v
+  pub serving : (lane : ℕ) (v : LaneValue) → slice_get c.lanes lane ≡ Some v
+      → IsServing s (planned_for lane v.takes_plans (plans lane) commands) lane (deeds_of_lane s lane commands) v
 
 -- the next line may be dealt with
 pub record IsReady (s : Setting) (line : ℕ) (c : Cell) : Type 0 where

@@ -1,15 +1,14 @@
 -- The lanes of a cluster.
-use Rattle.std.specs.Prelude.{◌≡◌, ◌<◌, ℕ, true, List, [], Some, slice_get, slice_index_or, IsSome}
-use Rattle.carriers.specs.declared.fate.Fate.{Fate}
+use Rattle.std.specs.Prelude.{◌≡◌, ◌<◌, ℕ, true, List, [], length, Some, slice_get, slice_index_or, IsSome}
 use Rattle.global_ids.specs.Keys.{key_of, lane_of}
 use Rattle.lane_journals.specs.Readers.{began, closed, before_line}
 use Rattle.lane_journals.specs.Meanings.{history}
 use Rattle.lane_journals.specs.KeptJournals.{IsLegal}
 use Rattle.lane_journals.specs.declared.event.LaneEvent.{LaneEvent}
-use Rattle.lane_carriage.specs.Carriage.{IsCarried}
 use Rattle.lane_core.specs.LaneValues.{LaneValue}
 use Rattle.lane_keeping.specs.LaneKeeping.{setting_of}
 use Rattle.session_settings.specs.declared.setting.Setting.{Setting}
+use Rattle.session_lanes.specs.Lives.{told_events}
 use Rattle.session_lanes.specs.Promises.{IsComplete, KeepsWrites}
 use Rattle.session_lanes.specs.Serving.{bucket_in}
 
@@ -34,14 +33,9 @@ AreInOrder Js = (lane earlier line : ℕ) → earlier < line
     → IsSome (began earlier (history (journal_in lane Js))) → IsSome (began line (history (journal_in lane Js)))
     → closed earlier (before_line line (history (journal_in lane Js))) ≡ true
 
--- in each lane the carrier gave one fate per message, in order of number, and each message had the events of its
--- fate; the fates that were planned are those from the start
-pub record HasFates (planned : List Fate) (v : LaneValue) : Type 0 where
-  pub carried : IsCarried v.given v.journal
-  pub planned_are : v.planned ≡ planned
-
-abbrev pub HaveFates : (ℕ → List Fate) → List LaneValue → Type 0
-HaveFates plans lanes = (lane : ℕ) (v : LaneValue) → slice_get lanes lane ≡ Some v → HasFates (plans lane) v
+-- the events of states, stops and starts are the same in every lane, in one order
+abbrev pub AreTogether : List Journal → Type 0
+AreTogether Js = (lane other : ℕ) → lane < length Js → other < length Js → told_events (journal_in lane Js) ≡ told_events (journal_in other Js)
 
 -- the durability theorem holds in each lane
 abbrev pub AreDurable : Setting → List Journal → Type 0

@@ -1,9 +1,12 @@
--- For a reader: Cells, Lanes, Operations, Output and Ends. The others serve the calls below the top one.
+-- For a reader: Cells, Lanes, Deeds, Operations, Output and Ends. The others serve the calls below the top one.
 pub mod StatusNumbers
 pub mod Cells
 pub mod Lanes
 pub mod Asking
+pub mod Deeds
 pub mod Operations
+pub mod Causes
+pub mod Hearing
 pub mod Output
 pub mod Ends
 pub mod Sizes

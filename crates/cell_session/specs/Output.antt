@@ -1,10 +1,15 @@
--- The bytes that answer the lines, read off the journals.
-use Rattle.std.specs.Prelude.{ℕ, suc, List, [], ◌∷◌, ◌++◌, Option, None, Some}
+-- The bytes that answer the lines, read off the lanes.
+use Rattle.std.specs.Prelude.{ℕ, suc, List, [], ◌∷◌, ◌++◌, Option, None, Some, slice_get}
 use Rattle.stamps.specs.declared.stamp.Stamp.{Stamp}
+use Rattle.cluster_states.specs.Publishing.{Told, publish_fault}
+use Rattle.cluster_states.specs.declared.cluster_state.ClusterState.{ClusterState}
+use Rattle.cluster_states.specs.declared.states.PublishFault.{PublishFault}
+use Rattle.cluster_states.specs.declared.states.PublishFault.TheVariants as fault
 use Rattle.documents.specs.Fields.{Contents}
 use Rattle.entry_maps.specs.declared.entry.Entry.{Entry}
 use Rattle.cell_session.specs.declared.asked.Asked.{Asked}
 use Rattle.cell_session.specs.declared.asked.Asked.TheVariants as command
+use Rattle.lane_core.specs.LaneValues.{LaneValue}
 use Rattle.lane_journals.specs.Meanings.{entry_at}
 use Rattle.session_settings.specs.declared.setting.Setting.{Setting}
 use Rattle.session_lanes.specs.Lives.{outcome_in}
@@ -13,6 +18,8 @@ use Rattle.messages.specs.declared.outcome.Outcome.TheVariants as outcome
 use Rattle.reports.specs.ReportText.{report_text}
 use Rattle.reports.specs.declared.answer.Answer.{Answer}
 use Rattle.reports.specs.declared.answer.Answer.TheVariants as answer
+use Rattle.cell_session.specs.Cells.{journals}
+use Rattle.cell_session.specs.Deeds.{first_told, told_next}
 use Rattle.cell_session.specs.Lanes.{Journal, lane_of_id, journal_in}
 
 -- a found document is that of the entry with the stamp
@@ -57,26 +64,48 @@ closed_answer (Some ending) J = outcome_answer ending (entry_of ending J)
 abbrev pub operation_answer : Setting → ℕ → List ℕ → List Journal → Option Answer
 operation_answer s line id Js = let J = journal_in (lane_of_id s.bits id) Js in closed_answer (outcome_in line J) J
 
--- the answer of a line; a blank one has none
-abbrev pub answer_in : Setting → ℕ → Asked → List Journal → Option Answer
-answer_in s line command.Blank Js = None
-answer_in s line command.TooLong Js = Some answer.TooLong
-answer_in s line (command.Bad why) Js = Some (answer.BadLine why)
-answer_in s line (command.Feed op) Js = operation_answer s line op.id Js
+-- why a state isn't published; a session has room for all states that are told
+abbrev pub fault_answer : PublishFault → Option Answer
+fault_answer (fault.NotNewer have) = Some (answer.NotNewer have)
+fault_answer fault.NoDistributor = Some answer.NoDistributor
+fault_answer (fault.TooFewUp up acks) = Some (answer.TooFewUp up acks)
+fault_answer (fault.TooManyOut out acks) = Some (answer.TooManyOut out acks)
+fault_answer fault.TooManyStates = None
+
+abbrev pub state_answer : Option PublishFault → ClusterState → Option Answer
+state_answer None state = Some (answer.Published state.version)
+state_answer (Some why) state = fault_answer why
+
+-- whether the carrier of a lane takes plans
+abbrev pub plan_answer : Option LaneValue → Option Answer
+plan_answer None = None
+plan_answer (Some v) = Some (answer.Planned v.takes_plans)
+
+-- the answer of a line, where these states are told before it; a blank line has none
+abbrev pub answer_in : Setting → Told → ℕ → Asked → List LaneValue → Option Answer
+answer_in s told line command.Blank vs = None
+answer_in s told line command.TooLong vs = Some answer.TooLong
+answer_in s told line (command.Bad why) vs = Some (answer.BadLine why)
+answer_in s told line (command.Feed op via) vs = operation_answer s line op.id (journals vs)
+answer_in s told line (command.State state deaf) vs = state_answer (publish_fault told state) state
+answer_in s told line (command.BadState offset) vs = Some (answer.BadState offset)
+answer_in s told line (command.Stop node) vs = Some (answer.Stopped node)
+answer_in s told line (command.Start node) vs = Some (answer.Started node)
+answer_in s told line (command.Net lane fates) vs = plan_answer (slice_get vs lane)
 
 -- the report of what may be an answer
 abbrev pub bytes_of : ℕ → Option Answer → List ℕ
 bytes_of line None = []
 bytes_of line (Some a) = report_text line a
 
-abbrev pub report_in : Setting → ℕ → Asked → List Journal → List ℕ
-report_in s line c Js = bytes_of line (answer_in s line c Js)
+abbrev pub report_in : Setting → Told → ℕ → Asked → List LaneValue → List ℕ
+report_in s told line c vs = bytes_of line (answer_in s told line c vs)
 
 -- the reports of lines from a number on, in order
-abbrev pub output_from : Setting → ℕ → List Asked → List Journal → List ℕ
-output_from s line [] Js = []
-output_from s line (c ∷ commands) Js = report_in s line c Js ++ output_from s (suc line) commands Js
+abbrev pub output_from : Setting → Told → ℕ → List Asked → List LaneValue → List ℕ
+output_from s told line [] vs = []
+output_from s told line (c ∷ commands) vs = report_in s told line c vs ++ output_from s (told_next c told) (suc line) commands vs
 
 -- the reports of the first lines
-abbrev pub output_of : Setting → List Asked → List Journal → List ℕ
-output_of s commands Js = output_from s 1 commands Js
+abbrev pub output_of : Setting → List Asked → List LaneValue → List ℕ
+output_of s commands vs = output_from s (first_told s) 1 commands vs

@@ -4,8 +4,7 @@ use Rattle.io_ends.specs.Causes.{HasRisen}
 use Rattle.io_ends.specs.Lines.{lines_of, NoLineFeed}
 use Rattle.io_ends.specs.Reading.{Reading, Grows, IsLittle, IsWithin, Reaches}
 use Rattle.doc_types.specs.SchemaCodes.{Types}
-use Rattle.cell_session.specs.Asking.{asked_of}
-use Rattle.cell_session.specs.Operations.{IsOwnAsked}
+use Rattle.cell_session.specs.Asking.{IsAsked, IsOwnAsked}
 use Rattle.cell_session.specs.declared.next_command.Step.{Step}
 use Rattle.cell_session.specs.declared.next_command.Step.TheVariants as step
 use Rattle.cell_session.specs.declared.status.Status.{Status}
@@ -42,16 +41,16 @@ Finishes text old status.Usage = ⊥
 Finishes text old status.WriteFault = ⊥
 
 -- the command is that of the text's next line under a schema, which ends within the limits
-abbrev pub Shows : Types → List ℕ → Reading → Step → Type 0
-Shows types text old (step.Command number command) =
-    ((bytes : List ℕ) × ((slice_get (lines_of text) old.lines ≡ Some bytes) × (command ≡ asked_of types bytes)))
+abbrev pub Shows : Types → ℕ → List ℕ → Reading → Step → Type 0
+Shows types bits text old (step.Command number command) =
+    ((bytes : List ℕ) × ((slice_get (lines_of text) old.lines ≡ Some bytes) × IsAsked types bits bytes command))
     × IsWithin text old
-Shows types text old (step.Over end) = Finishes text old end
+Shows types bits text old (step.Over end) = Finishes text old end
 
 -- a command of a step is one that may be dealt with
-abbrev pub IsOwnStep : Step → Type 0
-IsOwnStep (step.Command number command) = IsOwnAsked command
-IsOwnStep (step.Over end) = Unit {0}
+abbrev pub IsOwnStep : ℕ → Step → Type 0
+IsOwnStep bits (step.Command number command) = IsOwnAsked bits command
+IsOwnStep bits (step.Over end) = Unit {0}
 
 -- an end that may come of reading; a fault of the source only where its count rose
 abbrev pub IsReadEnd : Status → Option ℕ → ℕ → ℕ → Type 0
@@ -67,11 +66,11 @@ CausedBySource (step.Command number command) last before now = Unit {0}
 CausedBySource (step.Over end) last before now = IsReadEnd end last before now
 
 -- the command of these bytes under a schema, or want of memory
-abbrev pub IsOfLine : Types → Step → ℕ → List ℕ → Type 0
-IsOfLine types (step.Command n command) number bytes = (n ≡ number) × (command ≡ asked_of types bytes)
-IsOfLine types (step.Over status.NoMemory) number bytes = Unit {0}
-IsOfLine types (step.Over status.Done) number bytes = ⊥
-IsOfLine types (step.Over status.ReadFault) number bytes = ⊥
-IsOfLine types (step.Over status.WriteFault) number bytes = ⊥
-IsOfLine types (step.Over status.Usage) number bytes = ⊥
-IsOfLine types (step.Over (status.Limit which)) number bytes = ⊥
+abbrev pub IsOfLine : Types → ℕ → Step → ℕ → List ℕ → Type 0
+IsOfLine types bits (step.Command n command) number bytes = (n ≡ number) × IsAsked types bits bytes command
+IsOfLine types bits (step.Over status.NoMemory) number bytes = Unit {0}
+IsOfLine types bits (step.Over status.Done) number bytes = ⊥
+IsOfLine types bits (step.Over status.ReadFault) number bytes = ⊥
+IsOfLine types bits (step.Over status.WriteFault) number bytes = ⊥
+IsOfLine types bits (step.Over status.Usage) number bytes = ⊥
+IsOfLine types bits (step.Over (status.Limit which)) number bytes = ⊥

@@ -2,10 +2,9 @@ ghost use Rattle.std.specs.Prelude.{◌≡◌, ◌≤◌, IfOk, OnOk, IfErr};
 ghost use Rattle.std.specs.Io.KnownBytes.{Appends};
 ghost use Rattle.io_ends.specs.Causes.{HasRisen};
 ghost use Rattle.cell_session.specs.Answering.{StopsAs};
+ghost use Rattle.cell_session.specs.Asking.{IsOwnAsked};
 ghost use Rattle.cell_session.specs.Output.{bytes_of, report_in};
-ghost use Rattle.cell_session.specs.Cells.{journals_of};
 ghost use Rattle.cell_session.specs.Keeping.{IsReady};
-ghost use Rattle.cell_session.specs.Operations.{IsOwnAsked};
 ghost use Rattle.cell_session.specs.Steps.{IsAfter};
 ghost use Rattle.cell_session.specs.declared.answering.Stop.TheVariants as stop;
 
@@ -54,10 +53,10 @@ pub fn answer_line<K: Sink, C: Carrier + Drop>(
     cluster: &mut Cluster<C>,
 ) -> Result<(), Stop>
     requires ready { IsReady setting.now line cluster.old }
-    requires own { IsOwnAsked command }
+    requires own { IsOwnAsked setting.now.bits command }
     ensures dealt { OnOk result (IsAfter setting.now line command cluster.old cluster.new) }
     ensures written { OnOk result (Appends (K.written sink.old) (K.written sink.new)
-        (report_in setting.now line command (journals_of cluster.new))) }
+        (report_in setting.now cluster.old.told line command cluster.new.lanes)) }
     ensures stopped { IfErr result (λ why.
         StopsAs why setting.now line command cluster.old cluster.new (K.written sink.old) (K.written sink.new)) }
     ensures count { K.faults sink.old ≤ K.faults sink.new }

@@ -1,11 +1,17 @@
-ghost use Rattle.std.specs.Prelude.{◌≡◌, IfOk};
-ghost use Rattle.cell_session.specs.Asking.{asked_by, asked_of};
+ghost use Rattle.std.specs.Prelude.{◌≡◌, ◌<◌, ◌≤◌, ℕ, IfOk};
+ghost use Rattle.cell_session.specs.Asking.{IsOfText, IsAskedBy, IsAsked, IsOwnAsked, one_state_more, states_with};
+ghost use Rattle.cell_session.specs.declared.limits.TheConstants.{MOST_STATES};
 ghost use Rattle.feed_lines.specs.Meaning.{line_said};
 
+use crate::limits::MOST_STATES;
+use carriers::FateList;
+use cluster_states::ClusterState;
 use doc_types::Schema;
+use feed_lines::laws::commands_are_in_range;
 use feed_lines::{Cause, Command, LineFault, read_line};
 use io_ends::LONGEST;
 use messages::Operation;
+use node_sets::NodeSet;
 use std::alloc::Global;
 use value_lists::NoMemory;
 
@@ -17,18 +23,63 @@ pub enum Asked {
     /// It has more than 65,536 bytes.
     TooLong,
     /// It is bad, for this cause.
-    Bad { cause: Cause },
-    /// An operation on one document.
-    Feed { operation: Operation },
+    Bad {
+        cause: Cause,
+    },
+    /// An operation on one document, handed to this distributor, if one is named.
+    Feed {
+        operation: Operation,
+        via: Option<u8>,
+    },
+    /// The state is published, and these distributors don't hear of it.
+    State {
+        state: ClusterState,
+        deaf: NodeSet,
+    },
+    /// A state is published, but the text is that of none, and of the front of one up to this place.
+    BadState {
+        offset: u32,
+    },
+    /// A node stops.
+    Stop {
+        node: u8,
+    },
+    /// A node starts.
+    Start {
+        node: u8,
+    },
+    /// What becomes of the coming messages of a lane.
+    Net {
+        lane: u8,
+        fates: FateList,
+    },
+}
+
+/// What a line asks for that publishes the state of a text.
+fn of_text(text: &str, deaf: NodeSet) -> Asked
+    ensures value { IsOfText text.now deaf result }
+    ensures own { (bits : ℕ) → IsOwnAsked bits result }
+{
+    match ClusterState::parse(text) {
+        Ok(state) => Asked::State { state, deaf },
+        Err(bad) => Asked::BadState { offset: bad.offset },
+    }
 }
 
 /// What a line of at most 65,536 bytes asks for.
 fn short_asked(alloc: Global, schema: &Schema, bits: u8, bytes: &[u8]) -> Result<Asked, NoMemory>
-    ensures { IfOk result (λ asked. asked ≡ asked_by (line_said schema.now bytes.now)) }
+    requires { bits < 8 }
+    ensures value { IfOk result (λ a. IsAskedBy (line_said schema.now bits bytes.now) a) }
+    ensures own { IfOk result (λ a. IsOwnAsked bits a) }
 {
+    commands_are_in_range();
     match read_line(alloc, bytes, schema, bits) {
         Ok(Command::Blank) => Ok(Asked::Blank),
-        Ok(Command::Feed { operation }) => Ok(Asked::Feed { operation }),
+        Ok(Command::Feed { operation, via }) => Ok(Asked::Feed { operation, via }),
+        Ok(Command::State { text, deaf }) => Ok(of_text(text.text(), deaf)),
+        Ok(Command::Stop { node }) => Ok(Asked::Stop { node }),
+        Ok(Command::Start { node }) => Ok(Asked::Start { node }),
+        Ok(Command::Net { lane, fates }) => Ok(Asked::Net { lane, fates }),
         Err(LineFault::BadLine { cause }) => Ok(Asked::Bad { cause }),
         Err(LineFault::NoMemory) => Err(NoMemory),
     }
@@ -36,12 +87,42 @@ fn short_asked(alloc: Global, schema: &Schema, bits: u8, bytes: &[u8]) -> Result
 
 /// What a line asks for in a session of 2^bits lanes, from its bytes without the line feed. The only error
 /// is want of memory.
-#[tactic(auto, unfolding(crate::specs::Asking::asked_of))]
 pub fn asked_of(alloc: Global, schema: &Schema, bits: u8, bytes: &[u8]) -> Result<Asked, NoMemory>
-    ensures { IfOk result (λ asked. asked ≡ asked_of schema.now bytes.now) }
+    requires { bits < 8 }
+    ensures value { IfOk result (λ a. IsAsked schema.now bits bytes.now a) }
+    ensures own { IfOk result (λ a. IsOwnAsked bits a) }
 {
     if bytes.len() > LONGEST {
         return Ok(Asked::TooLong);
     }
     short_asked(alloc, schema, bits, bytes)
+}
+
+/// How many lines were read as states, with one more that is; none where a session may not have so many.
+fn one_state_more(states: u8) -> Option<u8>
+    requires { states ≤ MOST_STATES }
+    ensures { result ≡ one_state_more states }
+{
+    if states == MOST_STATES {
+        None
+    } else {
+        Some(states + 1)
+    }
+}
+
+/// How many lines were read as states, with this one; none where a session may not have so many.
+pub fn states_with(states: u8, command: &Asked) -> Option<u8>
+    requires { states ≤ MOST_STATES }
+    ensures { result ≡ states_with states command.now }
+{
+    match command {
+        Asked::State { .. } | Asked::BadState { .. } => one_state_more(states),
+        Asked::Blank
+        | Asked::TooLong
+        | Asked::Bad { .. }
+        | Asked::Feed { .. }
+        | Asked::Stop { .. }
+        | Asked::Start { .. }
+        | Asked::Net { .. } => Some(states),
+    }
 }

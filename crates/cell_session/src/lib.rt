@@ -1,10 +1,11 @@
 //! The session: lines in, reports out, and the cluster that they leave.
 //!
 //! `run_one` is the top call; its clauses carry what the product promises, each at a name of its own.
-//! A contract sees a `Cluster` as a `Cell`: the bits that tell its lanes apart, the state that was published
-//! last, what each lane is (its journal, newest event first, and the fates of its messages), and how many
-//! lines were dealt with. `specs/Operations.antt` says what each line did, `specs/Output.antt` with which bytes
-//! it is answered, read off the journals, and `specs/Ends.antt` what each status says.
+//! A contract sees a `Cluster` as a `Cell`: the bits that tell its lanes apart, the states that were published,
+//! what each lane is (its journal, newest event first, and the fates of its messages), and how many lines were
+//! dealt with. `specs/Operations.antt` says what each line did, by the deeds of `specs/Deeds.antt`,
+//! `specs/Output.antt` with which bytes it is answered, read off the lanes, and `specs/Ends.antt` what each
+//! status says.
 //!
 //! ```text
 //! let mut cluster = Cluster::empty(alloc);
@@ -15,6 +16,9 @@
 mod answering;
 pub mod asked;
 pub mod cluster;
+mod dealing;
+mod every_lane;
+pub mod laws;
 pub mod limits;
 mod next_command;
 pub mod opening;

@@ -1,4 +1,4 @@
-ghost use Rattle.std.specs.Prelude.{◌≡◌, ◌≤◌, ℕ, List};
+ghost use Rattle.std.specs.Prelude.{◌≡◌, ◌<◌, ◌≤◌, ℕ, List};
 ghost use Rattle.io_ends.specs.Reading.{StandsIn};
 ghost use Rattle.cell_session.specs.Reads.{Advances, Shows, CausedBySource, IsOwnStep, IsOfLine};
 
@@ -26,12 +26,13 @@ pub fn next_command<S: Source>(
     source: &mut S,
     line: &mut Vec<u8>,
 ) -> Step
+    requires { bits < 8 }
     ensures advances { Advances reader.old reader.new result }
     ensures shows { (text : List ℕ) → StandsIn text reader.old (S.left source.old)
-        → Shows schema.now text reader.old result }
+        → Shows schema.now bits text reader.old result }
     ensures stands { (text : List ℕ) → StandsIn text reader.old (S.left source.old)
         → StandsIn text reader.new (S.left source.new) }
-    ensures own { IsOwnStep result }
+    ensures own { IsOwnStep bits result }
     ensures count { S.faults source.old ≤ S.faults source.new }
     ensures cause { CausedBySource result S.last (S.faults source.old) (S.faults source.new) }
 {
@@ -58,7 +59,9 @@ pub fn next_command<S: Source>(
 
 /// The command of a line that was read.
 fn line_command(alloc: Global, schema: &Schema, bits: u8, number: u32, line: &[u8]) -> Step
-    ensures { IsOfLine schema.now result number line.now }
+    requires { bits < 8 }
+    ensures value { IsOfLine schema.now bits result number line.now }
+    ensures own { IsOwnStep bits result }
 {
     let Ok(command) = asked_of(alloc, schema, bits, line) else {
         return Step::Over {

@@ -6,13 +6,16 @@ ghost use Rattle.reports.specs.ReportText.{usage_text};
 ghost use Rattle.session_settings.specs.Choices.{Chooses, AreWrong};
 ghost use Rattle.session_settings.specs.Settings.{IsSetting};
 ghost use Rattle.session_settings.specs.declared.choice.Choice.{Choice};
+ghost use Rattle.cell_session.specs.Causes.{HaveCauses};
 ghost use Rattle.cell_session.specs.Cells.{is_empty, journals_of};
 ghost use Rattle.cell_session.specs.Dealing.{EndsAs};
-ghost use Rattle.cell_session.specs.Ends.{IfTold, commands_of, HasLanes, DealsWith, PassesLimit, Writes, UsageEnd};
-ghost use Rattle.cell_session.specs.Lanes.{AreLegal, AreDurable, AreInOrder, HaveFates, AreComplete};
-ghost use Rattle.cell_session.specs.Operations.{HaveOutcomes};
+ghost use Rattle.cell_session.specs.Ends.{IfTold, OfFirst, HasLanes, DealsWith, PassesLimit, Writes, UsageEnd};
+ghost use Rattle.cell_session.specs.Hearing.{HaveHeard};
+ghost use Rattle.cell_session.specs.Lanes.{AreLegal, AreDurable, AreInOrder, AreTogether, AreComplete};
+ghost use Rattle.cell_session.specs.Operations.{HaveOutcomes, HaveFates};
 
 use crate::answering::{Stop, answer_line};
+use crate::asked::states_with;
 use crate::cluster::Cluster;
 use crate::limits::{MOST_BYTES, MOST_LINES};
 use crate::next_command::{Step, next_command};
@@ -22,7 +25,10 @@ use carriers::Carriers;
 use doc_types::Schema;
 use io_ends::{LimitKind, LineReader, Sink, Source, write_all};
 use reports::usage_report;
-use session_lanes::laws::{lanes_are_complete, lanes_are_durable};
+use session_lanes::laws::{
+    hearings_follow_deeds, lanes_are_complete, lanes_are_durable, lines_are_refused_with_cause,
+    lines_fall_short_with_cause,
+};
 use session_settings::{Setting, read_choice};
 use std::alloc::Global;
 use words_line::WordsFault;
@@ -40,28 +46,36 @@ pub fn run_one<S: Source, K: Sink, C: Carriers>(
 ) -> Status
     requires { IsTrue (is_empty cluster.old) }
 
-    // the journals: which are legal, what is kept of them, whether lines overlap, how many there are, what became
-    // of messages
+    // the journals: which are legal, what is kept of them, whether lines overlap, that states, stops and starts come
+    // to all alike, who heard which state, how many there are, what became of messages
     ensures legal_lanes { (c : Choice) → Chooses (map string_bytes words.now) c
         → AreLegal c.setting (journals_of cluster.new) }
     ensures durability { (c : Choice) → Chooses (map string_bytes words.now) c
         → AreDurable c.setting (journals_of cluster.new) }
     ensures lines_in_order { AreInOrder (journals_of cluster.new) }
-    ensures fates { HaveFates (C.plans carriers.old) cluster.new.lanes }
+    ensures state_events { AreTogether (journals_of cluster.new) }
+    ensures hearings { (c : Choice) → Chooses (map string_bytes words.now) c
+        → HaveHeard c.setting c.schema (S.left source.old) cluster.new.dealt cluster.new.lanes }
+    ensures fates { (c : Choice) → Chooses (map string_bytes words.now) c
+        → HaveFates c.schema c.setting.bits (C.plans carriers.old) (S.left source.old) cluster.new.dealt cluster.new.lanes }
     ensures lanes { (c : Choice) → Chooses (map string_bytes words.now) c
         → HasLanes result c.setting (journals_of cluster.new) }
 
-    // the lines: which were dealt with, what each of them did, and the bytes that answer them
+    // the lines: which were dealt with, what each of them did, why it was refused or lacked answers, and the bytes
+    // that answer them
     ensures dealt_with { (c : Choice) → Chooses (map string_bytes words.now) c
-        → IfTold (S.left source.old) (λ text. DealsWith result text cluster.new.dealt (S.left source.new)) }
+        → IfTold (S.left source.old)
+        (λ text. DealsWith result c.schema c.setting.bits text cluster.new.dealt (S.left source.new)) }
     ensures one_outcome { (c : Choice) → Chooses (map string_bytes words.now) c
         → HaveOutcomes c.setting c.schema (S.left source.old) cluster.new.dealt (journals_of cluster.new) }
+    ensures causes { (c : Choice) → Chooses (map string_bytes words.now) c
+        → HaveCauses c.setting c.schema (S.left source.old) cluster.new.dealt cluster.new.lanes }
     ensures completeness { (c : Choice) → Chooses (map string_bytes words.now) c
         → AreComplete c.setting cluster.new.lanes }
     ensures bytes_written { (c : Choice) → Chooses (map string_bytes words.now) c
-        → IfTold (S.left source.old) (λ text. Writes result c.setting
-        (commands_of c.schema text cluster.new.dealt) (journals_of cluster.new)
-        (K.written sink.old) (K.written sink.new)) }
+        → IfTold (S.left source.old) (λ text. OfFirst c.schema c.setting.bits text cluster.new.dealt
+        (λ commands. Writes result c.setting commands cluster.new.lanes
+        (K.written sink.old) (K.written sink.new))) }
 
     // wrong words: the one usage line is written, nothing is read, and the cluster is as it was
     ensures wrong_words { AreWrong (map string_bytes words.now)
@@ -73,7 +87,9 @@ pub fn run_one<S: Source, K: Sink, C: Carriers>(
     ensures usage { result ≡ Status.Usage → AreWrong (map string_bytes words.now)
         × Appends (K.written sink.old) (K.written sink.new) usage_text }
     ensures limit { (which : LimitKind) → result ≡ Status.Limit which
-        → IfTold (S.left source.old) (λ text. PassesLimit which text cluster.new.dealt) }
+        → (c : Choice) × (Chooses (map string_bytes words.now) c
+        × IfTold (S.left source.old) (λ text. OfFirst c.schema c.setting.bits text cluster.new.dealt
+        (PassesLimit which c.schema c.setting.bits text))) }
     ensures read_fault { result ≡ Status.ReadFault
         → HasRisen S.last (S.faults source.old) (S.faults source.new) }
     ensures write_fault { result ≡ Status.WriteFault
@@ -83,6 +99,9 @@ pub fn run_one<S: Source, K: Sink, C: Carriers>(
 {
     lanes_are_durable();
     lanes_are_complete();
+    hearings_follow_deeds();
+    lines_are_refused_with_cause();
+    lines_fall_short_with_cause();
     match read_choice(alloc, words) {
         Ok(choice) => run_lines(
             alloc,
@@ -141,14 +160,20 @@ fn run_lines<S: Source, K: Sink, C: Carriers>(
         return Status::NoMemory;
     };
     let mut line = Vec::new(alloc);
+    let mut states = 0u8;
     loop {
         let step = next_command(alloc, schema, setting.bits, &mut reader, source, &mut line);
         let (number, command) = match step {
             Step::Command { number, command } => (number, command),
             Step::Over { status } => return status,
         };
+        let Some(counted) = states_with(states, &command) else {
+            return Status::Limit {
+                which: LimitKind::States,
+            };
+        };
         match answer_line(alloc, setting, number, command, sink, cluster) {
-            Ok(()) => {}
+            Ok(()) => states = counted,
             Err(Stop::Fault) => return Status::WriteFault,
             Err(Stop::Memory) => return Status::NoMemory,
         }

@@ -1,12 +1,12 @@
 -- The first cause of an operation, by what its parts say.
-use Rattle.std.proofs.Common.{◌≡◌, ℕ, ◌&&◌, Bool, true, false, List, [], ◌∷◌, Option, Some, None, is_some, Ok, Err, refl, sym, ap, subst, ◌∙◌}
+use Rattle.std.proofs.Common.{◌≡◌, ℕ, ◌&&◌, Bool, true, false, List, [], ◌∷◌, Option, Some, None, is_some, Ok, Err, refl, sym, ap, ap₂, subst, ◌∙◌}
 use Rattle.serde_json.specs.Data.{Data, null, boolean, number, string, array, object}
 use Rattle.doc_types.specs.SchemaCodes.{Types}
 use Rattle.conditions.specs.Formulas.{Formula}
 use Rattle.doc_selection.specs.Saying.{selection_in}
 use Rattle.doc_selection.specs.declared.terms.Term.{Term}
 use Rattle.messages.specs.declared.operation.OpKind.{OpKind}
-use Rattle.feed_lines.specs.Meaning.{kind_in, command_in, create_in, answer_by, kind_said, id_said, condition_by, condition_said, cause_by, fault_by, Gives}
+use Rattle.feed_lines.specs.Meaning.{kind_in, feed_in, create_in, via_in, answer_by, kind_said, id_said, condition_by, condition_said, cause_by, fault_by, Gives}
 use Rattle.feed_lines.specs.Tests.{first_cause, Beside, has_type, has_fields, has_values, has_size, has_options, has_condition, condition_in, kind_tests}
 use Rattle.feed_lines.specs.declared.command.Cause.{Cause}
 use Rattle.feed_lines.specs.declared.command.Cause.TheVariants as cause
@@ -59,7 +59,7 @@ pub refused_kind : (types : Types) (v : Verb) (id : List ℕ) (b : Beside) (righ
     → Gives {A = OpKind} (Err why) (kind_said types v id b.fields) → Gives {A = Rattle.feed_lines.specs.declared.command.Command.Command} (Err (fault_by right why)) (id_said types v id b)
 refused_kind types v id b right fault.NoMemory is g = tt
 refused_kind types v id b right (fault.BadLine why) is g =
-    ap (λ o. answer_by o (command_in types v id b))
+    ap (λ o. answer_by o (feed_in types v id b))
     (subst (λ o. of_all (has_type types id) (has_fields types v id b.fields) (has_values types v id b.fields) o (has_size types v id b.fields) (has_condition types b.condition) ≡ Some (cause_by right why)) is
     (first_of_all (has_type types id) (has_fields types v id b.fields) (has_values types v id b.fields) right (has_size types v id b.fields) (has_condition types b.condition) why
     (a_cause (first_cause (kind_tests types v id b.fields)) (kind_in types v id b.fields) why g)))
@@ -67,16 +67,16 @@ refused_kind types v id b right (fault.BadLine why) is g =
 -- a wrong `condition` or `create`
 pub refused_options : (types : Types) (v : Verb) (id : List ℕ) (b : Beside) (k : OpKind) → has_options b ≡ false → kind_said types v id b.fields ≡ Ok k → id_said types v id b ≡ Err cause.Value
 refused_options types v id b k wrong g =
-    ap (λ o. answer_by o (command_in types v id b))
+    ap (λ o. answer_by o (feed_in types v id b))
     (subst (λ o. of_all (has_type types id) (has_fields types v id b.fields) (has_values types v id b.fields) o (has_size types v id b.fields) (has_condition types b.condition) ≡ Some cause.Value) (sym wrong)
     (wrong_options (has_type types id) (has_fields types v id b.fields) (has_values types v id b.fields) (has_size types v id b.fields) (has_condition types b.condition)
     (no_cause (first_cause (kind_tests types v id b.fields)) (kind_in types v id b.fields) k g).0))
 
 -- what is left is the condition
 left_condition : (types : Types) (v : Verb) (id : List ℕ) (b : Beside) (k : OpKind) → has_options b ≡ true → kind_said types v id b.fields ≡ Ok k
-    → id_said types v id b ≡ answer_by (first_cause ((has_condition types b.condition, cause.Condition) ∷ [])) (command_in types v id b)
+    → id_said types v id b ≡ answer_by (first_cause ((has_condition types b.condition, cause.Condition) ∷ [])) (feed_in types v id b)
 left_condition types v id b k right g =
-    ap (λ o. answer_by o (command_in types v id b))
+    ap (λ o. answer_by o (feed_in types v id b))
     (subst (λ o. of_all (has_type types id) (has_fields types v id b.fields) (has_values types v id b.fields) o (has_size types v id b.fields) (has_condition types b.condition) ≡ first_cause ((has_condition types b.condition, cause.Condition) ∷ [])) (sym right)
     (right_options (has_type types id) (has_fields types v id b.fields) (has_values types v id b.fields) (has_size types v id b.fields) (has_condition types b.condition)
     (no_cause (first_cause (kind_tests types v id b.fields)) (kind_in types v id b.fields) k g).0))
@@ -118,15 +118,15 @@ refused_condition types v id b k fault.NoMemory right g h = tt
 refused_condition types v id b k (fault.BadLine why) right g h =
     let wrong = said_wrong types b.condition why h in
     left_condition types v id b k right g
-    ∙ ap (λ t. answer_by (first_cause ((t, cause.Condition) ∷ [])) (command_in types v id b)) wrong.0 ∙ ap Err (sym wrong.1)
+    ∙ ap (λ t. answer_by (first_cause ((t, cause.Condition) ∷ [])) (feed_in types v id b)) wrong.0 ∙ ap Err (sym wrong.1)
 
-pub whole_operation : (types : Types) (v : Verb) (id : List ℕ) (b : Beside) (k : OpKind) (c : Option (Formula Term)) (e : Bool) → has_options b ≡ true → kind_said types v id b.fields ≡ Ok k
-    → condition_said types b.condition ≡ Ok c → e ≡ create_in b.create → id_said types v id b ≡ Ok (command.Feed (record { id = id; kind = k; condition = c; create = e }))
-whole_operation types v id b k c e right g h made =
+pub whole_operation : (types : Types) (v : Verb) (id : List ℕ) (b : Beside) (k : OpKind) (c : Option (Formula Term)) (e : Bool) (via : Option ℕ) → has_options b ≡ true → kind_said types v id b.fields ≡ Ok k
+    → condition_said types b.condition ≡ Ok c → e ≡ create_in b.create → via ≡ via_in b.via → id_said types v id b ≡ Ok (command.Feed (record { id = id; kind = k; condition = c; create = e }) via)
+whole_operation types v id b k c e via right g h made handed =
     let said = said_right types b.condition c h in
     left_condition types v id b k right g
-    ∙ ap (λ t. answer_by (first_cause ((t, cause.Condition) ∷ [])) (command_in types v id b)) said.right
-    ∙ ap (λ o. Ok (command.Feed o)) (same _ _ _ _ _ _ (no_cause (first_cause (kind_tests types v id b.fields)) (kind_in types v id b.fields) k g).1 said.is (sym made))
+    ∙ ap (λ t. answer_by (first_cause ((t, cause.Condition) ∷ [])) (feed_in types v id b)) said.right
+    ∙ ap₂ (λ o w. Ok (command.Feed o w)) (same _ _ _ _ _ _ (no_cause (first_cause (kind_tests types v id b.fields)) (kind_in types v id b.fields) k g).1 said.is (sym made)) (sym handed)
   where
     same : (k l : OpKind) (c f : Option (Formula Term)) (e g : Bool) → k ≡ l → c ≡ f → e ≡ g
         → ◌≡◌ {A = Rattle.messages.specs.declared.operation.Operation.Operation} (record { id = id; kind = k; condition = c; create = e }) (record { id = id; kind = l; condition = f; create = g })

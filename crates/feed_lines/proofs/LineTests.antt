@@ -8,13 +8,18 @@ use Rattle.feed_lines.specs.Keys.{name_of}
 use Rattle.conditions.specs.Formulas.{Formula}
 use Rattle.doc_selection.specs.Saying.{selection_in}
 use Rattle.doc_selection.specs.declared.terms.Term.{Term}
-use Rattle.feed_lines.specs.Lines.{SaysCondition, SaysCreate, IsLine}
-use Rattle.feed_lines.specs.Meaning.{command_in, create_in, or_false, answer_by, verb_said, data_said}
-use Rattle.feed_lines.specs.Tests.{first_cause, verb_of, is_built_verb, is_built, Beside, beside_of, has_wanted, has_right_keys, as_id, id_in, has_type, is_object_in, has_fields, has_values, has_size, is_text_if, is_truth_if, has_options, condition_in, has_condition, text_of, tests}
+use Rattle.feed_lines.specs.Lines.{SaysCondition, SaysCreate, SaysVia, HasVerb, IsLine}
+use Rattle.feed_lines.specs.Meaning.{feed_in, command_in, create_in, via_in, or_false, answer_by, verb_said, data_said}
+use Rattle.feed_lines.specs.Tests.{first_cause, verb_of, is_built, Beside, beside_of, has_wanted, has_right_keys, as_id, id_in, has_type, is_object_in, has_fields, has_values, has_size, is_text_if, is_truth_if, is_node_if, has_options, condition_in, has_condition, text_of, tests}
 use Rattle.feed_lines.specs.declared.command.Cause.{Cause}
 use Rattle.feed_lines.specs.declared.command.Cause.TheVariants as cause
 use Rattle.feed_lines.specs.declared.command.Command.{Command}
+use Rattle.feed_lines.specs.Values.{node_of}
+use Rattle.feed_lines.specs.declared.command.Command.TheVariants as command
 use Rattle.feed_lines.specs.declared.keys.Verb.{Verb}
+use Rattle.feed_lines.specs.declared.keys.LineVerb.{LineVerb}
+use Rattle.feed_lines.specs.declared.keys.LineVerb.TheVariants as line
+use Rattle.messages.specs.declared.operation.Operation.{Operation}
 
 pub left : (a b : Bool) → (a && b) ≡ true → a ≡ true
 left true b h = refl
@@ -40,11 +45,14 @@ others_hold : (b : Bool) (c : Cause) (ts : List (Bool × Cause)) → first_cause
 others_hold true c ts h = h
 others_hold false c ts h = cc
 
--- what all tests of a line say, and what stands beside its verb
+pub some_from : {X : Type 0} (o : Option X) → is_some o ≡ true → (x : X) × (o ≡ Some x)
+some_from None h = cc
+some_from (Some x) h = (x, refl)
+
+-- what all tests of an operation's line say, and what stands beside its verb
 pub record Meets (types : Types) (v : Verb) (d : Data) (id : List ℕ) (b : Beside) : Type 0 where
-  pub verb_built : is_built_verb v ≡ true
   pub wanted : has_wanted v b.fields ≡ true
-  pub line : IsLine types v d id (condition_in types b.condition) (create_in b.create)
+  pub line : IsLine types v d id (condition_in types b.condition) (create_in b.create) (via_in b.via)
   pub there : beside_of d ≡ b
   pub known : has_fields types v id b.fields ≡ true
   pub values : has_values types v id b.fields ≡ true
@@ -87,12 +95,23 @@ can_create : (o : Option Data) (create : Bool) → SaysCreate o create → (is_t
 can_create None create h = (refl, sym h)
 can_create (Some d) create h = (ap (λ x. is_some (as_bool x)) h, ap (λ x. or_false (as_bool x)) h)
 
--- what a line's condition and `create` are
-pub condition_is : (types : Types) (v : Verb) (d : Data) (id : List ℕ) (c : Option (Formula Term)) (e : Bool) → IsLine types v d id c e → condition_in types (beside_of d).condition ≡ c
-condition_is types v d id c e line = (can_say types (beside_of d).condition c line.says_condition).same
+says_via : (o : Option Data) → is_node_if o ≡ true → SaysVia o (via_in o)
+says_via None h = refl
+says_via (Some d) h = let some = some_from (node_of d) h in (some.0, (some.1, some.1))
 
-pub create_is : (types : Types) (v : Verb) (d : Data) (id : List ℕ) (c : Option (Formula Term)) (e : Bool) → IsLine types v d id c e → create_in (beside_of d).create ≡ e
-create_is types v d id c e line = (can_create (beside_of d).create e line.says_create).1
+can_via : (o : Option Data) (via : Option ℕ) → SaysVia o via → (is_node_if o ≡ true) × (via_in o ≡ via)
+can_via None via h = (refl, sym h)
+can_via (Some d) via h = (ap is_some h.1.0, h.1.0 ∙ sym h.1.1)
+
+-- what a line's condition, `create` and `via` are
+pub condition_is : (types : Types) (v : Verb) (d : Data) (id : List ℕ) (c : Option (Formula Term)) (e : Bool) (via : Option ℕ) → IsLine types v d id c e via → condition_in types (beside_of d).condition ≡ c
+condition_is types v d id c e via line = (can_say types (beside_of d).condition c line.says_condition).same
+
+pub create_is : (types : Types) (v : Verb) (d : Data) (id : List ℕ) (c : Option (Formula Term)) (e : Bool) (via : Option ℕ) → IsLine types v d id c e via → create_in (beside_of d).create ≡ e
+create_is types v d id c e via line = (can_create (beside_of d).create e line.says_create).1
+
+pub via_is : (types : Types) (v : Verb) (d : Data) (id : List ℕ) (c : Option (Formula Term)) (e : Bool) (via : Option ℕ) → IsLine types v d id c e via → via_in (beside_of d).via ≡ via
+via_is types v d id c e via line = (can_via (beside_of d).via via line.says_via).1
 
 id_back : (o : Option Data) (id : List ℕ) → as_id (option_and_then as_str o) ≡ Some id → (o ≡ Some (string id)) × (is_ok (parts_of id) ≡ true)
 id_back None id h = cc
@@ -115,10 +134,6 @@ id_from : (v : Verb) (d : Data) (id : List ℕ) → id_in v d ≡ Some id → (g
 unfolding id_in
 id_from v d id h = id_back (get (name_of v) d) id h
 
-some_from : {X : Type 0} (o : Option X) → is_some o ≡ true → (x : X) × (o ≡ Some x)
-some_from None h = cc
-some_from (Some x) h = (x, refl)
-
 each_holds : (a b c e f g h i : Bool) (p q r s t u w x : Cause) → first_cause ((a, p) ∷ (b, q) ∷ (c, r) ∷ (e, s) ∷ (f, t) ∷ (g, u) ∷ (h, w) ∷ (i, x) ∷ []) ≡ None
     → (a ≡ true) × (b ≡ true) × (c ≡ true) × (e ≡ true) × (f ≡ true) × (g ≡ true) × (h ≡ true) × (i ≡ true)
 each_holds a b c e f g h i p q r s t u w x all =
@@ -140,11 +155,11 @@ each_holds a b c e f g h i p q r s t u w x all =
     )
 
 -- the tests all hold, so each does
-pub meets : (types : Types) (v : Verb) (d : Data) → verb_of d ≡ Some v → first_cause (tests types v d) ≡ None → Meets types v d (text_of (id_in v d)) (beside_of d)
-meets types v d verb h =
+pub meets : (types : Types) (bits : ℕ) (v : Verb) (d : Data) → verb_of d ≡ Some (line.Feed v) → first_cause (tests types bits (line.Feed v) d) ≡ None → Meets types v d (text_of (id_in v d)) (beside_of d)
+meets types bits v d verb h =
     let b = beside_of d in
     let id = text_of (id_in v d) in
-    let each = each_holds (is_built v d) (has_right_keys v d) (is_some (id_in v d)) (has_type types id) (has_fields types v id b.fields)
+    let each = each_holds (is_built (line.Feed v)) (has_right_keys (line.Feed v) d) (is_some (id_in v d)) (has_type types id) (has_fields types v id b.fields)
     (has_values types v id b.fields && has_options b) (has_size types v id b.fields) (has_condition types b.condition)
     cause.Unbuilt cause.Key cause.Id cause.Type cause.Field cause.Value cause.Size cause.Condition h in
     let some = some_from (id_in v d) each.2 in
@@ -152,17 +167,15 @@ meets types v d verb h =
     let from = id_from v d some.0 some.1 in
     let options = right _ _ each.5 in
     record {
-      verb_built = left _ _ each.0;
       wanted = right _ _ each.1;
       line = record {
-        verb = verb;
-        built = off _ (right _ _ each.0);
-        keys = left _ _ each.1;
+        has_verb = record { verb = verb; keys = left _ _ each.1 };
         text = from.0 ∙ ap (λ t. Some (string t)) (sym text);
         is_id = ap (λ t. is_ok (parts_of t)) text ∙ from.1;
         typed = each.3;
-        says_condition = says_condition types b.condition (left _ _ options) each.7;
-        says_create = says_create b.create (right _ _ options);
+        says_condition = says_condition types b.condition (left _ _ (left _ _ options)) each.7;
+        says_create = says_create b.create (right _ _ (left _ _ options));
+        says_via = says_via b.via (right _ _ options);
       };
       there = refl;
       known = each.4;
@@ -175,46 +188,71 @@ all_hold : (a b c e f g h i : Bool) (p q r s t u w x : Cause) → a ≡ true →
 all_hold a b c e f g h i p q r s t u w x ha hb hc he hf hg hh hi = rw (ha, hb, hc, he, hf, hg, hh, hi) refl
 
 -- each test holds, so the line says its command
-pub means : (types : Types) (v : Verb) (d : Data) (id : List ℕ) (b : Beside) → Meets types v d id b → data_said types d ≡ Ok (command_in types v id b)
-means types v d id b m =
+pub means : (types : Types) (bits : ℕ) (v : Verb) (d : Data) (id : List ℕ) (b : Beside) → Meets types v d id b → data_said types bits d ≡ Ok (feed_in types v id b)
+means types bits v d id b m =
     let i = id_is v d id m.line.text m.line.is_id in
     let own = beside_of d in
     let said = can_say types own.condition (condition_in types b.condition) m.line.says_condition in
     let made = can_create own.create (create_in b.create) m.line.says_create in
-    let all = all_hold (is_built v d) (has_right_keys v d) (is_some (id_in v d)) (has_type types (text_of (id_in v d))) (has_fields types v (text_of (id_in v d)) own.fields)
+    let handed = can_via own.via (via_in b.via) m.line.says_via in
+    let all = all_hold (is_built (line.Feed v)) (has_right_keys (line.Feed v) d) (is_some (id_in v d)) (has_type types (text_of (id_in v d))) (has_fields types v (text_of (id_in v d)) own.fields)
     (has_values types v (text_of (id_in v d)) own.fields && has_options own) (has_size types v (text_of (id_in v d)) own.fields) (has_condition types own.condition)
-    _ _ _ _ _ _ _ _
-    (ap₂ (λ a b. a && not b) m.verb_built m.line.built)
-    (ap₂ (λ a f. a && has_wanted v f.fields) m.line.keys m.there ∙ m.wanted)
+    cause.Unbuilt cause.Key cause.Id cause.Type cause.Field cause.Value cause.Size cause.Condition
+    refl
+    (ap₂ (λ a f. a && has_wanted v f.fields) m.line.has_verb.keys m.there ∙ m.wanted)
     (ap is_some i)
     (ap (λ o. has_type types (text_of o)) i ∙ m.line.typed)
     (ap₂ (λ o f. has_fields types v (text_of o) f.fields) i m.there ∙ m.known)
-    (ap₂ (λ x y. x && y) (ap₂ (λ o f. has_values types v (text_of o) f.fields) i m.there ∙ m.values) (ap₂ (λ x y. x && y) said.text made.0))
+    (ap₂ (λ x y. x && y) (ap₂ (λ o f. has_values types v (text_of o) f.fields) i m.there ∙ m.values) (ap₂ (λ x y. x && y) (ap₂ (λ x y. x && y) said.text made.0) handed.0))
     (ap₂ (λ o f. has_size types v (text_of o) f.fields) i m.there ∙ m.size)
     said.selection in
-    ap (verb_said types d) m.line.verb ∙ ap (λ c. answer_by c (command_in types v (text_of (id_in v d)) own)) all
-    ∙ ap₂ (λ o f. Ok (command_in types v (text_of o) f)) i m.there
+    ap (verb_said types bits d) m.line.has_verb.verb ∙ ap (λ c. answer_by c (feed_in types v (text_of (id_in v d)) own)) all
+    ∙ ap₂ (λ o f. Ok (feed_in types v (text_of o) f)) i m.there
 
 no_cause : (o : Option Cause) (x c : Command) → answer_by o x ≡ Ok c → (o ≡ None) × (x ≡ c)
 no_cause None x c h = (refl, cc)
 no_cause (Some why) x c h = cc
 
 -- a line that says a command meets all tests of some verb
-pub record Said (types : Types) (d : Data) (c : Command) : Type 0 where
+pub record Said (types : Types) (bits : ℕ) (d : Data) (c : Command) : Type 0 where
+  pub v : LineVerb
+  pub verb : verb_of d ≡ Some v
+  pub holds : first_cause (tests types bits v d) ≡ None
+  pub command : command_in types bits v d ≡ c
+
+said_by : (types : Types) (bits : ℕ) (d : Data) (c : Command) (o : Option LineVerb) → verb_of d ≡ o → verb_said types bits d o ≡ Ok c → Said types bits d c
+said_by types bits d c None verb h = cc
+said_by types bits d c (Some v) verb h =
+    let found = no_cause (first_cause (tests types bits v d)) _ c h in
+    record { v = v; verb = verb; holds = found.0; command = found.1 }
+
+pub said : (types : Types) (bits : ℕ) (d : Data) (c : Command) → data_said types bits d ≡ Ok c → Said types bits d c
+said types bits d c h = said_by types bits d c (verb_of d) refl h
+
+-- and back
+pub says : (types : Types) (bits : ℕ) (v : LineVerb) (d : Data) → verb_of d ≡ Some v → first_cause (tests types bits v d) ≡ None → data_said types bits d ≡ Ok (command_in types bits v d)
+says types bits v d verb holds = ap (verb_said types bits d) verb ∙ ap (λ c. answer_by c (command_in types bits v d)) holds
+
+-- a line that says an operation meets all tests of an operation's verb
+pub record Fed (types : Types) (d : Data) (c : Command) : Type 0 where
   pub v : Verb
   pub id : List ℕ
   pub beside : Beside
   pub holds : Meets types v d id beside
-  pub command : command_in types v id beside ≡ c
+  pub command : feed_in types v id beside ≡ c
 
-said_by : (types : Types) (d : Data) (c : Command) (o : Option Verb) → verb_of d ≡ o → verb_said types d o ≡ Ok c → Said types d c
-said_by types d c None verb h = cc
-said_by types d c (Some v) verb h =
-    let found = no_cause (first_cause (tests types v d)) _ c h in
-    record { v = v; id = text_of (id_in v d); beside = beside_of d; holds = meets types v d verb found.0; command = found.1 }
+fed_by : (types : Types) (bits : ℕ) (d : Data) (o : Operation) (via : Option ℕ) (v : LineVerb) → verb_of d ≡ Some v → first_cause (tests types bits v d) ≡ None
+    → command_in types bits v d ≡ command.Feed o via → Fed types d (command.Feed o via)
+fed_by types bits d o via (line.Feed v) verb holds is =
+    record { v = v; id = text_of (id_in v d); beside = beside_of d; holds = meets types bits v d verb holds; command = is }
+fed_by types bits d o via line.State verb holds is = cc
+fed_by types bits d o via line.Stop verb holds is = cc
+fed_by types bits d o via line.Start verb holds is = cc
+fed_by types bits d o via line.Net verb holds is = cc
+fed_by types bits d o via line.Later verb holds is = cc
 
-pub said : (types : Types) (d : Data) (c : Command) → data_said types d ≡ Ok c → Said types d c
-said types d c h = said_by types d c (verb_of d) refl h
+pub fed : (types : Types) (bits : ℕ) (d : Data) (o : Operation) (via : Option ℕ) → data_said types bits d ≡ Ok (command.Feed o via) → Fed types d (command.Feed o via)
+fed types bits d o via h = let s = said types bits d _ h in fed_by types bits d o via s.v s.verb s.holds s.command
 
 pub object_from : (f : Option Data) → is_object_in f ≡ true → (ms : Members) × (f ≡ Some (object ms))
 object_from None h = cc

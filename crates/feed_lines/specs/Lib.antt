@@ -1,5 +1,6 @@
--- A reader begins with Tests and Meaning; Lines says what a put and an update are in one record each.
+-- A reader begins with Tests and Meaning; Lines says what each kind of line is in one record.
 pub mod Keys
+pub mod Values
 pub mod Tests
 pub mod Meaning
 pub mod Lines

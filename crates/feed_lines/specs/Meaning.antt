@@ -1,5 +1,5 @@
 -- What a line asks for, or its cause.
-use Rattle.std.specs.Prelude.{◌==◌, ◌&&◌, ◌||◌, ◌≡◌, ℕ, Bool, true, false, List, length, Option, Some, None, Result, Ok, Err, nat_le, if◌then◌else◌}
+use Rattle.std.specs.Prelude.{◌==◌, ◌&&◌, ◌||◌, ◌≡◌, ℕ, Bool, true, false, List, [], codes, length, option_and_then, Option, Some, None, Result, Ok, Err, nat_le, if◌then◌else◌}
 use Rattle.std.specs.List.{list_all}
 use Rattle.std.specs.Str.{is_utf8}
 use Rattle.serde_json.specs.Data.{Data}
@@ -17,7 +17,9 @@ use Rattle.io_ends.specs.declared.sizes.TheConstants.{LONGEST}
 use Rattle.messages.specs.declared.operation.Operation.{Operation}
 use Rattle.messages.specs.declared.operation.OpKind.{OpKind}
 use Rattle.messages.specs.declared.operation.OpKind.TheVariants as kind
-use Rattle.feed_lines.specs.Tests.{first_cause, verb_of, id_in, Beside, beside_of, said_in, kinds_for, condition_in, kind_tests, id_tests, text_of, tests}
+use Rattle.carriers.specs.declared.fate.Fate.{Fate}
+use Rattle.feed_lines.specs.Values.{node_of}
+use Rattle.feed_lines.specs.Tests.{first_cause, verb_of, id_in, Beside, beside_of, said_in, kinds_for, condition_in, kind_tests, id_tests, feed_tests, own_tests, state_in, deaf_in, node_in, lane_in, fates_in, text_of, tests}
 use Rattle.feed_lines.specs.declared.command.Cause.{Cause}
 use Rattle.feed_lines.specs.declared.command.Cause.TheVariants as cause
 use Rattle.feed_lines.specs.declared.command.Command.{Command}
@@ -26,6 +28,8 @@ use Rattle.feed_lines.specs.declared.command.LineFault.{LineFault}
 use Rattle.feed_lines.specs.declared.command.LineFault.TheVariants as fault
 use Rattle.feed_lines.specs.declared.keys.Verb.{Verb}
 use Rattle.feed_lines.specs.declared.keys.Verb.TheVariants as verb
+use Rattle.feed_lines.specs.declared.keys.LineVerb.{LineVerb}
+use Rattle.feed_lines.specs.declared.keys.LineVerb.TheVariants as line
 
 -- a space, a tab or CR
 abbrev pub is_blank : ℕ → Bool
@@ -40,7 +44,6 @@ kind_in types verb.Put id fields = kind.Put (record { id = id; fields = fields_i
 kind_in types verb.Update id fields = kind.Update (changes_in (kinds_for types id) (said_in fields))
 kind_in types verb.Remove id fields = kind.Remove
 kind_in types verb.Get id fields = kind.Get
-kind_in types verb.Later id fields = kind.Get
 
 abbrev pub or_false : Option Bool → Bool
 or_false None = false
@@ -53,8 +56,29 @@ create_in (Some d) = or_false (as_bool d)
 abbrev pub operation_in : Types → Verb → List ℕ → Beside → Operation
 operation_in types v id b = record { id = id; kind = kind_in types v id b.fields; condition = condition_in types b.condition; create = create_in b.create }
 
-abbrev pub command_in : Types → Verb → List ℕ → Beside → Command
-command_in types v id b = command.Feed (operation_in types v id b)
+-- the distributor that an operation is handed to; none is named where `via` isn't there
+abbrev pub via_in : Option Data → Option ℕ
+via_in via = option_and_then node_of via
+
+abbrev pub feed_in : Types → Verb → List ℕ → Beside → Command
+feed_in types v id b = command.Feed (operation_in types v id b) (via_in b.via)
+
+abbrev pub number_of : Option ℕ → ℕ
+number_of None = 0
+number_of (Some n) = n
+
+abbrev pub list_of : {A : Type 0} → Option (List A) → List A
+list_of None = []
+list_of (Some xs) = xs
+
+-- what a line of a verb asks for, where it meets all tests
+abbrev pub command_in : Types → ℕ → LineVerb → Data → Command
+command_in types bits (line.Feed v) d = feed_in types v (text_of (id_in v d)) (beside_of d)
+command_in types bits line.State d = command.State (text_of (state_in d)) (number_of (deaf_in d))
+command_in types bits line.Stop d = command.Stop (number_of (node_in (codes "stop") d))
+command_in types bits line.Start d = command.Start (number_of (node_in (codes "start") d))
+command_in types bits line.Net d = command.Net (number_of (lane_in bits d)) (list_of (fates_in d))
+command_in types bits line.Later d = command.Blank
 
 abbrev pub answer_by : {A : Type 0} → Option Cause → A → Result A Cause
 answer_by None c = Ok c
@@ -91,25 +115,52 @@ fault_by right (fault.BadLine why) = fault.BadLine (cause_by right why)
 fault_by right fault.NoMemory = fault.NoMemory
 
 abbrev pub id_said : Types → Verb → List ℕ → Beside → Result Command Cause
-id_said types v id b = answer_by (first_cause (id_tests types v id b)) (command_in types v id b)
+id_said types v id b = answer_by (first_cause (id_tests types v id b)) (feed_in types v id b)
 
-abbrev pub verb_said : Types → Data → Option Verb → Result Command Cause
-verb_said types d None = Err cause.Object
-verb_said types d (Some v) = answer_by (first_cause (tests types v d)) (command_in types v (text_of (id_in v d)) (beside_of d))
+-- what an operation, a state, a stop, a start and a plan of messages say behind their keys
+abbrev pub feed_said : Types → Verb → Data → Result Command Cause
+feed_said types v d = answer_by (first_cause (feed_tests types v d)) (feed_in types v (text_of (id_in v d)) (beside_of d))
 
-abbrev pub data_said : Types → Data → Result Command Cause
-data_said types d = verb_said types d (verb_of d)
+abbrev pub state_said : Option (List ℕ) → Option ℕ → Result Command Cause
+state_said (Some text) (Some deaf) = Ok (command.State text deaf)
+state_said (Some text) None = Err cause.Value
+state_said None deaf = Err cause.Value
 
-abbrev pub json_said : Types → Option Data → Result Command Cause
-json_said types None = Err cause.Json
-json_said types (Some d) = data_said types d
+abbrev pub stop_said : Option ℕ → Result Command Cause
+stop_said (Some node) = Ok (command.Stop node)
+stop_said None = Err cause.Value
 
-unfoldable pub text_said : Types → List ℕ → Result Command Cause
-text_said types bytes = if is_utf8 bytes then json_said types (read bytes) else Err cause.Json
+abbrev pub start_said : Option ℕ → Result Command Cause
+start_said (Some node) = Ok (command.Start node)
+start_said None = Err cause.Value
 
--- what a line says under a schema
-unfoldable pub line_said : Types → List ℕ → Result Command Cause
-line_said types bytes = if is_blank_line bytes then Ok command.Blank else text_said types bytes
+abbrev pub net_said : Option ℕ → Option (List Fate) → Result Command Cause
+net_said (Some lane) (Some fates) = Ok (command.Net lane fates)
+net_said (Some lane) None = Err cause.Value
+net_said None fates = Err cause.Value
+
+-- what a line of a verb says that has the right keys
+abbrev pub own_said : Types → ℕ → LineVerb → Data → Result Command Cause
+own_said types bits v d = answer_by (first_cause (own_tests types bits v d)) (command_in types bits v d)
+
+-- what a line of a verb says: the cause of the first test that it fails, or its command
+abbrev pub verb_said : Types → ℕ → Data → Option LineVerb → Result Command Cause
+verb_said types bits d None = Err cause.Object
+verb_said types bits d (Some v) = answer_by (first_cause (tests types bits v d)) (command_in types bits v d)
+
+abbrev pub data_said : Types → ℕ → Data → Result Command Cause
+data_said types bits d = verb_said types bits d (verb_of d)
+
+abbrev pub json_said : Types → ℕ → Option Data → Result Command Cause
+json_said types bits None = Err cause.Json
+json_said types bits (Some d) = data_said types bits d
+
+unfoldable pub text_said : Types → ℕ → List ℕ → Result Command Cause
+text_said types bits bytes = if is_utf8 bytes then json_said types bits (read bytes) else Err cause.Json
+
+-- what a line says under a schema in a session of 2^bits lanes
+unfoldable pub line_said : Types → ℕ → List ℕ → Result Command Cause
+line_said types bits bytes = if is_blank_line bytes then Ok command.Blank else text_said types bits bytes
 
 -- an answer of a call is what is said; want of memory alone is free
 abbrev pub Gives : {A : Type 0} → Result A LineFault → Result A Cause → Type 0

@@ -13,11 +13,15 @@ use Rattle.doc_updates.specs.Updates as update
 use Rattle.conditions.specs.Formulas.{Formula}
 use Rattle.doc_selection.specs.Saying.{selection_in}
 use Rattle.doc_selection.specs.declared.terms.Term.{Term}
-use Rattle.feed_lines.specs.Keys.{only_verb, has_later_key, name_of, all_stand}
+use Rattle.feed_lines.specs.Keys.{only_verb, name_of, all_stand, are_net_keys}
+use Rattle.feed_lines.specs.Values.{node_of, lane_of, set_said, fates_of}
 use Rattle.feed_lines.specs.declared.command.Cause.{Cause}
 use Rattle.feed_lines.specs.declared.command.Cause.TheVariants as cause
 use Rattle.feed_lines.specs.declared.keys.Verb.{Verb}
 use Rattle.feed_lines.specs.declared.keys.Verb.TheVariants as verb
+use Rattle.feed_lines.specs.declared.keys.LineVerb.{LineVerb}
+use Rattle.feed_lines.specs.declared.keys.LineVerb.TheVariants as line
+use Rattle.carriers.specs.declared.fate.Fate.{Fate}
 
 -- the first test that fails gives its cause
 abbrev pub first_cause : List (Bool × Cause) → Option Cause
@@ -29,19 +33,17 @@ abbrev pub members_of : Data → Members
 members_of d = members_in (as_object d)
 
 -- the line's verb, where it is an object with exactly one
-abbrev pub verb_of : Data → Option Verb
+abbrev pub verb_of : Data → Option LineVerb
 verb_of d = only_verb (members_of d)
 
-abbrev pub is_built_verb : Verb → Bool
-is_built_verb verb.Put = true
-is_built_verb verb.Update = true
-is_built_verb verb.Remove = true
-is_built_verb verb.Get = true
-is_built_verb verb.Later = false
-
--- neither the verb nor a key is of lines that aren't built yet
-abbrev pub is_built : Verb → Data → Bool
-is_built v d = is_built_verb v && not (has_later_key (members_of d))
+-- the verb is none of lines that aren't built yet
+abbrev pub is_built : LineVerb → Bool
+is_built (line.Feed v) = true
+is_built line.State = true
+is_built line.Stop = true
+is_built line.Start = true
+is_built line.Net = true
+is_built line.Later = false
 
 -- the value of `fields`
 abbrev pub fields_of : Data → Option Data
@@ -52,11 +54,34 @@ has_wanted verb.Put fields = is_some fields
 has_wanted verb.Update fields = is_some fields
 has_wanted verb.Remove fields = true
 has_wanted verb.Get fields = true
-has_wanted verb.Later fields = true
 
--- no key but the verb's own, and `fields` where it is wanted
-abbrev pub has_right_keys : Verb → Data → Bool
-has_right_keys v d = all_stand v (members_of d) && has_wanted v (fields_of d)
+-- what the object of `net` says
+abbrev pub net_of : Data → Option Data
+net_of d = get (codes "net") d
+
+abbrev pub net_members : Option Data → Members
+net_members None = no_members
+net_members (Some net) = members_of net
+
+abbrev pub in_net : List ℕ → Option Data → Option Data
+in_net key net = option_and_then (get key) net
+
+-- the object of `net` has `lane`, `fates` and nothing else
+abbrev pub has_net_keys : Option Data → Bool
+has_net_keys net = are_net_keys (net_members net) && is_some (in_net (codes "lane") net) && is_some (in_net (codes "fates") net)
+
+-- the keys that the verb wants
+abbrev pub has_own_keys : LineVerb → Data → Bool
+has_own_keys (line.Feed v) d = has_wanted v (fields_of d)
+has_own_keys line.State d = true
+has_own_keys line.Stop d = true
+has_own_keys line.Start d = true
+has_own_keys line.Net d = has_net_keys (net_of d)
+has_own_keys line.Later d = true
+
+-- no key but the verb's own, and those that are wanted
+abbrev pub has_right_keys : LineVerb → Data → Bool
+has_right_keys v d = all_stand v (members_of d) && has_own_keys v d
 
 -- the verb's value, where it is the text of a document id
 abbrev pub as_id : Option (List ℕ) → Option (List ℕ)
@@ -87,7 +112,6 @@ has_fields types verb.Put id fields = are_known types id fields
 has_fields types verb.Update id fields = are_known types id fields
 has_fields types verb.Remove id fields = true
 has_fields types verb.Get id fields = true
-has_fields types verb.Later id fields = true
 
 abbrev pub is_object_in : Option Data → Bool
 is_object_in None = false
@@ -99,7 +123,6 @@ has_values types verb.Put id fields = is_object_in fields && not (is_some (first
 has_values types verb.Update id fields = is_object_in fields && not (is_some (first_name (update.is_wrong (kinds_for types id)) (said_in fields)))
 has_values types verb.Remove id fields = true
 has_values types verb.Get id fields = true
-has_values types verb.Later id fields = true
 
 -- the document of a put isn't too large
 abbrev pub has_size : Types → Verb → List ℕ → Option Data → Bool
@@ -107,16 +130,16 @@ has_size types verb.Put id fields = not (nat_lt largest (size_of (fields_in (kin
 has_size types verb.Update id fields = true
 has_size types verb.Remove id fields = true
 has_size types verb.Get id fields = true
-has_size types verb.Later id fields = true
 
 -- what stands beside the verb
 pub record Beside : Type 0 where
   pub fields : Option Data
   pub condition : Option Data
   pub create : Option Data
+  pub via : Option Data
 
 abbrev pub beside_of : Data → Beside
-beside_of d = record { fields = fields_of d; condition = get (codes "condition") d; create = get (codes "create") d }
+beside_of d = record { fields = fields_of d; condition = get (codes "condition") d; create = get (codes "create") d; via = get (codes "via") d }
 
 abbrev pub is_text_if : Option Data → Bool
 is_text_if None = true
@@ -126,9 +149,13 @@ abbrev pub is_truth_if : Option Data → Bool
 is_truth_if None = true
 is_truth_if (Some d) = is_some (as_bool d)
 
--- where they are there, `condition` is a text and `create` a truth value
+abbrev pub is_node_if : Option Data → Bool
+is_node_if None = true
+is_node_if (Some d) = is_some (node_of d)
+
+-- where they are there, `condition` is a text, `create` a truth value and `via` the number of a distributor
 abbrev pub has_options : Beside → Bool
-has_options b = is_text_if b.condition && is_truth_if b.create
+has_options b = is_text_if b.condition && is_truth_if b.create && is_node_if b.via
 
 -- the selection that `condition` says
 abbrev pub condition_in : Types → Option Data → Option (Formula Term)
@@ -155,7 +182,38 @@ abbrev pub text_of : Option (List ℕ) → List ℕ
 text_of None = []
 text_of (Some text) = text
 
+-- what an operation has to meet
+abbrev pub feed_tests : Types → Verb → Data → List (Bool × Cause)
+feed_tests types v d = (is_some (id_in v d), cause.Id) ∷ id_tests types v (text_of (id_in v d)) (beside_of d)
+
+-- a state's text
+abbrev pub state_in : Data → Option (List ℕ)
+state_in d = option_and_then as_str (get (codes "state") d)
+
+-- the distributors that don't hear of a state
+abbrev pub deaf_in : Data → Option ℕ
+deaf_in d = set_said (get (codes "deaf") d)
+
+-- the node that is stopped or started
+abbrev pub node_in : List ℕ → Data → Option ℕ
+node_in key d = option_and_then node_of (get key d)
+
+-- the lane whose messages are planned, one of 2^bits, and their fates
+abbrev pub lane_in : ℕ → Data → Option ℕ
+lane_in bits d = option_and_then (lane_of bits) (in_net (codes "lane") (net_of d))
+
+abbrev pub fates_in : Data → Option (List Fate)
+fates_in d = option_and_then fates_of (in_net (codes "fates") (net_of d))
+
+-- what else a line of a verb has to meet
+abbrev pub own_tests : Types → ℕ → LineVerb → Data → List (Bool × Cause)
+own_tests types bits (line.Feed v) d = feed_tests types v d
+own_tests types bits line.State d = (is_some (state_in d) && is_some (deaf_in d), cause.Value) ∷ []
+own_tests types bits line.Stop d = (is_some (node_in (codes "stop") d), cause.Value) ∷ []
+own_tests types bits line.Start d = (is_some (node_in (codes "start") d), cause.Value) ∷ []
+own_tests types bits line.Net d = (is_some (lane_in bits d) && is_some (fates_in d), cause.Value) ∷ []
+own_tests types bits line.Later d = []
+
 -- what a line of a verb has to meet
-abbrev pub tests : Types → Verb → Data → List (Bool × Cause)
-tests types v d = (is_built v d, cause.Unbuilt) ∷ (has_right_keys v d, cause.Key) ∷ (is_some (id_in v d), cause.Id)
-    ∷ id_tests types v (text_of (id_in v d)) (beside_of d)
+abbrev pub tests : Types → ℕ → LineVerb → Data → List (Bool × Cause)
+tests types bits v d = (is_built v, cause.Unbuilt) ∷ (has_right_keys v d, cause.Key) ∷ own_tests types bits v d

@@ -1,18 +1,41 @@
 ghost use Rattle.std.specs.Prelude.{◌≡◌};
 ghost use Rattle.feed_lines.specs.declared.command.LineFault.TheVariants as line_fault;
 
+use carriers::FateList;
 use messages::Operation;
+use node_sets::NodeSet;
 use std::alloc::AllocError;
 use thiserror::Error;
-use value_lists::NoMemory;
+use value_lists::{NoMemory, TextValue};
 
 /// What a line asks for.
 #[derive(Debug, Drop)]
 pub enum Command {
     /// Nothing: it has at most 65,536 bytes, which are spaces, tabs and CR alone.
     Blank,
-    /// An operation on one document.
-    Feed { operation: Operation },
+    /// An operation on one document, handed to this distributor, if one is named.
+    Feed {
+        operation: Operation,
+        via: Option<u8>,
+    },
+    /// The state that a text says is published, and these distributors don't hear of it.
+    State {
+        text: TextValue,
+        deaf: NodeSet,
+    },
+    /// A node stops.
+    Stop {
+        node: u8,
+    },
+    /// A node starts.
+    Start {
+        node: u8,
+    },
+    /// What becomes of the coming messages of a lane.
+    Net {
+        lane: u8,
+        fates: FateList,
+    },
 }
 
 /// Why a line is bad; of the causes that a line has, the first in this order.
@@ -22,9 +45,9 @@ pub enum Cause {
     Json,
     /// The value isn't an object with exactly one verb.
     Object,
-    /// The verb or a key is of lines that aren't built yet.
+    /// The verb is of lines that aren't built yet.
     Unbuilt,
-    /// A key isn't the verb's, or `fields` is missing.
+    /// A key isn't the verb's, or `fields`, `lane` or `fates` is missing.
     Key,
     /// The id isn't a text, or is no document id.
     Id,
@@ -32,7 +55,7 @@ pub enum Cause {
     Type,
     /// A name in `fields` isn't a field of the type.
     Field,
-    /// `fields`, one of its values, `condition` or `create` has the wrong form, kind or range.
+    /// Another value has the wrong form, kind or range.
     Value,
     /// The document would have more than 65,536 bytes.
     Size,

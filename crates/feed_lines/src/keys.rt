@@ -1,16 +1,26 @@
 ghost use Rattle.std.specs.Prelude.{◌≡◌};
 ghost use Rattle.serde_json.specs.View.{members_view};
-ghost use Rattle.feed_lines.specs.Keys.{is_later_verb, verb_named, only_verb, is_later_key, has_later_key, stands_beside_fields, may_stand, all_stand, name_of};
+ghost use Rattle.feed_lines.specs.Keys.{is_later_verb, other_verb, verb_named, only_verb, stands_beside_fields, may_stand_with, may_stand, all_stand, is_net_key, are_net_keys, name_of};
 
 use serde_json::{Map, Value};
 
-/// What a line does; `Later` are the verbs that aren't built yet.
+/// What is done with a document.
 #[derive(Clone, Copy, Debug, PartialEq, Eq)]
 pub enum Verb {
     Put,
     Update,
     Remove,
     Get,
+}
+
+/// What a line does; `Later` are the verbs that aren't built yet.
+#[derive(Clone, Copy, Debug, PartialEq, Eq)]
+pub enum LineVerb {
+    Feed(Verb),
+    State,
+    Stop,
+    Start,
+    Net,
     Later,
 }
 
@@ -18,40 +28,52 @@ pub enum Verb {
 fn is_later_verb(key: &str) -> bool
     ensures { result ≡ is_later_verb key.now }
 {
-    key == "search"
-        || key == "state"
-        || key == "maintain"
-        || key == "barrier"
-        || key == "stop"
-        || key == "start"
-        || key == "net"
+    key == "search" || key == "maintain" || key == "barrier"
 }
 
-/// The verb that a key is, if it is one.
-#[tactic(auto, unfolding(crate::specs::Keys::verb_named))]
-fn verb_named(key: &str) -> Option<Verb>
-    ensures { result ≡ verb_named key.now }
+/// The verb that a key is, if it is one that asks for no document.
+#[tactic(auto, unfolding(crate::specs::Keys::other_verb))]
+fn other_verb(key: &str) -> Option<LineVerb>
+    ensures { result ≡ other_verb key.now }
 {
-    if key == "put" {
-        Some(Verb::Put)
-    } else if key == "update" {
-        Some(Verb::Update)
-    } else if key == "remove" {
-        Some(Verb::Remove)
-    } else if key == "get" {
-        Some(Verb::Get)
+    if key == "state" {
+        Some(LineVerb::State)
+    } else if key == "stop" {
+        Some(LineVerb::Stop)
+    } else if key == "start" {
+        Some(LineVerb::Start)
+    } else if key == "net" {
+        Some(LineVerb::Net)
     } else if is_later_verb(key) {
-        Some(Verb::Later)
+        Some(LineVerb::Later)
     } else {
         None
     }
 }
 
+/// The verb that a key is, if it is one.
+#[tactic(auto, unfolding(crate::specs::Keys::verb_named))]
+fn verb_named(key: &str) -> Option<LineVerb>
+    ensures { result ≡ verb_named key.now }
+{
+    if key == "put" {
+        Some(LineVerb::Feed(Verb::Put))
+    } else if key == "update" {
+        Some(LineVerb::Feed(Verb::Update))
+    } else if key == "remove" {
+        Some(LineVerb::Feed(Verb::Remove))
+    } else if key == "get" {
+        Some(LineVerb::Feed(Verb::Get))
+    } else {
+        other_verb(key)
+    }
+}
+
 /// The one verb among the keys of an object that has exactly one.
-pub fn only_verb(members: &Map<String, Value>) -> Option<Verb>
+pub fn only_verb(members: &Map<String, Value>) -> Option<LineVerb>
     ensures { result ≡ only_verb (members_view members.now.entries) }
 {
-    let mut found: Option<Verb> = None;
+    let mut found: Option<LineVerb> = None;
     for (key, _value) in members {
         if let Some(verb) = verb_named(key.as_str()) {
             if found.is_some() {
@@ -63,27 +85,7 @@ pub fn only_verb(members: &Map<String, Value>) -> Option<Verb>
     found
 }
 
-/// Whether a key is of lines that aren't built yet.
-#[tactic(auto, unfolding(crate::specs::Keys::is_later_key))]
-fn is_later_key(key: &str) -> bool
-    ensures { result ≡ is_later_key key.now }
-{
-    key == "via" || key == "deaf"
-}
-
-/// Whether an object has a key of lines that aren't built yet.
-pub fn has_later_key(members: &Map<String, Value>) -> bool
-    ensures { result ≡ has_later_key (members_view members.now.entries) }
-{
-    for (key, _value) in members {
-        if is_later_key(key.as_str()) {
-            return true;
-        }
-    }
-    false
-}
-
-/// The key of a verb.
+/// The key of an operation's verb.
 pub fn name_of(verb: Verb) -> &'static str
     ensures { result.now ≡ name_of verb }
 {
@@ -92,7 +94,6 @@ pub fn name_of(verb: Verb) -> &'static str
         Verb::Update => "update",
         Verb::Remove => "remove",
         Verb::Get => "get",
-        Verb::Later => "",
     }
 }
 
@@ -100,29 +101,63 @@ pub fn name_of(verb: Verb) -> &'static str
 fn stands_beside_fields(key: &str) -> bool
     ensures { result ≡ stands_beside_fields key.now }
 {
-    key == "fields" || key == "condition" || key == "create"
+    key == "fields" || key == "condition" || key == "create" || key == "via"
 }
 
-/// Whether a key may stand in a line of a verb.
-#[tactic(auto, unfolding(crate::specs::Keys::may_stand))]
-fn may_stand(verb: Verb, key: &str) -> bool
-    ensures { result ≡ may_stand verb key.now }
+/// Whether a key may stand in the line of an operation.
+#[tactic(auto, unfolding(crate::specs::Keys::may_stand_with))]
+fn may_stand_with(verb: Verb, key: &str) -> bool
+    ensures { result ≡ may_stand_with verb key.now }
 {
     match verb {
         Verb::Put => key == "put" || stands_beside_fields(key),
         Verb::Update => key == "update" || stands_beside_fields(key),
-        Verb::Remove => key == "remove" || key == "condition",
-        Verb::Get => key == "get",
-        Verb::Later => true,
+        Verb::Remove => key == "remove" || key == "condition" || key == "via",
+        Verb::Get => key == "get" || key == "via",
+    }
+}
+
+/// Whether a key may stand in a line of a verb.
+#[tactic(auto, unfolding(crate::specs::Keys::may_stand))]
+fn may_stand(verb: LineVerb, key: &str) -> bool
+    ensures { result ≡ may_stand verb key.now }
+{
+    match verb {
+        LineVerb::Feed(verb) => may_stand_with(verb, key),
+        LineVerb::State => key == "state" || key == "deaf",
+        LineVerb::Stop => key == "stop",
+        LineVerb::Start => key == "start",
+        LineVerb::Net => key == "net",
+        LineVerb::Later => true,
     }
 }
 
 /// Whether all keys may stand in a line of a verb.
-pub fn all_stand(verb: Verb, members: &Map<String, Value>) -> bool
+pub fn all_stand(verb: LineVerb, members: &Map<String, Value>) -> bool
     ensures { result ≡ all_stand verb (members_view members.now.entries) }
 {
     for (key, _value) in members {
         if !may_stand(verb, key.as_str()) {
+            return false;
+        }
+    }
+    true
+}
+
+/// Whether a key may stand in the object of `net`.
+#[tactic(auto, unfolding(crate::specs::Keys::is_net_key))]
+fn is_net_key(key: &str) -> bool
+    ensures { result ≡ is_net_key key.now }
+{
+    key == "lane" || key == "fates"
+}
+
+/// Whether all keys may stand in the object of `net`.
+pub fn are_net_keys(members: &Map<String, Value>) -> bool
+    ensures { result ≡ are_net_keys (members_view members.now.entries) }
+{
+    for (key, _value) in members {
+        if !is_net_key(key.as_str()) {
             return false;
         }
     }

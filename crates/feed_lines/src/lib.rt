@@ -10,16 +10,23 @@
 //! {"update":"id:ns:music:n=0:a","fields":{"year":{"increment":1}}}
 //! {"put":"id:ns:music:n=0:a","fields":{"year":2},"condition":"music.year == 1","create":true}
 //! {"remove":"id:ns:music:n=0:a","condition":"music.year < 1950"}
-//! {"get":"id:ns:music:n=0:a"}
+//! {"get":"id:ns:music:n=0:a","via":1}
+//! {"state":"version:2 distributor:2 storage:4 storage.3.s:d","deaf":[1]}
+//! {"stop":3}
+//! {"start":3}
+//! {"net":{"lane":0,"fates":["deliver","lose_request","lose_reply","twice",{"late":2}]}}
 //! ```
 #![tactic(auto)]
 
 pub mod command;
 mod keys;
 pub mod laws;
+mod operations;
 mod options;
 mod reading;
+mod settings;
 mod shape;
+mod values;
 
 pub use command::{Cause, Command, LineFault};
 pub use reading::read_line;

@@ -1,14 +1,23 @@
 ghost use Rattle.std.specs.Prelude.{◌≡◌, ◌&&◌, Some, option_map};
 ghost use Rattle.serde_json.specs.Find.{as_bool, as_str};
 ghost use Rattle.serde_json.specs.View.{view};
-ghost use Rattle.feed_lines.specs.Meaning.{or_false, create_in, text_condition, condition_said, before_size, cause_by, fault_by, Gives};
-ghost use Rattle.feed_lines.specs.Tests.{is_text_if, is_truth_if};
+ghost use Rattle.feed_lines.specs.Meaning.{or_false, create_in, via_in, text_condition, condition_said, before_size, cause_by, fault_by, Gives};
+ghost use Rattle.feed_lines.specs.declared.command.LineFault.TheVariants as line_fault;
+ghost use Rattle.feed_lines.specs.Tests.{is_text_if, is_truth_if, is_node_if};
 
 use crate::command::{Cause, LineFault};
+use crate::values::node_of;
 use doc_selection::{Selection, SelectionFault};
 use doc_types::Schema;
 use serde_json::Value;
 use std::alloc::Global;
+
+/// A bad line of this cause.
+pub fn bad(cause: Cause) -> LineFault
+    ensures { result ≡ line_fault.BadLine cause }
+{
+    LineFault::BadLine { cause }
+}
 
 /// Whether a value is a text, if it is there.
 fn is_text_if(value: Option<&Value>) -> bool
@@ -30,12 +39,34 @@ fn is_truth_if(value: Option<&Value>) -> bool
     }
 }
 
-/// Whether what `condition` and `create` say is a text and a truth value, where they are there.
-pub fn are_options(condition: Option<&Value>, create: Option<&Value>) -> bool
-    ensures { result ≡ (is_text_if (option_map (λ v. view v.now) condition.entry)
-        && is_truth_if (option_map (λ v. view v.now) create.entry)) }
+/// Whether a value is the number of a distributor, if it is there.
+fn is_node_if(value: Option<&Value>) -> bool
+    ensures { result ≡ is_node_if (option_map (λ v. view v.now) value.entry) }
 {
-    is_text_if(condition) && is_truth_if(create)
+    match value {
+        Some(value) => node_of(value).is_some(),
+        None => true,
+    }
+}
+
+/// Whether what `condition`, `create` and `via` say is a text, a truth value and the number of a distributor,
+/// where they are there.
+pub fn are_options(condition: Option<&Value>, create: Option<&Value>, via: Option<&Value>) -> bool
+    ensures { result ≡ (is_text_if (option_map (λ v. view v.now) condition.entry)
+        && is_truth_if (option_map (λ v. view v.now) create.entry)
+        && is_node_if (option_map (λ v. view v.now) via.entry)) }
+{
+    is_text_if(condition) && is_truth_if(create) && is_node_if(via)
+}
+
+/// The distributor that `via` names; none where it isn't there.
+pub fn via_in(value: Option<&Value>) -> Option<u8>
+    ensures { result ≡ via_in (option_map (λ v. view v.now) value.entry) }
+{
+    match value {
+        Some(value) => node_of(value),
+        None => None,
+    }
 }
 
 /// What `create` says; it is false where it isn't there.
@@ -93,7 +124,7 @@ pub fn condition_said(
     }
 }
 
-/// The cause that comes first where `condition` or `create` is wrong too.
+/// The cause that comes first where `condition`, `create` or `via` is wrong too.
 fn before_size(cause: Cause) -> Cause
     ensures { result ≡ before_size cause }
 {
@@ -103,7 +134,7 @@ fn before_size(cause: Cause) -> Cause
     }
 }
 
-/// The cause that comes first, by whether `condition` and `create` are right.
+/// The cause that comes first, by whether `condition`, `create` and `via` are right.
 fn cause_by(right: bool, cause: Cause) -> Cause
     ensures { result ≡ cause_by right cause }
 {

@@ -1,27 +1,20 @@
-ghost use Rattle.std.specs.Prelude.{◌≡◌, true, Ok, Err, Some, option_map, if◌then◌else◌};
+ghost use Rattle.std.specs.Prelude.{◌≡◌, Some};
 ghost use Rattle.std.specs.List.{list_all};
 ghost use Rattle.serde_json.specs.Read.{read};
 ghost use Rattle.serde_json.specs.View.{view};
-ghost use Rattle.doc_types.specs.Schemas.{is_object};
-ghost use Rattle.feed_lines.specs.Meaning.{is_blank, is_blank_line, kind_said, id_said, verb_said, data_said, json_said, text_said, line_said, Gives, cause_of};
-ghost use Rattle.feed_lines.specs.Tests.{has_type, beside_of};
-ghost use Rattle.feed_lines.specs.declared.command.Cause.TheVariants as cause;
-ghost use Rattle.feed_lines.specs.declared.command.LineFault.TheVariants as line_fault;
-ghost use Rattle.feed_lines.specs.declared.keys.Verb.TheVariants as verb;
+ghost use Rattle.feed_lines.specs.Meaning.{is_blank, is_blank_line, own_said, verb_said, data_said, json_said, text_said, line_said, Gives};
 
 use crate::command::{Cause, Command, LineFault};
-use crate::keys::Verb;
-use crate::options::{are_options, condition_said, create_in, fault_by};
-use crate::shape::{has_right_keys, id_in, is_built, verb_of};
+use crate::keys::LineVerb;
+use crate::operations::feed_command;
+use crate::options::bad;
+use crate::settings::{net_command, start_command, state_command, stop_command};
+use crate::shape::{has_right_keys, is_built, verb_of};
 use doc_types::Schema;
-use doc_updates::Update;
-use document_ids::DocId;
-use documents::{Document, DocumentFault};
 use io_ends::LONGEST;
-use messages::{OpKind, Operation};
 use serde_json::Value;
+use simdutf8::basic::from_utf8;
 use std::alloc::Global;
-use value_lists::TryCopy;
 
 fn is_blank_byte(byte: u8) -> bool
     ensures { result ≡ is_blank byte }
@@ -42,230 +35,66 @@ fn is_blank_line(bytes: &[u8]) -> bool
     bytes.len() <= LONGEST && all_blank(bytes)
 }
 
-/// The cause that a fault of the fields is.
-fn cause_of(fault: DocumentFault) -> LineFault
-    ensures { result ≡ cause_of fault }
-{
-    let cause = match fault {
-        DocumentFault::UnknownType => Cause::Type,
-        DocumentFault::UnknownField { .. } => Cause::Field,
-        DocumentFault::WrongValue { .. } => Cause::Value,
-        DocumentFault::TooLarge { .. } => Cause::Size,
-        DocumentFault::NoMemory => return LineFault::NoMemory,
-    };
-    LineFault::BadLine { cause }
-}
-
-/// The cause where `fields` is no object.
-fn no_object(id: &DocId, schema: &Schema) -> Cause
-    ensures { result ≡ (if has_type schema.now id.now then cause.Value else cause.Type) }
-{
-    if schema.has_type(id.type_name()) {
-        Cause::Value
-    } else {
-        Cause::Type
-    }
-}
-
-/// A bad line of this cause.
-fn bad(cause: Cause) -> LineFault
-    ensures { result ≡ line_fault.BadLine cause }
-{
-    LineFault::BadLine { cause }
-}
-
-/// The put of a document with the fields that an object says.
-fn put_object(
+/// What a line with the right keys asks for.
+fn own_command(
     alloc: Global,
-    id: &DocId,
-    fields: &Value,
-    schema: &Schema,
-) -> Result<OpKind, LineFault>
-    requires { is_object (view fields.now) ≡ true }
-    ensures { Gives result (kind_said schema.now verb.Put id.now (Some (view fields.now))) }
-{
-    match Document::from_json(alloc, id.copy(alloc)?, fields, schema) {
-        Ok(document) => Ok(OpKind::Put(document)),
-        Err(fault) => Err(cause_of(fault)),
-    }
-}
-
-/// The update of a document by what an object says.
-fn update_object(
-    alloc: Global,
-    id: &DocId,
-    fields: &Value,
-    schema: &Schema,
-) -> Result<OpKind, LineFault>
-    requires { is_object (view fields.now) ≡ true }
-    ensures { Gives result (kind_said schema.now verb.Update id.now (Some (view fields.now))) }
-{
-    match Update::from_json(alloc, id, fields, schema) {
-        Ok(update) => Ok(OpKind::Update(update)),
-        Err(fault) => Err(cause_of(fault)),
-    }
-}
-
-/// The put of a document with these fields.
-fn put_value(
-    alloc: Global,
-    id: &DocId,
-    fields: &Value,
-    schema: &Schema,
-) -> Result<OpKind, LineFault>
-    ensures { Gives result (kind_said schema.now verb.Put id.now (Some (view fields.now))) }
-{
-    if !fields.is_object() {
-        return Err(bad(no_object(id, schema)));
-    }
-    put_object(alloc, id, fields, schema)
-}
-
-/// The update of a document by these fields.
-fn update_value(
-    alloc: Global,
-    id: &DocId,
-    fields: &Value,
-    schema: &Schema,
-) -> Result<OpKind, LineFault>
-    ensures { Gives result (kind_said schema.now verb.Update id.now (Some (view fields.now))) }
-{
-    if !fields.is_object() {
-        return Err(bad(no_object(id, schema)));
-    }
-    update_object(alloc, id, fields, schema)
-}
-
-/// The put of a document, where there are fields.
-fn put_kind(
-    alloc: Global,
-    id: &DocId,
-    fields: Option<&Value>,
-    schema: &Schema,
-) -> Result<OpKind, LineFault>
-    ensures { Gives result (kind_said schema.now verb.Put id.now (option_map (λ v. view v.now) fields.entry)) }
-{
-    match fields {
-        Some(fields) => put_value(alloc, id, fields, schema),
-        None => Err(bad(no_object(id, schema))),
-    }
-}
-
-/// The update of a document, where there are fields.
-fn update_kind(
-    alloc: Global,
-    id: &DocId,
-    fields: Option<&Value>,
-    schema: &Schema,
-) -> Result<OpKind, LineFault>
-    ensures { Gives result (kind_said schema.now verb.Update id.now (option_map (λ v. view v.now) fields.entry)) }
-{
-    match fields {
-        Some(fields) => update_value(alloc, id, fields, schema),
-        None => Err(bad(no_object(id, schema))),
-    }
-}
-
-/// What is done without fields with a document of a type of the schema.
-fn typed(id: &DocId, kind: OpKind, schema: &Schema) -> Result<OpKind, LineFault>
-    ensures { Gives result (if has_type schema.now id.now then Ok kind else Err cause.Type) }
-{
-    if !schema.has_type(id.type_name()) {
-        return Err(bad(Cause::Type));
-    }
-    Ok(kind)
-}
-
-/// What is done with a document of this id.
-fn kind_said(
-    alloc: Global,
-    verb: Verb,
-    id: &DocId,
-    fields: Option<&Value>,
-    schema: &Schema,
-) -> Result<OpKind, LineFault>
-    ensures { Gives result (kind_said schema.now verb id.now (option_map (λ v. view v.now) fields.entry)) }
-{
-    match verb {
-        Verb::Put => put_kind(alloc, id, fields, schema),
-        Verb::Update => update_kind(alloc, id, fields, schema),
-        Verb::Remove => typed(id, OpKind::Remove, schema),
-        Verb::Get | Verb::Later => typed(id, OpKind::Get, schema),
-    }
-}
-
-/// What is asked of a document of this id. A wrong `condition` or `create` comes before the size of the
-/// document, and a condition that is no selection behind it.
-fn id_command(
-    alloc: Global,
-    verb: Verb,
-    id: DocId,
+    verb: LineVerb,
     line: &Value,
     schema: &Schema,
+    bits: u8,
 ) -> Result<Command, LineFault>
-    ensures { Gives result (id_said schema.now verb id (beside_of (view line.now))) }
+    ensures { Gives result (own_said schema.now bits verb (view line.now)) }
 {
-    let condition = line.get("condition");
-    let create = line.get("create");
-    let right = are_options(condition, create);
-    let kind = match kind_said(alloc, verb, &id, line.get("fields"), schema) {
-        Ok(kind) => kind,
-        Err(fault) => return Err(fault_by(right, fault)),
-    };
-    if !right {
-        return Err(bad(Cause::Value));
+    match verb {
+        LineVerb::Feed(verb) => feed_command(alloc, verb, line, schema),
+        LineVerb::State => state_command(alloc, line),
+        LineVerb::Stop => stop_command(line),
+        LineVerb::Start => start_command(line),
+        LineVerb::Net => net_command(alloc, line, bits),
+        LineVerb::Later => Ok(Command::Blank),
     }
-    let condition = match condition_said(alloc, condition, schema) {
-        Ok(condition) => condition,
-        Err(fault) => return Err(fault),
-    };
-    Ok(Command::Feed {
-        operation: Operation {
-            id,
-            kind,
-            condition,
-            create: create_in(create),
-        },
-    })
 }
 
 /// What a line of a verb asks for.
 fn verb_command(
     alloc: Global,
-    verb: Verb,
+    verb: LineVerb,
     line: &Value,
     schema: &Schema,
+    bits: u8,
 ) -> Result<Command, LineFault>
-    ensures { Gives result (verb_said schema.now (view line.now) (Some verb)) }
+    ensures { Gives result (verb_said schema.now bits (view line.now) (Some verb)) }
 {
-    if !is_built(verb, line) {
+    if !is_built(verb) {
         return Err(bad(Cause::Unbuilt));
     }
     if !has_right_keys(verb, line) {
         return Err(bad(Cause::Key));
     }
-    match id_in(alloc, verb, line)? {
-        Some(id) => id_command(alloc, verb, id, line, schema),
-        None => Err(bad(Cause::Id)),
-    }
+    own_command(alloc, verb, line, schema, bits)
 }
 
 /// What a JSON value asks for.
-fn data_command(alloc: Global, line: &Value, schema: &Schema) -> Result<Command, LineFault>
-    ensures { Gives result (data_said schema.now (view line.now)) }
+fn data_command(
+    alloc: Global,
+    line: &Value,
+    schema: &Schema,
+    bits: u8,
+) -> Result<Command, LineFault>
+    ensures { Gives result (data_said schema.now bits (view line.now)) }
 {
     match verb_of(line) {
-        Some(verb) => verb_command(alloc, verb, line, schema),
+        Some(verb) => verb_command(alloc, verb, line, schema, bits),
         None => Err(bad(Cause::Object)),
     }
 }
 
 /// What a text asks for.
-fn json_command(alloc: Global, text: &str, schema: &Schema) -> Result<Command, LineFault>
-    ensures { Gives result (json_said schema.now (read text.now)) }
+fn json_command(alloc: Global, text: &str, schema: &Schema, bits: u8) -> Result<Command, LineFault>
+    ensures { Gives result (json_said schema.now bits (read text.now)) }
 {
     match Value::from_str(alloc, text) {
-        Ok(line) => data_command(alloc, &line, schema),
+        Ok(line) => data_command(alloc, &line, schema, bits),
         Err(error) => {
             if error.is_memory() {
                 Err(LineFault::NoMemory)
@@ -277,29 +106,33 @@ fn json_command(alloc: Global, text: &str, schema: &Schema) -> Result<Command, L
 }
 
 /// What bytes ask for.
-fn text_command(alloc: Global, bytes: &[u8], schema: &Schema) -> Result<Command, LineFault>
-    ensures { Gives result (text_said schema.now bytes.now) }
+fn text_command(
+    alloc: Global,
+    bytes: &[u8],
+    schema: &Schema,
+    bits: u8,
+) -> Result<Command, LineFault>
+    ensures { Gives result (text_said schema.now bits bytes.now) }
 {
-    match std::str::from_utf8(bytes) {
-        Ok(text) => json_command(alloc, text, schema),
+    match from_utf8(bytes) {
+        Ok(text) => json_command(alloc, text, schema, bits),
         Err(_) => Err(bad(Cause::Json)),
     }
 }
 
-/// What a line asks for, from its bytes without the line feed; a bad line has the first cause that
-/// holds of it. There are 2^bits lanes: only a line that plans messages names one, and such lines are
-/// among those that aren't built.
+/// What a line asks for in a session of 2^bits lanes, from its bytes without the line feed; a bad line has the
+/// first cause that holds of it.
 #[tactic(auto, unfolding(crate::specs::Meaning::line_said))]
 pub fn read_line(
     alloc: Global,
     bytes: &[u8],
     schema: &Schema,
-    _bits: u8,
+    bits: u8,
 ) -> Result<Command, LineFault>
-    ensures { Gives result (line_said schema.now bytes.now) }
+    ensures { Gives result (line_said schema.now bits bytes.now) }
 {
     if is_blank_line(bytes) {
         return Ok(Command::Blank);
     }
-    text_command(alloc, bytes, schema)
+    text_command(alloc, bytes, schema, bits)
 }

@@ -1,17 +1,17 @@
-ghost use Rattle.std.specs.Prelude.{◌≡◌, Some, IfOk, option_map, option_and_then};
+ghost use Rattle.std.specs.Prelude.{◌≡◌, Some, IfOk, option_map, option_and_then, codes};
 ghost use Rattle.serde_json.specs.Find.{get, as_str};
 ghost use Rattle.serde_json.specs.View.{view};
-ghost use Rattle.feed_lines.specs.Keys.{has_later_key, all_stand};
-ghost use Rattle.feed_lines.specs.Tests.{members_of, verb_of, is_built_verb, is_built, fields_of, has_wanted, has_right_keys, as_id, id_in};
+ghost use Rattle.feed_lines.specs.Keys.{all_stand, are_net_keys};
+ghost use Rattle.feed_lines.specs.Tests.{members_of, verb_of, is_built, fields_of, has_wanted, net_of, net_members, in_net, has_net_keys, has_own_keys, has_right_keys, as_id, id_in};
 
-use crate::keys::{Verb, all_stand, has_later_key, name_of, only_verb};
+use crate::keys::{LineVerb, Verb, all_stand, are_net_keys, name_of, only_verb};
 use document_ids::{DocId, IdFault};
 use serde_json::Value;
 use std::alloc::Global;
 use value_lists::NoMemory;
 
 /// The verb of a line that is an object with exactly one.
-pub fn verb_of(line: &Value) -> Option<Verb>
+pub fn verb_of(line: &Value) -> Option<LineVerb>
     ensures { result ≡ verb_of (view line.now) }
 {
     match line.as_object() {
@@ -20,35 +20,20 @@ pub fn verb_of(line: &Value) -> Option<Verb>
     }
 }
 
-/// Whether a line has a key of lines that aren't built yet.
-fn is_later(line: &Value) -> bool
-    ensures { result ≡ has_later_key (members_of (view line.now)) }
-{
-    match line.as_object() {
-        Some(members) => has_later_key(members),
-        None => false,
-    }
-}
-
-/// Whether a verb is built.
-fn is_built_verb(verb: Verb) -> bool
-    ensures { result ≡ is_built_verb verb }
+/// Whether a verb is none of lines that aren't built yet.
+pub fn is_built(verb: LineVerb) -> bool
+    ensures { result ≡ is_built verb }
 {
     match verb {
-        Verb::Put | Verb::Update | Verb::Remove | Verb::Get => true,
-        Verb::Later => false,
+        LineVerb::Feed(_) | LineVerb::State | LineVerb::Stop | LineVerb::Start | LineVerb::Net => {
+            true
+        }
+        LineVerb::Later => false,
     }
-}
-
-/// Whether neither the verb nor a key is of lines that aren't built yet.
-pub fn is_built(verb: Verb, line: &Value) -> bool
-    ensures { result ≡ is_built verb (view line.now) }
-{
-    is_built_verb(verb) && !is_later(line)
 }
 
 /// Whether all keys of a line may stand beside its verb.
-fn stands(verb: Verb, line: &Value) -> bool
+fn stands(verb: LineVerb, line: &Value) -> bool
     ensures { result ≡ all_stand verb (members_of (view line.now)) }
 {
     match line.as_object() {
@@ -64,15 +49,53 @@ fn has_wanted(verb: Verb, line: &Value) -> bool
     match verb {
         Verb::Put => line.get("fields").is_some(),
         Verb::Update => line.get("fields").is_some(),
-        Verb::Remove | Verb::Get | Verb::Later => true,
+        Verb::Remove | Verb::Get => true,
     }
 }
 
-/// Whether a line has no key but the verb's own, and `fields` where it is wanted.
-pub fn has_right_keys(verb: Verb, line: &Value) -> bool
+/// Whether all keys of the object of `net` are its own.
+fn is_net(net: Option<&Value>) -> bool
+    ensures { result ≡ are_net_keys (net_members (option_map (λ v. view v.now) net.entry)) }
+{
+    let Some(net) = net else {
+        return true;
+    };
+    match net.as_object() {
+        Some(members) => are_net_keys(members),
+        None => true,
+    }
+}
+
+/// What the object of `net` has under a key.
+pub fn in_net<'a>(key: &str, net: Option<&'a Value>) -> Option<&'a Value>
+    ensures { option_map (λ v. view v.now) result ≡ in_net key.now (option_map (λ v. view v.now) net.entry) }
+{
+    net?.get(key)
+}
+
+/// Whether the object of `net` has `lane`, `fates` and nothing else.
+fn has_net_keys(net: Option<&Value>) -> bool
+    ensures { result ≡ has_net_keys (option_map (λ v. view v.now) net.entry) }
+{
+    is_net(net) && in_net("lane", net).is_some() && in_net("fates", net).is_some()
+}
+
+/// Whether the keys that a verb wants are there.
+fn has_own_keys(verb: LineVerb, line: &Value) -> bool
+    ensures { result ≡ has_own_keys verb (view line.now) }
+{
+    match verb {
+        LineVerb::Feed(verb) => has_wanted(verb, line),
+        LineVerb::Net => has_net_keys(line.get("net")),
+        LineVerb::State | LineVerb::Stop | LineVerb::Start | LineVerb::Later => true,
+    }
+}
+
+/// Whether a line has no key but the verb's own, and those that are wanted.
+pub fn has_right_keys(verb: LineVerb, line: &Value) -> bool
     ensures { result ≡ has_right_keys verb (view line.now) }
 {
-    stands(verb, line) && has_wanted(verb, line)
+    stands(verb, line) && has_own_keys(verb, line)
 }
 
 /// The document id that a text is.
@@ -87,7 +110,7 @@ fn parsed(alloc: Global, text: &str) -> Result<Option<DocId>, NoMemory>
 }
 
 /// The text of a member.
-fn text_at<'a>(key: &str, line: &'a Value) -> Option<&'a str>
+pub fn text_at<'a>(key: &str, line: &'a Value) -> Option<&'a str>
     ensures { option_map (λ text. text.now) result ≡ option_and_then as_str (get key.now (view line.now)) }
 {
     line.get(key)?.as_str()

@@ -235,6 +235,8 @@ gives_told text r w left at rest size feed b room few (next.TooLong number) new 
 )
 gives_told text r w left at rest size feed b room few next.End new line g = absurd g
 gives_told text r w left at rest size feed b room few (next.Limit limit.Lines) new line g = absurd g
+gives_told text r w left at rest size feed b room few (next.Limit limit.States) new line g = absurd g
+gives_told text r w left at rest size feed b room few (next.Limit limit.Maintains) new line g = absurd g
 gives_told text r w left at rest size feed b room few (next.Limit limit.Bytes) new line g = (
   omega (arith, further (lines_of text) r.lines _ _ (at.lines ∙ b.lines)),
   (few, omega (arith, end_here text (with_window r w) left at _ rest (w.passed + (size + feed)) b, g.1)),
@@ -252,6 +254,8 @@ gives_stands text r w left at rest size feed b e (next.TooLong number) new line 
     subst (λ x. IsAt text x left) (sym g.after) (given_line text (with_window r w) left at _ rest (size + feed) b e)
 gives_stands text r w left at rest size feed b e next.End new line g = absurd g
 gives_stands text r w left at rest size feed b e (next.Limit limit.Lines) new line g = absurd g
+gives_stands text r w left at rest size feed b e (next.Limit limit.States) new line g = absurd g
+gives_stands text r w left at rest size feed b e (next.Limit limit.Maintains) new line g = absurd g
 gives_stands text r w left at rest size feed b e (next.Limit limit.Bytes) new line g = subst (λ x. IsAt text x left) (sym g.0) at
 gives_stands text r w left at rest size feed b e next.ReadFault new line g = absurd g
 gives_stands text r w left at rest size feed b e next.NoMemory new line g = subst (λ x. IsAt text x left) (sym g) at

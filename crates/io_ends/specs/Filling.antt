@@ -77,6 +77,8 @@ Gives old new size feed next.End line = ⊥
 Gives old new size feed (next.Limit limit.Lines) line = ⊥
 Gives old new size feed (next.Limit limit.Bytes) line =
     (new ≡ old) × (old.max_bytes < old.given + old.passed + (size + feed))
+Gives old new size feed (next.Limit limit.States) line = ⊥
+Gives old new size feed (next.Limit limit.Maintains) line = ⊥
 Gives old new size feed next.ReadFault line = ⊥
 Gives old new size feed next.NoMemory line = new ≡ old
 

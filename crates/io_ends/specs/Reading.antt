@@ -74,11 +74,13 @@ HoldsLittle new (next.Limit which) = Unit {0}
 HoldsLittle new next.ReadFault = Unit {0}
 HoldsLittle new next.NoMemory = Unit {0}
 
--- there is a further line, and it is past the limit
+-- there is a further line, and it is past the limit; what lines ask for isn't known here
 abbrev pub Reaches : List ℕ → Reading → LimitKind → Type 0
 Reaches text r limit.Lines = (r.lines < length (lines_of text)) × (r.lines ≡ r.max_lines)
 Reaches text r limit.Bytes =
     (r.lines < length (lines_of text)) × ((r.lines < r.max_lines) × (r.max_bytes < end_of (r.lines + 1) text))
+Reaches text r limit.States = ⊥
+Reaches text r limit.Maintains = ⊥
 
 -- the next line of the text ends within the limits
 pub record IsWithin (text : List ℕ) (r : Reading) : Type 0 where

@@ -1,10 +1,14 @@
-/// Which limit a session reached.
+/// Which limit a session reached; a reader of lines knows the first two alone.
 #[derive(Clone, Copy, Debug, PartialEq, Eq)]
 pub enum LimitKind {
     /// More lines than a session may have.
     Lines,
     /// A line that ends past the last byte that a session may have.
     Bytes,
+    /// More lines that are read as states than a session may have.
+    States,
+    /// More lines that are read as upkeep than a session may have.
+    Maintains,
 }
 
 /// What a call of `LineReader::next` answers.

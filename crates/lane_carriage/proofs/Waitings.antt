@@ -8,12 +8,14 @@ use Rattle.carriers.specs.declared.fate.Fate.TheVariants as fate
 use Rattle.messages.specs.declared.message.Message.{Message}
 use Rattle.messages.specs.declared.noted.NotedBody.{NotedBody}
 use Rattle.messages.specs.declared.noted.NotedReply.{NotedReply}
+use Rattle.lane_journals.specs.Readers.{stopped}
+use Rattle.lane_journals.specs.Meanings.{history}
 use Rattle.lane_journals.specs.declared.event.LaneEvent.{LaneEvent}
 use Rattle.lane_journals.specs.declared.event.LaneEvent.TheVariants.{Sent, Delivered}
 use Rattle.late_messages.specs.Waiting.{Each, IsBefore, AreRising, kept, AreSentBefore, NoneIsDue, IsTaken}
 use Rattle.late_messages.specs.declared.late.Late.{Late}
 use Rattle.late_messages.proofs.Eaches.{each-append, each-first}
-use Rattle.lane_carriage.specs.Carriage.{IsDealt, AreDelivered, is_due, due_from, due, IsCarried, Message as OneMore}
+use Rattle.lane_carriage.specs.Carriage.{met, IsDealt, is_cut_off, IsGivenOut, AreDelivered, is_due, due_from, due, IsCarried, Message as OneMore}
 use Rattle.lane_carriage.specs.Waits.{numbers, due_at, IsWaiting, kept_by, AreTaken}
 use Rattle.lane_carriage.proofs.Fates.{due-append}
 
@@ -224,7 +226,7 @@ taken_are_due given last late f m taken rest w t none =
 pub carried : (given : List Fate) (last : ℕ) (late : List Late) (f : Fate) (m : Message) (taken rest : List Late)
     → IsWaiting given last late → AreTaken (last + 1) (kept_by f (last + 1) m late) taken rest → NoneIsDue (last + 1) rest
     → (J after K : List LaneEvent) (version sender receiver : ℕ) (body : NotedBody) → IsCarried given J
-    → IsDealt f (last + 1) (Sent (last + 1) version sender receiver body ∷ J) after → AreDelivered (numbers taken) after K
+    → IsDealt (met (stopped receiver (history J)) f) (last + 1) (Sent (last + 1) version sender receiver body ∷ J) after → AreDelivered (numbers taken) after K
     → IsCarried (given ++ f ∷ []) K
 carried given last late f m taken rest w t none J after K version sender receiver body c own delivered =
     OneMore given J f K (record {
@@ -233,7 +235,7 @@ carried given last late f m taken rest w t none J after K version sender receive
       receiver = receiver;
       body = body;
       after = after;
-      dealt = subst (λ (n : ℕ). IsDealt f (n + 1) (Sent (n + 1) version sender receiver body ∷ J) after) w.counted own;
+      dealt = subst (λ (n : ℕ). IsDealt (met (stopped receiver (history J)) f) (n + 1) (Sent (n + 1) version sender receiver body ∷ J) after) w.counted own;
       late = subst (λ (n : ℕ). AreDelivered (due (given ++ f ∷ []) (n + 1)) after K) w.counted
           (subst (λ (ns : List ℕ). AreDelivered ns after K) (taken_are_due given last late f m taken rest w t none) delivered);
     }) c
@@ -247,7 +249,17 @@ further now late taken rest left l t h = record {
   due = each-append (λ x. x.due ≤ now) taken (l ∷ []) t.due (h.0, tt);
 }
 
-pub delivered-further : (taken : List Late) (l : Late) (J K : List LaneEvent) (r : NotedReply) → AreDelivered (numbers taken) J K
+-- one more is given out behind the others
+given-further : (c : Bool) (taken : List Late) (l : Late) (J K L : List LaneEvent) → AreDelivered (numbers taken) J K → is_cut_off l.number K ≡ c → IsGivenOut c l.number K L
+    → AreDelivered (numbers (taken ++ l ∷ [])) J L
+given-further c [] l J K L h cut out =
+    (L, (subst (λ (M : List LaneEvent). IsGivenOut (is_cut_off l.number M) l.number M L) h (subst (λ (b : Bool). IsGivenOut b l.number K L) (sym cut) out), refl))
+given-further c (x ∷ taken) l J K L h cut out = (h.0, (h.1.0, given-further c taken l h.0 K L h.1.1 cut out))
+
+pub delivered-further : (taken : List Late) (l : Late) (J K : List LaneEvent) (r : NotedReply) → AreDelivered (numbers taken) J K → is_cut_off l.number K ≡ false
     → AreDelivered (numbers (taken ++ l ∷ [])) J (Delivered l.number r ∷ K)
-delivered-further [] l J K r h = (r, ap (λ (L : List LaneEvent). Delivered l.number r ∷ L) h)
-delivered-further (x ∷ taken) l J K r h = (h.0, delivered-further taken l (Delivered x.number h.0 ∷ J) K r h.1)
+delivered-further taken l J K r h runs = given-further false taken l J K (Delivered l.number r ∷ K) h runs (r, refl)
+
+pub passed-over : (taken : List Late) (l : Late) (J K : List LaneEvent) → AreDelivered (numbers taken) J K → is_cut_off l.number K ≡ true
+    → AreDelivered (numbers (taken ++ l ∷ [])) J K
+passed-over taken l J K h halted = given-further true taken l J K K h halted refl

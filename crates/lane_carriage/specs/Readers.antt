@@ -1,9 +1,10 @@
 -- What is read off a journal of each message, and what its fate says of that.
-use Rattle.std.specs.Prelude.{◌==◌, ℕ, ◌+◌, Bool, true, false, List, [], ◌∷◌, Option, Some, None, nat_le, if◌then◌else◌}
+use Rattle.std.specs.Prelude.{◌==◌, ℕ, ◌+◌, Bool, true, false, not, List, [], ◌∷◌, Option, Some, None, nat_le, if◌then◌else◌}
 use Rattle.carriers.specs.declared.fate.Fate.{Fate}
 use Rattle.carriers.specs.declared.fate.Fate.TheVariants.{Deliver, LoseRequest, LoseReply, Twice, Late}
 use Rattle.lane_journals.specs.declared.event.LaneEvent.{LaneEvent}
 use Rattle.lane_journals.specs.declared.event.LaneEvent.TheVariants.{Sent, Delivered}
+use Rattle.lane_carriage.specs.Carriage.{is_cut_off}
 
 -- how often the number was sent
 abbrev pub sendings : ℕ → List LaneEvent → ℕ
@@ -23,6 +24,12 @@ arrivals k [] = []
 arrivals k (Delivered n r ∷ J) = if n == k then last_sent J ∷ arrivals k J else arrivals k J
 arrivals k (_ ∷ J) = arrivals k J
 
+-- the receiver of message k ran as message j was sent
+abbrev pub receives : ℕ → ℕ → List LaneEvent → Bool
+receives k j [] = false
+receives k j (Sent n v d to body ∷ J) = if n == j then not (is_cut_off k (Sent n v d to body ∷ J)) else receives k j J
+receives k j (_ ∷ J) = receives k j J
+
 -- ---- what a fate says
 
 -- the fate of a number, where the first fate is that of message i
@@ -38,7 +45,7 @@ abbrev pub times_sent : Option Fate → ℕ
 times_sent None = 0
 times_sent (Some f) = 1
 
--- the message was delivered and its reply returned, before the next was sent
+-- where its receiver ran, the message was delivered and its reply returned, before the next was sent
 abbrev pub is_returned : Option Fate → Bool
 is_returned None = false
 is_returned (Some Deliver) = true
@@ -55,11 +62,16 @@ IsPrompt LoseReply = Unit {0}
 IsPrompt Twice = Unit {0}
 IsPrompt (Late later) = ⊥
 
--- where message k is delivered, of so many that were sent
-abbrev pub arrivals_of : ℕ → Option Fate → ℕ → List ℕ
-arrivals_of k None count = []
-arrivals_of k (Some Deliver) count = k ∷ []
-arrivals_of k (Some LoseRequest) count = []
-arrivals_of k (Some LoseReply) count = k ∷ []
-arrivals_of k (Some Twice) count = k ∷ k ∷ []
-arrivals_of k (Some (Late later)) count = if nat_le (k + later) count then (k + later) ∷ [] else []
+-- it waits before it is delivered
+abbrev pub IsLate : Fate → Type 0
+IsLate (Late later) = Unit {0}
+IsLate _ = ⊥
+
+-- where message k is delivered, of so many that were sent, by whether its receiver ran as each was sent
+abbrev pub arrivals_of : ℕ → Option Fate → ℕ → (ℕ → Bool) → List ℕ
+arrivals_of k None count ran = []
+arrivals_of k (Some Deliver) count ran = if ran k then k ∷ [] else []
+arrivals_of k (Some LoseRequest) count ran = []
+arrivals_of k (Some LoseReply) count ran = if ran k then k ∷ [] else []
+arrivals_of k (Some Twice) count ran = if ran k then k ∷ k ∷ [] else []
+arrivals_of k (Some (Late later)) count ran = if nat_le (k + later) count then (if ran (k + later) then (k + later) ∷ [] else []) else []

@@ -1,6 +1,7 @@
 pub mod Replies
 pub mod Additions
 pub mod Runs
+pub mod Turns
 pub mod Hearing
 pub mod Opening
 pub mod Sizes
@@ -13,3 +14,4 @@ pub mod Stores
 pub mod Operations
 pub mod Completeness
 pub mod Carried
+pub mod Returning

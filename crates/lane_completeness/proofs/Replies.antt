@@ -1,4 +1,5 @@
--- Which replies there are under the newest version: an answer or NoMemory, wherever a node can't lack the piece.
+-- Which replies there are wherever a node can't lack the piece: an answer, NoMemory, or that the node took a newer version;
+-- and not that under the newest version.
 use Rattle.std.proofs.Common.{◌≡◌, ◌⊎◌, ℕ, ◌≤◌, Bool, true, false, [], ◌∷◌, Option, Some, None, inl, inr, refl, sym, ap, ◌∙◌, subst, arith}
 use mathlib.Core.Bool.{true≢false}
 use Rattle.lane_journals.specs.Stamps.{Stamp}
@@ -26,12 +27,27 @@ raised-below n v old m a b = grind arith
 abbrev pub IsHeard : Reply → Type 0
 IsHeard r = (is_answer r ≡ true) ⊎ (r ≡ NoMemory)
 
-reply-heard : (J : Journal) (m : Message) (r : Reply) → version m.receiver J ≤ m.version → (Lacks J m.receiver m.body → ⊥) → (Differ J m.receiver m.body → ⊥) → Replies J m r → IsHeard r
-reply-heard J m (Answer x names) low has same h = inl refl
-reply-heard J m (Newer w) low has same h = absurd (let x = h.0 in let y = h.1 in omega arith)
-reply-heard J m NoBucket low has same h = absurd (has h.2)
-reply-heard J m Differs low has same h = absurd (same h.2)
-reply-heard J m NoMemory low has same h = inr refl
+-- the node took a newer version
+abbrev pub IsFenced : Reply → Type 0
+IsFenced r = (w : ℕ) × (r ≡ Newer w)
+
+-- the node has what the message asks of it
+abbrev HasAll : Journal → Message → Type 0
+HasAll J m = (Lacks J m.receiver m.body → ⊥) × (Differ J m.receiver m.body → ⊥)
+
+reply-known : (J : Journal) (m : Message) (r : Reply) → (version m.receiver J ≤ m.version → HasAll J m) → Replies J m r → IsHeard r ⊎ IsFenced r
+reply-known J m (Answer x names) has h = inl (inl refl)
+reply-known J m (Newer w) has h = inr (w, refl)
+reply-known J m NoBucket has h = absurd ((has h.0).0 h.2)
+reply-known J m Differs has h = absurd ((has h.0).1 h.2)
+reply-known J m NoMemory has h = inl (inr refl)
+
+reply-newest : (J : Journal) (m : Message) (r : Reply) → version m.receiver J ≤ m.version → Replies J m r → IsFenced r → ⊥
+reply-newest J m (Newer w) low h f = let x = h.0 in let y = h.1 in omega (arith, low, x, y)
+reply-newest J m (Answer x names) low h f = let e = f.1 in cc
+reply-newest J m NoBucket low h f = let e = f.1 in cc
+reply-newest J m Differs low h f = let e = f.1 in cc
+reply-newest J m NoMemory low h f = let e = f.1 in cc
 
 -- what openings and rounds send
 abbrev pub IsOwed : Body → Type 0
@@ -70,24 +86,33 @@ module _ (acks : ℕ) (P : ℕ → ℕ → Bool) where
   same-message J e k x m f g = let z = sent-stays k J x e f in cc
 
   module _ (v : ℕ) (k : ℕ) (m : Message) (r : Reply) (at : m.version ≡ v) where
-    -- what is known before each event as it is after it, and under which the node lacks nothing
-    module _ (Known : Journal → Type 0) (before : (J : Journal) (e : Event) → Legal acks P (e ∷ J) → sent k J ≡ Some m → Known (e ∷ J) → Known J)
-        (has : (J : Journal) → Legal acks P J → IsNewest v J → Known J → sent k J ≡ Some m → (Lacks J m.receiver m.body → ⊥) × (Differ J m.receiver m.body → ⊥)) where
-      heard : (J : Journal) → Legal acks P J → IsNewest v J → Known J → sent k J ≡ Some m → first_reply k J ≡ Some r → IsHeard r
-      heard [] l low known s f = cc
-      heard (e ∷ J) l low known s f = elim (first_reply-cases k J e r f) [
-        | inl old ↦ (let was = sent_before acks P J k e m (replied-sent acks P J l.0 k r old) s in heard J l.0 (λ w h. low w (published-stays w J e h)) (before J e l was known) was old)
+    -- what is known before each event as it is after it, and what a reply says then
+    module _ (Known : Journal → Type 0) (Says : Reply → Type 0) (before : (J : Journal) (e : Event) → Legal acks P (e ∷ J) → sent k J ≡ Some m → Known (e ∷ J) → Known J)
+        (says : (J : Journal) → Legal acks P J → Known J → sent k J ≡ Some m → Replies J m r → Says r) where
+      replied : (J : Journal) → Legal acks P J → Known J → sent k J ≡ Some m → first_reply k J ≡ Some r → Says r
+      replied [] l known s f = cc
+      replied (e ∷ J) l known s f = elim (first_reply-cases k J e r f) [
+        | inl old ↦ (let was = sent_before acks P J k e m (replied-sent acks P J l.0 k r old) s in replied J l.0 (before J e l was known) was old)
         | inr new ↦ (let d : MayDeliver J k r = rw new.0 at l.1 in
             let same = same-message J e k d.message m d.was_sent s in
-            let low' : IsNewest v J = λ w h. low w (published-stays w J e h) in
             let was : sent k J ≡ Some m = subst (λ (x : Message). sent k J ≡ Some x) same d.was_sent in
-            let x = has J l.0 low' (before J e l was known) was in
-            reply-heard J m r (subst (λ (w : ℕ). version m.receiver J ≤ w) (sym at) (version-below J l.0 v low' m.receiver)) x.0 x.1 (subst (λ (x : Message). Replies J x r) same d.reply))
+            says J l.0 (before J e l was known) was (subst (λ (x : Message). Replies J x r) same d.reply))
       ]
 
+    -- what is known so, and under which the node has what the message asks of it
+    module _ (Known : Journal → Type 0) (before : (J : Journal) (e : Event) → Legal acks P (e ∷ J) → sent k J ≡ Some m → Known (e ∷ J) → Known J)
+        (has : (J : Journal) → Legal acks P J → version m.receiver J ≤ v → Known J → sent k J ≡ Some m → HasAll J m) where
+      known-reply : (J : Journal) → Legal acks P J → Known J → sent k J ≡ Some m → first_reply k J ≡ Some r → IsHeard r ⊎ IsFenced r
+      known-reply = replied Known (λ y. IsHeard y ⊎ IsFenced y) before (λ J l known was h. reply-known J m r (λ low. has J l (subst (λ (w : ℕ). version m.receiver J ≤ w) at low) known was) h)
+
+    -- under the newest version no node took a newer one
+    pub not-fenced : (J : Journal) → Legal acks P J → IsNewest v J → sent k J ≡ Some m → first_reply k J ≡ Some r → IsFenced r → ⊥
+    not-fenced = replied (IsNewest v) (λ y. IsFenced y → ⊥) (λ J e l was low w h. low w (published-stays w J e h))
+        (λ J l low was h. reply-newest J m r (subst (λ (w : ℕ). version m.receiver J ≤ w) (sym at) (version-below J l v low m.receiver)) h)
+
     -- the reply to what an opening or a round sends
-    pub heard-owed : (J : Journal) → Legal acks P J → IsNewest v J → IsOwed m.body → sent k J ≡ Some m → first_reply k J ≡ Some r → IsHeard r
-    heard-owed J l low owed s f = heard (λ y. Unit {0}) (λ y e h was known. tt) (λ y h low' known was. (owed-lacks y m.receiver m.body owed, owed-differs y m.receiver m.body owed)) J l low tt s f
+    pub known-owed : (J : Journal) → Legal acks P J → IsOwed m.body → sent k J ≡ Some m → first_reply k J ≡ Some r → IsHeard r ⊎ IsFenced r
+    known-owed J l owed s f = known-reply (λ y. Unit {0}) (λ y e h was known. tt) (λ y h low known was. (owed-lacks y m.receiver m.body owed, owed-differs y m.receiver m.body owed)) J l tt s f
 
     -- and to the Store of an operation that isn't closed
     module _ (some : 1 ≤ acks) (id : Id) (s : Stamp) (is : m.body ≡ Store id s) where
@@ -98,7 +123,7 @@ module _ (acks : ℕ) (P : ℕ → ℕ → Bool) where
       open-before : (J : Journal) (e : Event) → AreOpen (e ∷ J) → AreOpen J
       open-before J e are line b f g = closed-before line J e (are line b (began-stays line J b e f) g)
 
-      store-piece : (J : Journal) → Legal acks P J → IsNewest v J → AreOpen J → sent k J ≡ Some m → holds m.receiver (key_of id) J ≡ true
+      store-piece : (J : Journal) → Legal acks P J → version m.receiver J ≤ v → AreOpen J → sent k J ≡ Some m → holds m.receiver (key_of id) J ≡ true
       store-piece J l low are f =
           let x = store-line acks P J l k m id s f is in
           let w = was-prepared acks P J l x.line x.preparing x.was_prepared in
@@ -106,13 +131,13 @@ module _ (acks : ℕ) (P : ℕ → ℕ → Bool) where
           let inside : contains (x.preparing).row (key_of id) ≡ true = subst (λ (i : Id). contains (x.preparing).row (key_of i) ≡ true) x.same_id (subst (λ (b : Beginning). contains (x.preparing).row (key_of b.id) ≡ true) same w.inside) in
           let o : IsOpen v x.line x.begin x.preparing J = record { began = x.begun; version = x.version ∙ at; prepared = x.was_prepared; unclosed = are x.line x.begin x.begun x.stamped } in
           let h = recipient-holds acks P J l v m.receiver x.line x.begin x.preparing (key_of id) o x.recipient inside in
-          took-piece acks P some J l v h.round m.receiver h.bucket h.union (key_of id) h.took h.inside h.free (version-below J l v low m.receiver)
+          took-piece acks P some J l v h.round m.receiver h.bucket h.union (key_of id) h.took h.inside h.free low
 
-      store-lacks : (J : Journal) → Legal acks P J → IsNewest v J → AreOpen J → sent k J ≡ Some m → Lacks J m.receiver m.body → ⊥
+      store-lacks : (J : Journal) → Legal acks P J → version m.receiver J ≤ v → AreOpen J → sent k J ≡ Some m → Lacks J m.receiver m.body → ⊥
       store-lacks J l low are f h = let x : holds m.receiver (key_of id) J ≡ false = subst (λ (b : Body). Lacks J m.receiver b) is h in true≢false (sym (store-piece J l low are f) ∙ x)
 
-      pub heard-store : (J : Journal) → Legal acks P J → IsNewest v J → AreOpen J → sent k J ≡ Some m → first_reply k J ≡ Some r → IsHeard r
-      heard-store J l low are f g = heard AreOpen (λ y e h was known. open-before y e known) (λ y h low' known was. (store-lacks y h low' known was, λ x. subst (λ (b : Body). Differ y m.receiver b) is x)) J l low are f g
+      pub known-store : (J : Journal) → Legal acks P J → AreOpen J → sent k J ≡ Some m → first_reply k J ≡ Some r → IsHeard r ⊎ IsFenced r
+      known-store J l are f g = known-reply AreOpen (λ y e h was known. open-before y e known) (λ y h low known was. (store-lacks y h low known was, λ x. subst (λ (b : Body). Differ y m.receiver b) is x)) J l are f g
 
     -- and to the Read of a document that such an operation sent since it began
     module _ (some : 1 ≤ acks) (line : ℕ) (b : Beginning) (is : m.body ≡ ReadDoc b.id) where
@@ -164,7 +189,7 @@ module _ (acks : ℕ) (P : ℕ → ℕ → Bool) where
                 version = ap (λ (y : Beginning). y.version) (sym one) ∙ (x.is_open).version;
               }
 
-      read-piece : (J : Journal) → Legal acks P J → IsNewest v J → Since J → sent k J ≡ Some m → holds m.receiver (key_of b.id) J ≡ true
+      read-piece : (J : Journal) → Legal acks P J → version m.receiver J ≤ v → Since J → sent k J ≡ Some m → holds m.receiver (key_of b.id) J ≡ true
       read-piece J l low s f =
           let x = recipient-of J l f s in
           let w = was-prepared acks P J l line x.preparing x.was_prepared in
@@ -172,10 +197,10 @@ module _ (acks : ℕ) (P : ℕ → ℕ → Bool) where
           let inside : contains (x.preparing).row (key_of b.id) ≡ true = subst (λ (y : Beginning). contains (x.preparing).row (key_of y.id) ≡ true) same w.inside in
           let o : IsOpen v line b x.preparing J = record { began = s.begun; version = x.version ∙ at; prepared = x.was_prepared; unclosed = s.unclosed } in
           let h = recipient-holds acks P J l v m.receiver line b x.preparing (key_of b.id) o x.recipient inside in
-          took-piece acks P some J l v h.round m.receiver h.bucket h.union (key_of b.id) h.took h.inside h.free (version-below J l v low m.receiver)
+          took-piece acks P some J l v h.round m.receiver h.bucket h.union (key_of b.id) h.took h.inside h.free low
 
-      read-lacks : (J : Journal) → Legal acks P J → IsNewest v J → Since J → sent k J ≡ Some m → Lacks J m.receiver m.body → ⊥
+      read-lacks : (J : Journal) → Legal acks P J → version m.receiver J ≤ v → Since J → sent k J ≡ Some m → Lacks J m.receiver m.body → ⊥
       read-lacks J l low s f h = let x : holds m.receiver (key_of b.id) J ≡ false = subst (λ (y : Body). Lacks J m.receiver y) is h in true≢false (sym (read-piece J l low s f) ∙ x)
 
-      pub heard-read : (J : Journal) → Legal acks P J → IsNewest v J → Since J → sent k J ≡ Some m → first_reply k J ≡ Some r → IsHeard r
-      heard-read J l low s f g = heard Since since-before (λ y h low' known was. (read-lacks y h low' known was, λ x. subst (λ (c : Body). Differ y m.receiver c) is x)) J l low s f g
+      pub known-read : (J : Journal) → Legal acks P J → Since J → sent k J ≡ Some m → first_reply k J ≡ Some r → IsHeard r ⊎ IsFenced r
+      known-read J l s f g = known-reply Since since-before (λ y h low known was. (read-lacks y h low known was, λ x. subst (λ (c : Body). Differ y m.receiver c) is x)) J l s f g

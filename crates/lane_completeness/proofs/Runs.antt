@@ -104,20 +104,20 @@ module _ (lane : Low) (rules : Rules) (line d v : ℕ) (o : Operation) (stamp : 
     pub legal_before : Legal rules.acks (state_of (history J)) (history J)
     pub fresh : began line (history J) ≡ None
     pub began_before : (k : ℕ) (b : Beginning) → began k (history J) ≡ Some b → began k (history L) ≡ Some b
-    pub newest : IsNewest v (history L)
+    pub newest : IsNewest v (history J) → IsNewest v (history L)
     pub sent_before : (k : ℕ) (m : Message) → sent k (history J) ≡ Some m → sent k (history L) ≡ Some m
     pub state : state_in v L ≡ state_in v J
     pub more : rounds v (history J) ≤ rounds v (history L)
 
-  pub at : (L : List LaneEvent) → IsNewest v (history J) → Run L → IsLegal S L → At L
-  at L newest Same l = record {
+  pub at : (L : List LaneEvent) → Run L → IsLegal S L → At L
+  at L Same l = record {
     legal = meant-legal S start l;
     begun = now (began line (history J)) (l.1.permitted).fresh;
     before = before-now (history J) line d v o.id stamp;
     legal_before = meant-legal S J l.0;
     fresh = (l.1.permitted).fresh;
     began_before = λ k b h. began-stays k (history J) b (meaning J (event.Begun line d v o.id stamp)) h;
-    newest = newest;
+    newest = λ low. low;
     sent_before = λ k m h. h;
     state = refl;
     more = omega arith;
@@ -126,7 +126,7 @@ module _ (lane : Low) (rules : Rules) (line d v : ℕ) (o : Operation) (stamp : 
       now : (x : Option Beginning) → x ≡ None → or_else x (only_if (eqb line line) first) ≡ Some first
       now None h = rw (eq-eqb line line refl) refl
       now (Some y) h = cc
-  at L newest (More e K run w) l = next (at K newest run l.0) (wanted-of lane rules K line o e w)
+  at L (More e K run w) l = next (at K run l.0) (wanted-of lane rules K line o e w)
     where
       next : At K → IsOfRun e → At (e ∷ K)
       next a of = record {
@@ -136,7 +136,7 @@ module _ (lane : Low) (rules : Rules) (line d v : ℕ) (o : Operation) (stamp : 
         legal_before = a.legal_before;
         fresh = a.fresh;
         began_before = λ k b h. began-stays k (history K) b (meaning K e) (a.began_before k b h);
-        newest = λ x h. a.newest x (published-same e K x of h);
+        newest = λ low x h. a.newest low x (published-same e K x of h);
         sent_before = λ k m h. sent-stays k (history K) m (meaning K e) (a.sent_before k m h);
         state = state-same e K v of ∙ a.state;
         more = (let g = rounds-grow v (history K) (meaning K e) in let z = a.more in omega arith);

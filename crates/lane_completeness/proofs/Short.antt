@@ -1,5 +1,6 @@
--- After an undisturbed round its row has enough complete members, or a node wanted memory.
-use Rattle.std.proofs.Common.{◌≡◌, ℕ, true, List, Option, Some, is_some, inl, inr, sym, ap, ◌∙◌, subst, arith}
+-- How an operation ends whose row has too few complete members after a round: a node wanted memory, or nothing was heard of
+-- one to which the round sent.
+use Rattle.std.proofs.Common.{◌≡◌, ℕ, ◌<◌, Bool, true, false, not, ◌&&◌, List, Option, None, Some, is_some, inl, inr, refl, sym, ap, ◌∙◌, subst, arith}
 use mathlib.Core.Bool.{true≢false}
 use Rattle.bucket_ids.specs.Buckets.{Low}
 use Rattle.node_sets.specs.Members.{has_node}
@@ -9,29 +10,40 @@ use Rattle.cluster_states.specs.Publishing.{serves}
 use Rattle.messages.specs.declared.operation.Operation.{Operation}
 use Rattle.messages.specs.declared.outcome.Outcome.{Outcome}
 use Rattle.distributor_part.specs.declared.rules.Rules.{Rules}
-use Rattle.merge_rounds.specs.Rounds.{HaveAllShown}
-use Rattle.lane_journals.specs.Readers.{Journal, round_of, answer}
+use Rattle.ideal_nodes.proofs.Firsts.{member_small}
+use Rattle.op_machine.specs.Outcomes.{absent_of}
+use Rattle.merge_rounds.specs.Rounds.{did_show, HaveAllShown}
+use Rattle.lane_journals.specs.Buckets.{key_of}
+use Rattle.lane_journals.specs.Events.{Body}
+use Rattle.lane_journals.specs.Readers.{Journal, Message, prepared, round_of, answer}
 use Rattle.lane_journals.specs.Facts.{AnsweredApply}
 use Rattle.lane_journals.specs.States.{state_of}
 use Rattle.lane_journals.specs.Meanings.{history}
 use Rattle.lane_journals.specs.Places.{state_in, receivers_of}
 use Rattle.lane_journals.specs.KeptJournals.{IsLegal}
 use Rattle.lane_journals.specs.declared.event.LaneEvent.{LaneEvent}
+use Rattle.lane_journals.proofs.Meant.{state-serves}
 use Rattle.lane_keeping.specs.LaneKeeping.{setting_of}
 use Rattle.lane_operations.specs.OperationKeeping.{WasShort}
-use Rattle.lane_wants.specs.Wants.{Ends, is_round_read, is_round_apply, reads_short, union_short, ShortWants}
-use Rattle.lane_completeness.specs.Completeness.{AreRules, HaveReturned}
+use Rattle.lane_wants.specs.Wants.{Ends, is_round_read, is_round_apply, ShortWants}
+use Rattle.lane_completeness.specs.Completeness.{AreRules}
+use Rattle.lane_completeness.specs.Causes.{IsOfRound, IsOfPhase, OfReading, OfUnion, IsMissing}
 use Rattle.lane_completeness.proofs.Replies.{IsOwed}
-use Rattle.lane_completeness.proofs.Runs.{At, start}
-use Rattle.lane_completeness.proofs.Hearing.{answer-counts, owed-back}
-use Rattle.lane_completeness.proofs.Opening.{IsShort, ends-short}
-use Rattle.lane_completeness.proofs.Sizes.{within-size}
-use Rattle.lane_completeness.proofs.Receivers.{receivers-enough}
-use Rattle.lane_completeness.proofs.Spent.{IsSpent}
+use Rattle.lane_completeness.proofs.Runs.{At, first, sent-since}
+use Rattle.lane_completeness.proofs.Hearing.{answer-counts, Back, owed-came, missing}
+use Rattle.lane_completeness.proofs.Opening.{absent-passes, FallsShort, falls-short}
+use Rattle.lane_completeness.proofs.Receivers.{complete-enough}
+use Rattle.lane_completeness.proofs.Spent.{IsSentIn, is_union, IsSpent}
 use Rattle.lane_completeness.proofs.Since.{RoundSince, NotBegun, UnderWay, Over}
 
+-- of two the one that isn't there, the other is
+but-not : (t u : Bool) → (t && not u) ≡ true → (t ≡ true) × (u ≡ false)
+but-not true true h = cc
+but-not true false h = (refl, refl)
+but-not false u h = cc
+
 module _ (lane : Low) (rules : Rules) (line d : ℕ) (o : Operation) (stamp : Option Stamp) (J L : List LaneEvent) (s : ClusterState)
-    (a : At lane rules line d s.version o stamp J L) (all : HaveReturned (start lane rules line d s.version o stamp J) L) (key : ℕ) (x : Outcome) (w : ShortWants rules L line key s (Ends x)) where
+    (a : At lane rules line d s.version o stamp J L) (legal : IsLegal (setting_of lane rules) L) (unprepared : prepared line (history L) ≡ None) (x : Outcome) (w : ShortWants rules L line (key_of o.id) s (Ends x)) where
   abbrev b : Low
   b = (w.row).bucket
 
@@ -42,56 +54,108 @@ module _ (lane : Low) (rules : Rules) (line d : ℕ) (o : Operation) (stamp : Op
   shown n = ap (λ (c : Low). is_some (answer s.version (round_of s.version c (history L)) n (history L))) (sym w.same_row)
 
   module _ (sp : IsSpent s.version J number b L) (at : state_in s.version L ≡ Some s) where
-    all-read : (WasShort (history L) line (is_round_read s.version b number) → ⊥) → HaveAllShown (w.round).readers (w.round).shown
-    all-read none n reader =
-        let serving = sym ((w.knows).readers_are n) ∙ reader in
-        let r = sp.reads s at n serving in
-        elim (owed-back lane rules line d s.version o stamp J L a all (is_round_read s.version b number) r.number r.message r.late r.was_sent r.version (subst IsOwed (sym r.body) tt) (r.version, r.round, r.body)) [
-          | inl back ↦ (w.knows).shown_are n ∙ sym (shown n)
-              ∙ answer-counts rules.acks (state_of (history L)) s.version number n r.number r.message back.given b r.version r.round r.receiver r.body (history L) a.legal back.back r.was_sent back.reply
-          | inr short ↦ absurd (none short)
-        ]
+    -- to whom the round sent a message, and who didn't answer it
+    round-missing : {body : Body → Type 0} (test : Message → Type 0) (n : ℕ) (r : IsSentIn s.version number n J L body) → IsOwed r.message.body → test r.message
+        → IsOfPhase (history L) line (first lane rules line d s.version o stamp J) r.message → (Back (history L) r.number → ⊥) → (WasShort (history L) line test → ⊥) → IsMissing (history L) line n
+    round-missing test n r owed holds phase counts =
+        let later = sent-since lane rules line d s.version o stamp J L a r.number r.late in
+        missing lane rules line d s.version o stamp J L a test r.number r.message n later r.was_sent r.version r.receiver phase
+        (owed-came lane rules line d s.version o stamp J L a test r.number r.message later r.was_sent holds owed) counts
 
-    module _ (none : WasShort (history L) line (is_round_apply s.version b number) → ⊥) (read : HaveAllShown (w.round).readers (w.round).shown) where
+    of-round : {body : Body → Type 0} (n : ℕ) (r : IsSentIn s.version number n J L body) → IsOfRound (history L) line (first lane rules line d s.version o stamp J) b r.message
+    of-round n r = record { unprepared = unprepared; row_is = ((w.has_row).known).is_row.row (key_of o.id) (w.has_row).inside; round_is = r.round }
+
+    -- ---- Reads
+
+    abbrev unread : ℕ → Bool
+    unread n = serves s n && not (did_show n (w.round).shown)
+
+    unread-missing : (WasShort (history L) line (is_round_read s.version b number) → ⊥) → (n : ℕ) → unread n ≡ true → IsMissing (history L) line n
+    unread-missing none n h =
+        let z = but-not (serves s n) (did_show n (w.round).shown) h in
+        let r = sp.reads s at n z.0 in
+        round-missing (is_round_read s.version b number) n r (subst IsOwed (sym r.body) tt) (r.version, r.round, r.body)
+        (OfReading b (of-round n r) (λ all. true≢false (sym (all n (state-serves (setting_of lane rules) L legal s.version n s at ∙ z.0)) ∙ shown n ∙ sym ((w.knows).shown_are n) ∙ z.1)) r.body)
+        (λ back. true≢false (sym (answer-counts rules.acks (state_of (history L)) s.version number n r.number r.message back.given b r.version r.round r.receiver r.body (history L) a.legal back.back r.was_sent back.reply)
+        ∙ shown n ∙ sym ((w.knows).shown_are n) ∙ z.1))
+        none
+
+    some-unread : (HaveAllShown (w.round).readers (w.round).shown → ⊥) → unread (absent_of (w.row).active unread) ≡ true
+    some-unread lacks = absent-passes (w.row).active unread (λ none. lacks (λ n reader. by_shown none n reader (did_show n (w.round).shown) refl))
+      where
+        by_shown : ((n : ℕ) → n < 32 → unread n ≡ false) → (n : ℕ) → has_node (w.round).readers n ≡ true → (t : Bool) → did_show n (w.round).shown ≡ t → did_show n (w.round).shown ≡ true
+        by_shown none n reader true f = f
+        by_shown none n reader false f =
+            let serving = sym ((w.knows).readers_are n) ∙ reader in
+            let is : unread n ≡ true = ap (λ (t : Bool). t && not (did_show n (w.round).shown)) serving ∙ ap (λ (t : Bool). not t) f in
+            absurd (true≢false (sym is ∙ none n (member_small (w.round).readers n reader)))
+
+    -- ---- Applies
+
+    module _ (read : HaveAllShown (w.round).readers (w.round).shown) where
       all-answered : (n : ℕ) → serves s n ≡ true → is_some (answer s.version number n (history L)) ≡ true
       all-answered n serving = shown n ∙ sym ((w.knows).shown_are n) ∙ read n ((w.knows).readers_are n ∙ serving)
 
-      has-union : (n : ℕ) → has_node (w.round).receivers n ≡ true → AnsweredApply s.version number n b (history L)
-      has-union n has =
-          let r = sp.applies s at all-answered (w.round).receivers (subst (λ (c : Low). receivers_of s.version c L ≡ Some (w.round).receivers) w.same_row (w.knows).receivers_are) n has in
-          let u = r.body in
-          elim (owed-back lane rules line d s.version o stamp J L a all (is_round_apply s.version b number) r.number r.message r.late r.was_sent r.version (subst IsOwed (sym u.1) tt) (r.version, r.round, u)) [
-            | inl back ↦ record {
-              number = r.number;
-              message = r.message;
-              union = u.0;
-              content = (back.given).content;
-              names = (back.given).names;
-              was_sent = r.was_sent;
-              receiver = r.receiver;
-              version = r.version;
-              round = r.round;
-              body = u.1;
-              reply = back.reply;
-              back = back.back;
-            }
-            | inr short ↦ absurd (none short)
-          ]
+      -- the round of the row's bucket is that of the round's row
+      holders-are : (n : ℕ) → AnsweredApply s.version number n b (history L) → has_node (w.round).holders n ≡ true
+      holders-are n y = ((w.knows).holders_are n).1 (subst (λ (c : Low). AnsweredApply s.version (round_of s.version c (history L)) n c (history L)) (sym w.same_row) y)
 
-      is-complete : (n : ℕ) → has_node (w.round).receivers n ≡ true → has_node (w.row).complete n ≡ true
-      is-complete n has = sym (((w.has_row).known).members n key (w.has_row).inside) ∙ sp.marks n key (has-union n has) (w.has_row).inside
+      are-holders : (n : ℕ) → has_node (w.round).holders n ≡ true → AnsweredApply s.version number n b (history L)
+      are-holders n h = subst (λ (c : Low). AnsweredApply s.version (round_of s.version c (history L)) n c (history L)) w.same_row (((w.knows).holders_are n).0 h)
 
-      not-few : AreRules rules → IsLegal (setting_of lane rules) L → ⊥
-      not-few are l =
-          let enough = receivers-enough lane rules are L l s.version (w.round).row (w.round).receivers (w.knows).receivers_are in
-          let more = within-size (w.round).receivers (w.row).complete is-complete in
+      was-told : (n : ℕ) → has_node (w.round).receivers n ≡ true → IsSentIn s.version number n J L (is_union b)
+      was-told n has = sp.applies s at all-answered (w.round).receivers (subst (λ (c : Low). receivers_of s.version c L ≡ Some (w.round).receivers) w.same_row (w.knows).receivers_are) n has
+
+      has-union : (n : ℕ) (r : IsSentIn s.version number n J L (is_union b)) → Back (history L) r.number → has_node (w.round).holders n ≡ true
+      has-union n r back = holders-are n (record {
+        number = r.number;
+        message = r.message;
+        union = r.body.0;
+        content = (back.given).content;
+        names = (back.given).names;
+        was_sent = r.was_sent;
+        receiver = r.receiver;
+        version = r.version;
+        round = r.round;
+        body = r.body.1;
+        reply = back.reply;
+        back = back.back;
+      })
+
+      abbrev unapplied : ℕ → Bool
+      unapplied n = has_node (w.round).receivers n && not (has_node (w.round).holders n)
+
+      unapplied-missing : (WasShort (history L) line (is_round_apply s.version b number) → ⊥) → (n : ℕ) → unapplied n ≡ true → IsMissing (history L) line n
+      unapplied-missing none n h =
+          let z = but-not (has_node (w.round).receivers n) (has_node (w.round).holders n) h in
+          let r = was-told n z.0 in
+          round-missing (is_round_apply s.version b number) n r (subst IsOwed (sym r.body.1) tt) (r.version, r.round, r.body)
+          (OfUnion b (of-round n r) (λ m serving. all-answered m (sym (state-serves (setting_of lane rules) L legal s.version m s at) ∙ serving)) r.body.0 r.body.1)
+          (λ back. true≢false (sym (has-union n r back) ∙ z.1)) none
+
+      is-complete : ((n : ℕ) → has_node (w.round).receivers n ≡ true → has_node (w.round).holders n ≡ true) → (n : ℕ) → has_node (w.round).receivers n ≡ true → has_node (w.row).complete n ≡ true
+      is-complete all n has = sym (((w.has_row).known).members n (key_of o.id) (w.has_row).inside) ∙ sp.marks n (key_of o.id) (are-holders n (all n has)) (w.has_row).inside
+
+      -- where all receivers had the union the row had enough complete members
+      not-few : AreRules rules → ((n : ℕ) → has_node (w.round).receivers n ≡ true → has_node (w.round).holders n ≡ true) → ⊥
+      not-few are all =
+          let enough = complete-enough lane rules are L legal s.version (w.round).row (w.round).receivers (w.row).complete (w.knows).receivers_are (is-complete all) in
           let few = w.few in
-          omega (arith, enough, more, few)
+          omega (arith, enough, few)
 
-  pub short-ends : AreRules rules → IsLegal (setting_of lane rules) L → state_in s.version L ≡ Some s → RoundSince s.version J b L → IsShort L line x
-  short-ends are l at (NotBegun h) = absurd (w.since (h ∙ ap (λ (y : Journal). round_of s.version b y) (sym a.before)))
-  short-ends are l at (UnderWay lt run) = absurd (true≢false (sym run ∙ (w.has_row).no_round))
-  short-ends are l at (Over sp) = elim w.gives [
-    | inl unread ↦ ends-short L line (is_round_read s.version b number) (reads_short s w.row w.round) x unread.1 (λ none. unread.0 (all-read sp at none))
-    | inr over ↦ ends-short L line (is_round_apply s.version b number) (union_short rules w.row w.round) x over.1 (λ none. not-few sp at none over.0 are l)
+      some-unapplied : AreRules rules → unapplied (absent_of (w.row).active unapplied) ≡ true
+      some-unapplied are = absent-passes (w.row).active unapplied (λ none. not-few are (λ n has. by_held none n has (has_node (w.round).holders n) refl))
+        where
+          by_held : ((n : ℕ) → n < 32 → unapplied n ≡ false) → (n : ℕ) → has_node (w.round).receivers n ≡ true → (t : Bool) → has_node (w.round).holders n ≡ t → has_node (w.round).holders n ≡ true
+          by_held none n has true f = f
+          by_held none n has false f =
+              let is : unapplied n ≡ true = ap (λ (t : Bool). t && not (has_node (w.round).holders n)) has ∙ ap (λ (t : Bool). not t) f in
+              absurd (true≢false (sym is ∙ none n (member_small (w.round).receivers n has)))
+
+  pub short-ends : AreRules rules → state_in s.version L ≡ Some s → RoundSince s.version J b L → FallsShort L line x
+  short-ends are at (NotBegun h) = absurd (w.since (h ∙ ap (λ (y : Journal). round_of s.version b y) (sym a.before)))
+  short-ends are at (UnderWay lt run) = absurd (true≢false (sym run ∙ (w.has_row).no_round))
+  short-ends are at (Over sp) = elim w.gives [
+    | inl reads ↦ falls-short L line (is_round_read s.version b number) _ _ _ x reads.1 (λ none. unread-missing sp at none _ (some-unread sp at reads.0))
+    | inr applies ↦ falls-short L line (is_round_apply s.version b number) _ _ _ x applies.1 (λ none. unapplied-missing sp at applies.0 none _ (some-unapplied sp at applies.0 are))
   ]

@@ -1,5 +1,5 @@
--- What an undisturbed line does with a row: its newest round is an old one, is under way, or is spent.
-use Rattle.std.proofs.Common.{◌≡◌, ℕ, ◌+◌, ◌<◌, Bool, true, false, cond, List, ◌∷◌, Option, Some, None, inl, inr, refl, sym, ◌∙◌, subst, arith, eqb}
+-- What a line whose replies come back in turn does with a row: its newest round is an old one, is under way, or is spent.
+use Rattle.std.proofs.Common.{◌≡◌, ℕ, ◌+◌, ◌<◌, Bool, true, false, cond, List, ◌∷◌, Option, Some, None, inl, inr, refl, sym, ap, ◌∙◌, subst, arith, eqb}
 use mathlib.Core.Bool.{true≢false}
 use Rattle.std.proofs.lemmas.Bool.{eqb-true}
 use Rattle.bucket_ids.specs.Buckets.{Low}
@@ -10,9 +10,10 @@ use Rattle.messages.specs.declared.operation.Operation.{Operation}
 use Rattle.distributor_part.specs.declared.rules.Rules.{Rules}
 use Rattle.merge_rounds.specs.Rounds.{RoundState}
 use Rattle.lane_journals.specs.Buckets.{contains, same_bucket}
+use Rattle.lane_journals.specs.Events as plain
 use Rattle.lane_journals.specs.Readers.{Message, sent, rounds, round_of, running, complete}
 use Rattle.lane_journals.specs.States.{state_of}
-use Rattle.lane_journals.specs.Meanings.{history, nodes}
+use Rattle.lane_journals.specs.Meanings.{history, nodes, meaning}
 use Rattle.lane_journals.specs.Places.{Setting}
 use Rattle.lane_journals.specs.KeptJournals.{IsLegal}
 use Rattle.lane_journals.specs.declared.event.LaneEvent.{LaneEvent}
@@ -21,8 +22,8 @@ use Rattle.lane_journals.proofs.BucketLaws.{same_bucket-true}
 use Rattle.lane_journals.proofs.Meant.{meant-legal}
 use Rattle.lane_keeping.specs.LaneKeeping.{setting_of}
 use Rattle.lane_wants.specs.Wants.{IsCarriage, Same, More}
-use Rattle.lane_completeness.specs.Completeness.{HaveReturned, InTurn}
-use Rattle.lane_completeness.proofs.Replies.{IsNewest}
+use Rattle.lane_completeness.specs.Causes.{just_sent, ReturnInTurn}
+use Rattle.lane_completeness.proofs.Turns.{turn-before}
 use Rattle.lane_completeness.proofs.Additions.{Ending, Added, ASending, AnOpening, APreparing, AWriting, ARound, AnEnd, added}
 use Rattle.lane_completeness.proofs.Runs.{At, at, start, Run, later-round}
 use Rattle.lane_completeness.proofs.Spent.{Passes, IsSpent, spent-stays, ended}
@@ -60,19 +61,32 @@ passes-ended v d w b c set L other = by_tests (eqb w v) (same_bucket c b) refl r
     by_tests true false e f = record { state = refl; round = refl; run = rw (e, f) refl; receivers = refl; marks = λ n key h. marks-grow v w n key c set L h }
     by_tests false u e f = record { state = refl; round = refl; run = rw e refl; receivers = refl; marks = λ n key h. marks-grow v w n key c set L h }
 
-module _ (lane : Low) (rules : Rules) (line d v : ℕ) (o : Operation) (stamp : Option Stamp) (J : List LaneEvent) (newest : IsNewest v (history J)) (b : Low) where
+module _ (lane : Low) (rules : Rules) (line d v : ℕ) (o : Operation) (stamp : Option Stamp) (J : List LaneEvent) (b : Low) where
   abbrev S : Setting
   S = setting_of lane rules
 
-  passes : (L : List LaneEvent) (e : LaneEvent) → IsLegal S (e ∷ L) → Passes v b L e → RoundSince v J b L → RoundSince v J b (e ∷ L)
-  passes L e l p (NotBegun h) = NotBegun (p.round ∙ h)
-  passes L e l p (UnderWay lt run) = UnderWay (subst (λ (i : ℕ). rounds v (history J) < i) (sym p.round) lt) (p.run ∙ run)
-  passes L e l p (Over sp) = Over (subst (λ (i : ℕ). IsSpent v J i b (e ∷ L)) (sym p.round) (spent-stays S.acks (state_of (history (e ∷ L))) v J (round_of v b (history L)) b L e (meant-legal S (e ∷ L) l) sp p))
-
   module _ (L : List LaneEvent) (a : At lane rules line d v o stamp J L) (ih : RoundSince v J b L) where
+    -- a reply to a message of a round that was begun since comes back in turn
+    returns : (e : LaneEvent) → ReturnInTurn (start lane rules line d v o stamp J) (e ∷ L) → (r : ℕ) → rounds v (history J) < r
+        → (k : ℕ) (m : Message) → meaning L e ≡ plain.Returned k → sent k (history L) ≡ Some m → m.version ≡ v → m.round ≡ r → just_sent L ≡ Some k
+    returns (event.Returned n) t r lt k m is was at of =
+        let same : n ≡ k = cc in
+        let late = later-round lane rules line d v o stamp J L a k m was at (subst (λ (i : ℕ). rounds v (history J) < i) (sym of) lt) in
+        t.1 (ap (λ (x : ℕ). sent x (history J)) same ∙ late) ∙ ap (λ (x : ℕ). Some x) same
+    returns _ t r lt k m is was at of = absurd (cc)
+
+    passes : (e : LaneEvent) → IsLegal S (e ∷ L) → ReturnInTurn (start lane rules line d v o stamp J) (e ∷ L) → Passes v b L e → RoundSince v J b (e ∷ L)
+    passes e l t p = by_round ih
+      where
+        by_round : RoundSince v J b L → RoundSince v J b (e ∷ L)
+        by_round (NotBegun h) = NotBegun (p.round ∙ h)
+        by_round (UnderWay lt run) = UnderWay (subst (λ (i : ℕ). rounds v (history J) < i) (sym p.round) lt) (p.run ∙ run)
+        by_round (Over sp) = Over (subst (λ (i : ℕ). IsSpent v J i b (e ∷ L)) (sym p.round)
+            (spent-stays S.acks (state_of (history (e ∷ L))) v J (round_of v b (history L)) b L e (meant-legal S (e ∷ L) l) sp (returns e t (round_of v b (history L)) sp.later) p))
+
     -- a round begins in the row
-    begins : (e w : ℕ) (c : Low) (set : ℕ) → IsLegal S (event.Decided e w (choice.RoundBegun c set) ∷ L) → RoundSince v J b (event.Decided e w (choice.RoundBegun c set) ∷ L)
-    begins e w c set l = by_tests (eqb w v) (same_bucket c b) refl refl
+    begins : (e w : ℕ) (c : Low) (set : ℕ) → IsLegal S (event.Decided e w (choice.RoundBegun c set) ∷ L) → ReturnInTurn (start lane rules line d v o stamp J) L → RoundSince v J b (event.Decided e w (choice.RoundBegun c set) ∷ L)
+    begins e w c set l t = by_tests (eqb w v) (same_bucket c b) refl refl
       where
         number : eqb w v ≡ true → same_bucket c b ≡ true → round_of v b (history (event.Decided e w (choice.RoundBegun c set) ∷ L)) ≡ rounds v (history L) + 1
         number f g = rw (f, g) refl
@@ -82,13 +96,13 @@ module _ (lane : Low) (rules : Rules) (line d v : ℕ) (o : Operation) (stamp : 
 
         by_tests : (t u : Bool) → eqb w v ≡ t → same_bucket c b ≡ u → RoundSince v J b (event.Decided e w (choice.RoundBegun c set) ∷ L)
         by_tests true true f g = UnderWay (let m = a.more in let z = number f g in omega (arith, m, z)) (under-way f g)
-        by_tests true false f g = passes L _ l (passes-begun v e w b c set L (λ x y. true≢false (sym y ∙ g))) ih
-        by_tests false u f g = passes L _ l (passes-begun v e w b c set L (λ x y. true≢false (sym x ∙ f))) ih
+        by_tests true false f g = passes _ l t (passes-begun v e w b c set L (λ x y. true≢false (sym y ∙ g)))
+        by_tests false u f g = passes _ l t (passes-begun v e w b c set L (λ x y. true≢false (sym x ∙ f)))
 
     -- one ends
-    ends : (all : HaveReturned (start lane rules line d v o stamp J) L) (e : ℕ) (s : ClusterState) (r : RoundState) → Ending lane L line o s r → IsLegal S (event.Decided e s.version (choice.RoundEnded r.row r.holders) ∷ L)
+    ends : ReturnInTurn (start lane rules line d v o stamp J) L → (e : ℕ) (s : ClusterState) (r : RoundState) → Ending lane L line o s r → IsLegal S (event.Decided e s.version (choice.RoundEnded r.row r.holders) ∷ L)
         → RoundSince v J b (event.Decided e s.version (choice.RoundEnded r.row r.holders) ∷ L)
-    ends all e s r ending l = by_tests (eqb s.version v) (same_bucket r.row b) refl refl
+    ends t e s r ending l = by_tests (eqb s.version v) (same_bucket r.row b) refl refl
       where
         after : List LaneEvent
         after = event.Decided e s.version (choice.RoundEnded r.row r.holders) ∷ L
@@ -99,7 +113,7 @@ module _ (lane : Low) (rules : Rules) (line d v : ℕ) (o : Operation) (stamp : 
         spent : s.version ≡ v → r.row ≡ b → rounds v (history J) < round_of v b (history L) → IsSpent v J (round_of v b (history L)) b (event.Decided e s.version (choice.RoundEnded r.row r.holders) ∷ L)
         spent under row lt =
             let since : rounds s.version (history J) < round_of s.version r.row (history L) = subst (λ (w : ℕ). rounds w (history J) < round_of w r.row (history L)) (sym under) (subst (λ (c : Low). rounds v (history J) < round_of v c (history L)) (sym row) lt) in
-            let x = ended rules.acks (state_of (history L)) lane line o J L a.legal s r ending since (late under) all e in
+            let x = ended rules.acks (state_of (history L)) lane line o J L a.legal s r ending since (late under) e in
             subst (λ (c : Low). IsSpent v J (round_of v c (history L)) c (event.Decided e s.version (choice.RoundEnded r.row r.holders) ∷ L)) row
             (subst (λ (w : ℕ). IsSpent w J (round_of w r.row (history L)) r.row (event.Decided e s.version (choice.RoundEnded r.row r.holders) ∷ L)) under x)
 
@@ -110,31 +124,29 @@ module _ (lane : Low) (rules : Rules) (line d v : ℕ) (o : Operation) (stamp : 
 
         by_tests : (t u : Bool) → eqb s.version v ≡ t → same_bucket r.row b ≡ u → RoundSince v J b (event.Decided e s.version (choice.RoundEnded r.row r.holders) ∷ L)
         by_tests true true f g = here (eqb-true s.version v f) (same_bucket-true r.row b g) ih
-        by_tests true false f g = passes L _ l (passes-ended v e s.version b r.row r.holders L (λ x y. true≢false (sym y ∙ g))) ih
-        by_tests false u f g = passes L _ l (passes-ended v e s.version b r.row r.holders L (λ x y. true≢false (sym x ∙ f))) ih
+        by_tests true false f g = passes _ l t (passes-ended v e s.version b r.row r.holders L (λ x y. true≢false (sym y ∙ g)))
+        by_tests false u f g = passes _ l t (passes-ended v e s.version b r.row r.holders L (λ x y. true≢false (sym x ∙ f)))
 
-    wants-on : (all : HaveReturned (start lane rules line d v o stamp J) L) (e : LaneEvent) → Added lane L line o e → IsLegal S (e ∷ L) → RoundSince v J b (e ∷ L)
-    wants-on all e (ASending number m) l = passes L _ l (record { state = refl; round = refl; run = refl; receivers = refl; marks = λ n key h. h }) ih
-    wants-on all e (AnOpening x w rows) l = passes L _ l (record { state = refl; round = refl; run = refl; receivers = refl; marks = λ n key h. h }) ih
-    wants-on all e (APreparing x row set) l = passes L _ l (record { state = refl; round = refl; run = refl; receivers = refl; marks = λ n key h. h }) ih
-    wants-on all e (AWriting x entry) l = passes L _ l (record { state = refl; round = refl; run = refl; receivers = refl; marks = λ n key h. h }) ih
-    wants-on all e (ARound x w row set) l = begins x w row set l
-    wants-on all e (AnEnd x s r ending) l = ends all x s r ending l
+    -- the row's round after one more event
+    abbrev StaysBy : LaneEvent → Type 0
+    StaysBy e = ReturnInTurn (start lane rules line d v o stamp J) (e ∷ L) → IsLegal S (e ∷ L) → RoundSince v J b (e ∷ L)
 
-    carried-on : (e : LaneEvent) → IsCarriage e → IsLegal S (e ∷ L) → RoundSince v J b (e ∷ L)
-    carried-on (event.Delivered n y) c l = passes L _ l (record { state = refl; round = refl; run = refl; receivers = refl; marks = λ n key h. h }) ih
-    carried-on (event.Returned n) c l = passes L _ l (record { state = refl; round = refl; run = refl; receivers = refl; marks = λ n key h. h }) ih
-    carried-on _ c l = absurd c
+    wants-on : (e : LaneEvent) → Added lane L line o e → StaysBy e
+    wants-on e (ASending number m) t l = passes _ l t (record { state = refl; round = refl; run = refl; receivers = refl; marks = λ n key h. h })
+    wants-on e (AnOpening x w rows) t l = passes _ l t (record { state = refl; round = refl; run = refl; receivers = refl; marks = λ n key h. h })
+    wants-on e (APreparing x row set) t l = passes _ l t (record { state = refl; round = refl; run = refl; receivers = refl; marks = λ n key h. h })
+    wants-on e (AWriting x entry) t l = passes _ l t (record { state = refl; round = refl; run = refl; receivers = refl; marks = λ n key h. h })
+    wants-on e (ARound x w row set) t l = begins x w row set l t
+    wants-on e (AnEnd x s r ending) t l = ends t x s r ending l
 
-  pub since : (L : List LaneEvent) → Run lane rules line d v o stamp J L → IsLegal S L → InTurn (start lane rules line d v o stamp J) L → RoundSince v J b L
+    carried-on : (e : LaneEvent) → IsCarriage e → StaysBy e
+    carried-on (event.Delivered n y) c t l = passes _ l t (record { state = refl; round = refl; run = refl; receivers = refl; marks = λ n key h. h })
+    carried-on (event.Returned n) c t l = passes _ l t (record { state = refl; round = refl; run = refl; receivers = refl; marks = λ n key h. h })
+    carried-on _ c t l = absurd c
+
+  pub since : (L : List LaneEvent) → Run lane rules line d v o stamp J L → IsLegal S L → ReturnInTurn (start lane rules line d v o stamp J) L → RoundSince v J b L
   since L Same l t = NotBegun refl
-  since L (More e K run w) l t = next (at lane rules line d v o stamp J K newest run l.0) (since K run l.0 t.0)
+  since L (More e K run w) l t = next (at lane rules line d v o stamp J K run l.0) (since K run l.0 (turn-before (start lane rules line d v o stamp J) e K t))
     where
       next : At lane rules line d v o stamp J K → RoundSince v J b K → RoundSince v J b (e ∷ K)
-      next a ih = elim w [
-        | inl c ↦ carried-on K a ih e c l
-        | inr x ↦ elim t.1 [
-          | inl c ↦ carried-on K a ih e c l
-          | inr all ↦ wants-on K a ih all e (added lane rules K line o e x) l
-        ]
-      ]
+      next a ih = elim w [ inl c ↦ carried-on K a ih e c t l | inr x ↦ wants-on K a ih e (added lane rules K line o e x) t l ]

@@ -1,4 +1,4 @@
--- A round that was begun since and is over: what was sent in it all came back, so nothing more becomes of it.
+-- A round that was begun since and is over: no reply to what was sent in it comes back any more.
 use Rattle.std.proofs.Common.{◌≡◌, ◌⊎◌, ℕ, ◌<◌, ◌≤◌, Bool, true, false, cond, ◌&&◌, List, [], ◌∷◌, Option, Some, None, is_some, inl, inr, refl, sym, ap, ◌∙◌, subst, arith, eqb, eq-eqb}
 use mathlib.Core.Bool.{true≢false}
 use Rattle.std.proofs.lemmas.Bool.{eqb-true, and_from, lt-ltb}
@@ -11,18 +11,19 @@ use Rattle.messages.specs.declared.operation.Operation.{Operation}
 use Rattle.merge_rounds.specs.Rounds.{RoundState, HaveAllShown}
 use Rattle.lane_journals.specs.Buckets.{contains, same_bucket}
 use Rattle.lane_journals.specs.Events.{Content, Body, Ask, Read, ReadDoc, Store, Apply, Delete, Split, Join, Ready, Activate, Event, Sent, Returned}
-use Rattle.lane_journals.specs.Readers.{Journal, Given, or_else, only_if, Message, sent, first_reply, returned, is_read, round_in, rounds, round_of, running, answer, answer_of, complete}
+use Rattle.lane_journals.specs.Readers.{Journal, Given, or_else, only_if, Message, sent, first_reply, is_read, round_in, rounds, round_of, running, answer, answer_of, complete}
 use Rattle.lane_journals.specs.Facts.{AnsweredApply}
-use Rattle.lane_journals.specs.Legal.{MayReturn, MaySend, MayCarry, Permits, Legal}
+use Rattle.lane_journals.specs.Legal.{MaySend, MayCarry, Permits, Legal}
 use Rattle.lane_journals.specs.Meanings.{history, meaning}
 use Rattle.lane_journals.specs.Places.{state_in, receivers_of}
 use Rattle.lane_journals.specs.declared.event.LaneEvent.{LaneEvent}
 use Rattle.lane_journals.specs.declared.event.LaneEvent.TheVariants as event
 use Rattle.lane_journals.proofs.BucketLaws.{same_bucket-refl}
-use Rattle.lane_journals.proofs.Basics.{sent-stays, sent-cases, sent_before, returned-stays, returned-cases, returned-replied, replied-sent, first_reply-stays, number-fresh}
+use Rattle.lane_journals.proofs.Basics.{sent-stays, sent-cases, sent_before, returned-cases, returned-replied, replied-sent, first_reply-stays, number-fresh}
 use Rattle.lane_journals.proofs.Rows.{IsRound, IsRound-stays, isround-one, running-round, sent-round}
 use Rattle.lane_journals.proofs.Serials.{answer_of-parts}
 use Rattle.lane_rounds.specs.RoundKeeping.{was_sent, is_apply, is_of, is_among_first}
+use Rattle.lane_completeness.specs.Causes.{just_sent}
 use Rattle.lane_completeness.proofs.Sizes.{member-place}
 use Rattle.lane_completeness.proofs.Additions.{Ending}
 
@@ -103,8 +104,8 @@ pub record IsSpent (v : ℕ) (J : List LaneEvent) (r : ℕ) (b : Low) (L : List 
   pub is_round : IsRound v r b (history L)
   pub later : rounds v (history J) < r
   pub over : running v b (history L) ≡ false
-  -- all of its messages came back
-  pub spent : (k : ℕ) (m : Message) → sent k (history L) ≡ Some m → m.version ≡ v → m.round ≡ r → returned k (history L) ≡ true
+  -- none of its messages is one whose reply may still come back
+  pub spent : (k : ℕ) (m : Message) → sent k (history L) ≡ Some m → m.version ≡ v → m.round ≡ r → just_sent L ≡ Some k → ⊥
   -- each node that serves was asked
   pub reads : (s : ClusterState) → state_in v L ≡ Some s → (n : ℕ) → serves s n ≡ true → IsSentIn v r n J L (λ x. x ≡ Read b)
   -- and once all answered each receiver was told
@@ -118,6 +119,17 @@ sent-in-stays v r n J L test e x = record { number = x.number; message = x.messa
 
 -- ---- it stays
 
+-- what was sent before the event and may still come back might come back before it
+just-before : (acks : ℕ) (P : ℕ → ℕ → Bool) (L : List LaneEvent) (e : LaneEvent) → Legal acks P (history (e ∷ L)) → (k : ℕ) (m : Message) → sent k (history L) ≡ Some m → just_sent (e ∷ L) ≡ Some k → just_sent L ≡ Some k
+just-before acks P L (event.Sent n v d to b) l k m s just =
+    let same : n ≡ k = cc in
+    let fresh = number-fresh P (history L) n v d to _ l.1 in
+    let both : ◌≡◌ {A = Option Message} (Some m) None = sym s ∙ ap (λ (x : ℕ). sent x (history L)) (sym same) ∙ fresh in
+    absurd (cc)
+just-before acks P L (event.Delivered n r) l k m s just = just
+just-before acks P L (event.Returned n) l k m s just = just
+just-before acks P L _ l k m s just = absurd (cc)
+
 -- the event leaves the row's round, and no complete member loses its mark
 pub record Passes (v : ℕ) (b : Low) (L : List LaneEvent) (e : LaneEvent) : Type 0 where
   pub state : state_in v (e ∷ L) ≡ state_in v L
@@ -126,7 +138,8 @@ pub record Passes (v : ℕ) (b : Low) (L : List LaneEvent) (e : LaneEvent) : Typ
   pub receivers : receivers_of v b (e ∷ L) ≡ receivers_of v b L
   pub marks : (n key : ℕ) → complete v n key (history L) ≡ true → complete v n key (history (e ∷ L)) ≡ true
 
-module _ (acks : ℕ) (P : ℕ → ℕ → Bool) (v : ℕ) (J : List LaneEvent) (r : ℕ) (b : Low) (L : List LaneEvent) (e : LaneEvent) (l : Legal acks P (history (e ∷ L))) (sp : IsSpent v J r b L) where
+module _ (acks : ℕ) (P : ℕ → ℕ → Bool) (v : ℕ) (J : List LaneEvent) (r : ℕ) (b : Low) (L : List LaneEvent) (e : LaneEvent) (l : Legal acks P (history (e ∷ L))) (sp : IsSpent v J r b L)
+    (in_turn : (k : ℕ) (m : Message) → meaning L e ≡ Returned k → sent k (history L) ≡ Some m → m.version ≡ v → m.round ≡ r → just_sent L ≡ Some k) where
   -- no message of it is sent any more
   no-other : (c : Low) → running v c (history L) ≡ true → round_of v c (history L) ≡ r → ⊥
   no-other c run of =
@@ -149,9 +162,9 @@ module _ (acks : ℕ) (P : ℕ → ℕ → Bool) (v : ℕ) (J : List LaneEvent) 
   no-more n (Ready c) may of = zero-round (sym of)
   no-more n (Activate c) may of = zero-round (sym of)
 
-  spent-now : (k : ℕ) (m : Message) → sent k (history (e ∷ L)) ≡ Some m → m.version ≡ v → m.round ≡ r → returned k (history (e ∷ L)) ≡ true
-  spent-now k m s at of = elim (sent-cases k (history L) (meaning L e) m s) [
-    | inl old ↦ returned-stays k (history L) (meaning L e) (sp.spent k m old at of)
+  spent-now : (k : ℕ) (m : Message) → sent k (history (e ∷ L)) ≡ Some m → m.version ≡ v → m.round ≡ r → just_sent (e ∷ L) ≡ Some k → ⊥
+  spent-now k m s at of just = elim (sent-cases k (history L) (meaning L e) m s) [
+    | inl old ↦ sp.spent k m old at of (just-before acks P L e l k m old just)
     | inr new ↦ (let p : MaySend P (history L) k m.version new.sender m.receiver m.body = subst (λ (x : Event). Permits acks P (history L) x) new.is l.1 in
         absurd (no-more m.receiver m.body (subst (λ (w : ℕ). MayCarry P (history L) w m.receiver m.body) at p.carries)
         (subst (λ (w : ℕ). round_in w m.body (history L) ≡ r) at (sym new.round ∙ of))))
@@ -160,8 +173,7 @@ module _ (acks : ℕ) (P : ℕ → ℕ → Bool) (v : ℕ) (J : List LaneEvent) 
   -- nor does one come back
   not-again : (k : ℕ) (m : Message) → meaning L e ≡ Returned k → sent k (history L) ≡ Some m → m.version ≡ v → m.round ≡ r → ⊥
   not-again k m is s at of =
-      let may : MayReturn (history L) k = subst (λ (x : Event). Permits acks P (history L) x) is l.1 in
-      true≢false (sym (sp.spent k m s at of) ∙ may.once)
+      sp.spent k m s at of (in_turn k m is s at of)
 
   answer-before : (n : ℕ) → is_some (answer v r n (history (e ∷ L))) ≡ true → is_some (answer v r n (history L)) ≡ true
   answer-before n h = by_event (meaning L e) refl h
@@ -218,8 +230,7 @@ module _ (acks : ℕ) (P : ℕ → ℕ → Bool) (lane : Low) (line : ℕ) (o : 
   number = round_of s.version r.row (history L)
 
   module _ (began_since : rounds s.version (history J) < number)
-      (late : (k : ℕ) (m : Message) → sent k (history L) ≡ Some m → m.version ≡ s.version → rounds s.version (history J) < m.round → sent k (history J) ≡ None)
-      (all : (k : ℕ) (m : Message) → sent k (history L) ≡ Some m → sent k (history J) ≡ None → returned k (history L) ≡ true) where
+      (late : (k : ℕ) (m : Message) → sent k (history L) ≡ Some m → m.version ≡ s.version → rounds s.version (history J) < m.round → sent k (history J) ≡ None) where
     same-state : (t : ClusterState) → state_in s.version L ≡ Some t → t ≡ s
     same-state t h = let z : Some t ≡ Some s = sym h ∙ ending.published in cc
 
@@ -296,13 +307,16 @@ module _ (acks : ℕ) (P : ℕ → ℕ → Bool) (lane : Low) (line : ℕ) (o : 
           ∙ ap (λ (t : Bool). cond t (cond (has_node r.holders n) true (complete s.version n key (history L))) (complete s.version n key (history L))) inside
           ∙ ap (λ (t : Bool). cond t true (complete s.version n key (history L))) has
 
+      not-some : (k : ℕ) → ◌≡◌ {A = Option ℕ} None (Some k) → ⊥
+      not-some k h = cc
+
       pub ended : IsSpent s.version J number r.row after
       ended = record {
         is_round = is-round;
         later = began_since;
         over = ap (λ (t : Bool). cond t (cond (same_bucket r.row r.row) false (running s.version r.row (history L))) (running s.version r.row (history L))) (eq-eqb s.version s.version refl)
             ∙ ap (λ (t : Bool). cond t false (running s.version r.row (history L))) (same_bucket-refl r.row);
-        spent = λ k m was at of. all k m was (since-then k m was at of);
+        spent = λ k m was at of just. not-some k just;
         reads = λ t at n serving. sent-then n (λ x. x ≡ Read r.row) (was-read n (subst (λ (x : ClusterState). serves x n ≡ true) (same-state t at) serving));
         applies = λ t at answered set is n has. told-then (λ m serving. answered m (subst (λ (x : ClusterState). serves x m ≡ true) (sym (same-state t at)) serving)) set is n has;
         marks = λ n key a inside. holder-complete n key ((((ending.knows).answers).holders_are n).1 (applied-then n a)) inside;

@@ -1,5 +1,5 @@
--- What comes back of the Stores and the Reads of an undisturbed line.
-use Rattle.std.proofs.Common.{◌≡◌, ◌⊎◌, ℕ, ◌≤◌, Bool, true, false, cond, List, ◌∷◌, Option, Some, None, refl, sym, ap, ◌∙◌, subst, eqb, eq-eqb}
+-- What comes back of the Stores and the Reads of a line.
+use Rattle.std.proofs.Common.{◌≡◌, ℕ, ◌≤◌, Bool, true, false, cond, List, ◌∷◌, Option, Some, None, refl, sym, ap, ◌∙◌, subst, eqb, eq-eqb}
 use Rattle.bucket_ids.specs.Buckets.{Low}
 use Rattle.stamps.specs.declared.stamp.Stamp.{Stamp}
 use Rattle.cluster_states.specs.declared.cluster_state.ClusterState.{ClusterState}
@@ -13,14 +13,11 @@ use Rattle.lane_journals.specs.Legal.{Legal}
 use Rattle.lane_journals.specs.States.{state_of}
 use Rattle.lane_journals.specs.Meanings.{history}
 use Rattle.lane_journals.specs.declared.event.LaneEvent.{LaneEvent}
-use Rattle.lane_journals.proofs.Basics.{returned-replied}
 use Rattle.lane_journals.proofs.Ids.{same_id-refl}
 use Rattle.lane_durability.proofs.Kept.{store-line, stamp-line}
-use Rattle.lane_operations.specs.OperationKeeping.{WasShort}
-use Rattle.lane_completeness.specs.Completeness.{HaveReturned}
-use Rattle.lane_completeness.proofs.Replies.{heard-store, heard-read}
-use Rattle.lane_completeness.proofs.Runs.{At, start, first, not-sent}
-use Rattle.lane_completeness.proofs.Hearing.{counts, Back, back-or}
+use Rattle.lane_completeness.proofs.Replies.{known-store, known-read}
+use Rattle.lane_completeness.proofs.Runs.{At, first, sent-since}
+use Rattle.lane_completeness.proofs.Hearing.{counts, Came, came}
 
 -- ---- the answer to a Store counts
 
@@ -56,7 +53,7 @@ module _ (acks : ℕ) (P : ℕ → ℕ → Bool) (v n k : ℕ) (id : Id) (s : St
   store-counts = counts acks P (λ H. answered_store v id s n H ≡ true) k m (Answer g.content g.names) counts-now still
 
 module _ (lane : Low) (rules : Rules) (line d : ℕ) (o : Operation) (stamp : Option Stamp) (J L : List LaneEvent) (s : ClusterState)
-    (a : At lane rules line d s.version o stamp J L) (all : HaveReturned (start lane rules line d s.version o stamp J) L) (some : 1 ≤ rules.acks) where
+    (a : At lane rules line d s.version o stamp J L) (some : 1 ≤ rules.acks) where
   -- a Store of the line's stamp is sent since it began
   module _ (t : Stamp) (stamped : stamp ≡ Some t) where
     own-line : (k : ℕ) (b : Beginning) → began k (history L) ≡ Some b → b.stamp ≡ Some t → k ≡ line
@@ -75,20 +72,15 @@ module _ (lane : Low) (rules : Rules) (line d : ℕ) (o : Operation) (stamp : Op
             let q : ◌≡◌ {A = Option Beginning} (Some x.begin) None = sym (subst (λ (i : ℕ). began i (history J) ≡ Some x.begin) one x.begun) ∙ a.fresh in
             absurd (cc)
 
-    -- while the line is open each of them is answered, or memory is wanted
-    pub store-back : closed line (history L) ≡ false → (test : Message → Type 0) (k : ℕ) (m : Message) (id : Id) → sent k (history L) ≡ Some m → m.version ≡ s.version → m.body ≡ Store id t → test m → Back (history L) k ⊎ WasShort (history L) line test
-    store-back unclosed test k m id was under is holds =
-        let late = store-since k m id was is in
-        let back = all k m was late in
-        let r = returned-replied rules.acks (state_of (history L)) (history L) a.legal k back in
-        let heard = heard-store rules.acks (state_of (history L)) s.version k m r.0 under some id t is (history L) a.legal a.newest (λ j b h f. subst (λ (i : ℕ). closed i (history L) ≡ false) (sym (own-line j b h f)) unclosed) was r.1 in
-        back-or lane rules line d s.version o stamp J L a test k m late was holds back r.0 r.1 heard
+    pub store-later : (k : ℕ) (m : Message) (id : Id) → sent k (history L) ≡ Some m → m.body ≡ Store id t → sent k (before_line line (history L)) ≡ None
+    store-later k m id was is = sent-since lane rules line d s.version o stamp J L a k (store-since k m id was is)
+
+    -- while the line is open each of them is answered, or memory is wanted, or nothing is heard of it
+    pub store-came : closed line (history L) ≡ false → (test : Message → Type 0) (k : ℕ) (m : Message) (id : Id) → sent k (history L) ≡ Some m → m.body ≡ Store id t → test m → Came (history L) line test k
+    store-came unclosed test k m id was is holds = came lane rules line d s.version o stamp J L a test k m (store-later k m id was is) was holds
+        (λ r f. known-store rules.acks (state_of (history L)) m.version k m r refl some id t is (history L) a.legal (λ j b h e. subst (λ (i : ℕ). closed i (history L) ≡ false) (sym (own-line j b h e)) unclosed) was f)
 
   -- so is each Read of its document
-  pub read-back : (test : Message → Type 0) (k : ℕ) (m : Message) → closed line (history L) ≡ false → sent k (history L) ≡ Some m → sent k (before_line line (history L)) ≡ None → m.version ≡ s.version → m.body ≡ ReadDoc o.id → test m → Back (history L) k ⊎ WasShort (history L) line test
-  read-back test k m unclosed was late under is holds =
-      let since = not-sent lane rules line d s.version o stamp J L a k late in
-      let back = all k m was since in
-      let r = returned-replied rules.acks (state_of (history L)) (history L) a.legal k back in
-      let heard = heard-read rules.acks (state_of (history L)) s.version k m r.0 under some line (first lane rules line d s.version o stamp J) is (history L) a.legal a.newest (record { begun = a.begun; unclosed = unclosed; late = late }) was r.1 in
-      back-or lane rules line d s.version o stamp J L a test k m since was holds back r.0 r.1 heard
+  pub read-came : (test : Message → Type 0) (k : ℕ) (m : Message) → closed line (history L) ≡ false → sent k (history L) ≡ Some m → sent k (before_line line (history L)) ≡ None → m.body ≡ ReadDoc o.id → test m → Came (history L) line test k
+  read-came test k m unclosed was late is holds = came lane rules line d s.version o stamp J L a test k m late was holds
+      (λ r f. known-read rules.acks (state_of (history L)) m.version k m r refl some line (first lane rules line d s.version o stamp J) is (history L) a.legal (record { begun = a.begun; unclosed = unclosed; late = late }) was f)

@@ -12,8 +12,8 @@ use Rattle.lane_journals.specs.Readers.{Journal, Message, published, sent, retur
 use Rattle.lane_journals.specs.Meanings.{history}
 use Rattle.lane_journals.specs.KeptJournals.{IsLegal}
 use Rattle.lane_journals.specs.declared.event.LaneEvent.{LaneEvent}
-use Rattle.lane_journals.specs.declared.event.LaneEvent.TheVariants.{Begun}
-use Rattle.lane_carriage.specs.Readers.{fate_of, is_returned}
+use Rattle.lane_journals.specs.declared.event.LaneEvent.TheVariants.{Begun, Stopped, Started}
+use Rattle.lane_carriage.specs.Readers.{receives, fate_of, is_returned}
 use Rattle.lane_keeping.specs.LaneKeeping.{setting_of}
 use Rattle.lane_operations.specs.OperationKeeping.{WasShort}
 use Rattle.lane_wants.specs.Wants.{IsCarriage, IsRun, IsEnd}
@@ -32,6 +32,17 @@ InTurn J (e ∷ K) = InTurn J K × (IsCarriage e ⊎ HaveReturned J K)
 pub record IsUndisturbed (J K : List LaneEvent) : Type 0 where
   pub in_turn : InTurn J K
   pub all : HaveReturned J K
+
+-- the receiver of each message that was sent since J ran then
+abbrev pub RunSince : List LaneEvent → List LaneEvent → Type 0
+RunSince J K = (number : ℕ) (m : Message) → sent number (history K) ≡ Some m → sent number (history J) ≡ None → receives number number K ≡ true
+
+-- no node stops or starts in these events
+abbrev pub NoneStops : List LaneEvent → Type 0
+NoneStops [] = Unit {0}
+NoneStops (Stopped n ∷ K) = ⊥
+NoneStops (Started n ∷ K) = ⊥
+NoneStops (_ ∷ K) = NoneStops K
 
 -- from a number on each fate delivers its message and brings back the reply before the next is sent
 abbrev pub AreAnswered : ℕ → List Fate → Type 0

@@ -7,7 +7,7 @@ use Rattle.lane_journals.specs.Readers.{held}
 use Rattle.lane_journals.specs.Meanings.{history}
 use Rattle.lane_journals.specs.declared.event.LaneEvent.{LaneEvent}
 use Rattle.lane_journals.specs.declared.event.LaneEvent.TheVariants.{Heard}
-use Rattle.lane_carriage.specs.Carriage.{IsOther, Nothing, Other}
+use Rattle.lane_carriage.specs.Carriage.{IsCarried, IsOther, Nothing, Other}
 use Rattle.lane_carriage.specs.Waits.{IsWaiting}
 use Rattle.lane_core.specs.declared.lane_state.LaneState.{LaneState}
 use Rattle.lane_core.specs.Growing.{is_older, heard_next}
@@ -18,6 +18,10 @@ carried-by given J K last other late rest h journal same stays = rw (journal, sa
 
 pub carried-still : (x y : LaneState) → journal_of y ≡ journal_of x → y.last ≡ x.last → y.late.late ≡ x.late.late → (given : List Fate) → IsCarriedBy x given → IsCarriedBy y given
 carried-still x y journal last late given h = carried-by given (journal_of x) (journal_of y) x.last y.last x.late.late y.late.late h journal last late
+
+-- the journal grew by what sends, delivers and returns nothing
+pub carried-like : (x y : LaneState) (K : List LaneEvent) → ((given : List Fate) → IsCarried given (journal_of x) → IsCarried given K) → journal_of y ≡ K → y.last ≡ x.last → y.late.late ≡ x.late.late → (given : List Fate) → IsCarriedBy x given → IsCarriedBy y given
+carried-like x y K on journal last late given h = carried-by given K (journal_of y) x.last y.last x.late.late y.late.late (record { carried = on given h.carried; waiting = h.waiting }) journal last late
 
 pub carried-more : (x y : LaneState) (e : LaneEvent) → IsOther e → journal_of y ≡ e ∷ journal_of x → y.last ≡ x.last → y.late.late ≡ x.late.late → (given : List Fate) → IsCarriedBy x given → IsCarriedBy y given
 carried-more x y e other journal last late given h =

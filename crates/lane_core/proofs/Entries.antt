@@ -17,6 +17,7 @@ use Rattle.lane_journals.proofs.Order.{same_stamp-true}
 use Rattle.node_journals.specs.Replaying.{sending}
 use Rattle.lane_carriage.specs.Waits.{numbers}
 use Rattle.lane_core.specs.declared.lane_state.LaneState.{LaneState}
+use Rattle.lane_core.specs.Growing.{met_at}
 use Rattle.lane_core.specs.LaneStates.{journal_of, Went}
 use Rattle.lane_core.specs.Growing.{is_older, heard_next}
 use Rattle.lane_core.specs.Written.{entry_of, event_at, FindsEntries, writes_entry, AddsNoEntry}
@@ -170,5 +171,5 @@ pub adds-went : (c e : LaneState) (m : Message) (given now : List Fate) → Went
 adds-went c e m given now w =
     let J : List LaneEvent = journal_of c in
     stays-delivered (λ (K : List LaneEvent). AddsNoEntry J K) (adds-of-message J) (numbers w.late.taken) w.between (journal_of e) w.late.delivered
-    (stays-dealt (λ (K : List LaneEvent). AddsNoEntry J K) (adds-of-message J) w.fate (c.last + 1) (sending (c.last + 1) m ∷ J) w.between w.dealt
+    (stays-dealt (λ (K : List LaneEvent). AddsNoEntry J K) (adds-of-message J) (met_at J m w.fate) (c.last + 1) (sending (c.last + 1) m ∷ J) w.between w.dealt
     (adds-one J J (sending (c.last + 1) m) refl (adds-none J J refl)))

@@ -1,25 +1,25 @@
 -- Openings and rounds write no entry.
-use Rattle.std.proofs.Common.{◌≡◌, ◌+◌, ℕ, Bool, List, ◌∷◌, Option, length, refl, sym, subst}
+use Rattle.std.proofs.Common.{◌+◌, ℕ, List, ◌∷◌, length, refl, sym, subst}
 use Rattle.bucket_ids.specs.Buckets.{Low}
 use Rattle.cluster_states.specs.declared.cluster_state.ClusterState.{ClusterState}
 use Rattle.carriers.specs.declared.fate.Fate.{Fate}
 use Rattle.messages.specs.declared.message.Message.{Message}
-use Rattle.distributor_part.specs.Parts.{Part}
 use Rattle.late_messages.specs.declared.late.Late.{Late}
 use Rattle.lane_journals.specs.declared.event.LaneEvent.{LaneEvent}
-use Rattle.lane_journals.specs.declared.event.LaneEvent.TheVariants.{Opened, Decided}
+use Rattle.lane_journals.specs.declared.event.LaneEvent.TheVariants.{Opened}
 use Rattle.node_journals.specs.Replaying.{sending}
 use Rattle.lane_carriage.specs.Waits.{numbers}
 use Rattle.lane_core.specs.declared.lane_state.LaneState.{LaneState}
 use Rattle.lane_core.specs.declared.rounds.RoundRun.{RoundRun}
 use Rattle.lane_core.specs.declared.rounds.RoundEnd.{RoundEnd}
+use Rattle.lane_core.specs.Growing.{met_at}
 use Rattle.lane_core.specs.LaneStates.{journal_of}
 use Rattle.lane_core.specs.Openings.{EndsOpening, StopsOpening}
 use Rattle.lane_core.specs.declared.opening.OpeningEnd.{OpeningEnd}
-use Rattle.lane_core.specs.RoundRuns.{Sends, IsRoundRun, Nothing, Further, RunsOn, Begins, IsWholeRun, IsCutShort}
+use Rattle.lane_core.specs.RoundRuns.{Sends, IsRoundRun, Nothing, Further, Begins, IsWholeRun, IsCutShort}
 use Rattle.lane_core.specs.Written.{AddsNoEntry}
 use Rattle.lane_core.proofs.Staying.{stays-delivered, stays-dealt, stays-ended, stays-stopped}
-use Rattle.lane_core.proofs.Entries.{adds-none, adds-one, adds-of-message, adds-on}
+use Rattle.lane_core.proofs.Entries.{adds-none, adds-one, adds-of-message}
 
 -- ---- the opening of a state
 
@@ -41,7 +41,7 @@ adds-stopped c e d h =
 adds-sent : (m : Message) (fate : Fate) (last : ℕ) (late rest : List Late) (J K L : List LaneEvent) → Sends m fate last late K rest L → AddsNoEntry J K → AddsNoEntry J L
 adds-sent m fate last late rest J K L h a =
     stays-delivered (λ (M : List LaneEvent). AddsNoEntry J M) (adds-of-message J) (numbers (h.due).taken) h.after L (h.due).delivered
-    (stays-dealt (λ (M : List LaneEvent). AddsNoEntry J M) (adds-of-message J) fate (last + 1) (sending (last + 1) m ∷ K) h.after h.dealt
+    (stays-dealt (λ (M : List LaneEvent). AddsNoEntry J M) (adds-of-message J) (met_at K m fate) (last + 1) (sending (last + 1) m ∷ K) h.after h.dealt
     (adds-one J K (sending (last + 1) m) refl a))
 
 adds-run : (lane : Low) (d : ℕ) (s : ClusterState) (last : ℕ) (late : List Late) (J : List LaneEvent) (fates : List Fate) (rest : List Late) (K : List LaneEvent) → IsRoundRun lane d s last late J fates rest K → AddsNoEntry J K

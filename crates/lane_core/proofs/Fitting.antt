@@ -116,6 +116,7 @@ module _ (x : Work) (j : Job) (k : IsWork x) (is : x.job ≡ Some j) (r : IsRead
           work-by (record { state = y; drawn = x.drawn; places = x.places; has_room = x.has_room; job = place }) (Prepared j.line row.bucket row.complete ∷ journal_of x.state)
           (rw (lane, rules) k.set_up) kept (omega (arith, spare, room))
           (rw (put, spare) (let all = k.spare_is in omega (arith, all, one)))
+          (λ made. rw parts (k.parted made))
           (λ d. rw (lane, rules, parts) (k.resting d)) grows
           (rw (lane, rules, newest, put) (record {
             newest_is = k.newest_is;

@@ -1,7 +1,8 @@
 -- The operation under way after a call, and the work of its lane.
-use Rattle.std.proofs.Common.{◌≡◌, ◌≤◌, ◌<◌, ◌+◌, ◌-◌, ℕ, Bool, List, Option, Some, refl, sym, ap, ◌∙◌, subst, arith, is_some, inl, inr}
+use Rattle.std.proofs.Common.{◌≡◌, ◌≤◌, ◌<◌, ◌+◌, ◌-◌, ℕ, Bool, List, Option, Some, refl, sym, ap, ◌∙◌, subst, arith, is_some, vec_len, inl, inr}
 use Rattle.std.specs.BTreeMap.{BTreeMap}
 use Rattle.bucket_ids.specs.Buckets.{Low, IsIn}
+use Rattle.global_ids.specs.Keys as keys
 use Rattle.lane_journals.specs.Buckets.{key_of}
 use Rattle.node_sets.specs.Members.{has_node}
 use Rattle.stamps.specs.declared.stamp.Stamp.{Stamp}
@@ -36,7 +37,7 @@ use Rattle.lane_core.specs.declared.work.Work.{Work}
 use Rattle.lane_core.specs.LaneStates.{journal_of, IsKept, HasRoom, AreResting}
 use Rattle.lane_core.specs.LaneValues.{with_run, under_way_of, WentOn, IsAdvance}
 use Rattle.lane_core.specs.Written.{place_of, FindsEntries}
-use Rattle.lane_core.specs.Works.{value_of, under_way_in, progress_of, one_if, IsAnswered, MayMark, IsPrepared, PhaseKeeps, IsJob, JobKeeps, PhaseLasts, JobLasts, IsWork}
+use Rattle.lane_core.specs.Works.{value_of, under_way_in, progress_of, one_if, room_for, IsAnswered, MayMark, IsPrepared, PhaseKeeps, IsJob, JobKeeps, PhaseLasts, JobLasts, IsWork}
 use Rattle.lane_core.specs.Steps.{sender_of, GoesIn, IsQuiet, WantsMore, WantsEnd, ComesTo}
 
 -- ---- whose it is
@@ -52,6 +53,16 @@ of-prepared lane rules J j s row written t k = record {
   operation = (k.stands).operation_is;
   stamp = k.same_stamp;
 }
+
+-- the key of its document is the job's
+pub key-prepared : (w : Work) (j : Job) (row : Low) (written : Bool) (t : Standing) → IsWork w → w.job ≡ Some j → j.phase ≡ phase.Prepared t row written → j.key ≡ keys.key_of t.plan.operation.id
+key-prepared w j row written t k is stage = job.key_is ∙ ap (λ (o : Operation). keys.key_of o.id) (sym of.operation)
+  where
+    job : IsJob w.state.lane w.state.rules (journal_of w.state) j
+    job = subst (λ (o : Option Job). JobKeeps w.state.lane w.state.rules (journal_of w.state) o) is k.job_is
+
+    of : IsOf j t.plan
+    of = of-prepared w.state.lane w.state.rules (journal_of w.state) j job.state row written t (subst (λ (q : Phase). PhaseKeeps w.state.lane w.state.rules (journal_of w.state) j job.state q) stage job.phase_is)
 
 of-same : (j : Job) (p q : Plan) → q ≡ p → IsOf j p → IsOf j q
 of-same j p q e k = subst (λ (r : Plan). IsOf j r) (sym e) k
@@ -163,6 +174,7 @@ pub record IsOnward (x y : LaneState) : Type 0 where
   pub rules : y.rules ≡ x.rules
   pub newest : y.newest ≡ x.newest
   pub spare : y.spare ≡ x.spare
+  pub parted : vec_len y.parts ≡ vec_len x.parts
   pub resting : AreResting x → AreResting y
   pub quiet : IsQuiet (journal_of x) (journal_of y)
 
@@ -172,6 +184,7 @@ onward x y e q = record {
   rules = ap (λ (z : LaneState). z.rules) e;
   newest = ap (λ (z : LaneState). z.newest) e;
   spare = ap (λ (z : LaneState). z.spare) e;
+  parted = ap (λ (z : LaneState). vec_len z.parts) e;
   resting = λ r. subst AreResting (sym e) r;
   quiet = q;
 }
@@ -182,7 +195,8 @@ work-on x y places j k w is on kept room job lasts finds = record {
   set_up = rw (on.lane, on.rules) w.set_up;
   kept = kept;
   room = room;
-  spare_is = on.spare ∙ w.spare_is ∙ ap (λ (z : Option Job). one_if x.has_room + one_if (is_some z)) is;
+  spare_is = on.spare ∙ w.spare_is ∙ ap (λ (z : Option Job). room_for x.has_room + one_if (is_some z)) is;
+  parted = λ made. let all = w.parted made in let same = on.parted in omega (arith, all, same);
   resting = on.resting w.resting;
   newest_is = on.newest ∙ w.newest_is ∙ sym (on.quiet).newest;
   counts_are = λ v. w.counts_are v ∙ sym ((on.quiet).counted v);

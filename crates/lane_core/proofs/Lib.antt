@@ -1,6 +1,8 @@
 pub mod Places
 pub mod LaneSteps
 pub mod Kept
+pub mod GivenOut
+pub mod Stops
 pub mod Dues
 pub mod Telling
 pub mod Going
@@ -26,6 +28,7 @@ pub mod Nobodies
 pub mod Results
 pub mod Standing
 pub mod RunningSteps
+pub mod MessageKeys
 pub mod Wanted
 pub mod Fitting
 pub mod RoundLines
@@ -38,4 +41,5 @@ pub mod RowsFound
 pub mod Searching
 pub mod Entries
 pub mod EntryFree
+pub mod Idling
 mod KnownOwners

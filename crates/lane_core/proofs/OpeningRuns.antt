@@ -1,5 +1,5 @@
 -- An Ask that a line has sent while its owner's part opens the state: what stays over its events, and what is known then.
-use Rattle.std.proofs.Common.{◌≡◌, ◌⊎◌, ◌||◌, ◌==◌, ℕ, Bool, true, cond, List, [], ◌∷◌, Option, Some, None, inl, inr, refl, sym, subst, ap, ◌∙◌, eq-eqb, arith}
+use Rattle.std.proofs.Common.{◌≡◌, ◌⊎◌, ◌||◌, ◌==◌, ℕ, Bool, true, cond, List, ◌∷◌, Option, Some, None, inl, inr, refl, sym, subst, ap, ◌∙◌, eq-eqb, arith}
 use Rattle.std.proofs.lemmas.Bool.{eqb-true}
 use Rattle.bucket_ids.specs.Buckets.{Low}
 use Rattle.node_sets.specs.Members.{has_node}
@@ -30,7 +30,7 @@ use Rattle.lane_journals.proofs.Beginnings.{lasting}
 use Rattle.lane_journals.proofs.Meant.{meant-legal}
 use Rattle.lane_durability.proofs.BelowLines.{some-none}
 use Rattle.node_journals.specs.Replaying.{sending}
-use Rattle.lane_carriage.specs.Carriage.{IsDealt, AreDelivered}
+use Rattle.lane_carriage.specs.Carriage.{IsDealt}
 use Rattle.lane_keeping.specs.LaneKeeping.{setting_of}
 use Rattle.lane_keeping.specs.Acting.{IsNoHearing}
 use Rattle.lane_keeping.proofs.Owners.{acting-stays}
@@ -42,16 +42,13 @@ use Rattle.lane_core.specs.Growing.{CameShort, IsSettled}
 use Rattle.lane_core.specs.Openings.{IsGone}
 use Rattle.lane_core.specs.OpeningRuns.{HasAskedJust, KnowsShort}
 use Rattle.lane_core.specs.Readying.{IsToPrepare}
+use Rattle.lane_core.proofs.GivenOut.{over-all}
 use Rattle.lane_core.proofs.Refusals.{raised, either, or-right}
 use Rattle.lane_core.proofs.Staying.{IsOfMessage}
 
 -- ---- what stays over the delivery of any message, and over the return of one
 
 module _ (P : List LaneEvent → Type 0) (number : ℕ) (delivered : (n : ℕ) (r : NotedReply) (K : List LaneEvent) → P K → P (Delivered n r ∷ K)) (back : (K : List LaneEvent) → P K → P (Returned number ∷ K)) where
-  carried-late : (ns : List ℕ) (K L : List LaneEvent) → AreDelivered ns K L → P K → P L
-  carried-late [] K L d p = subst P (sym d) p
-  carried-late (n ∷ ns) K L d p = carried-late ns (Delivered n d.0 ∷ K) L d.1 (delivered n d.0 K p)
-
   carried-dealt : (f : Fate) (K L : List LaneEvent) → IsDealt f number K L → P K → P L
   carried-dealt fate.Deliver K L d p = subst P (sym d.1) (back (Delivered number d.0 ∷ K) (delivered number d.0 K p))
   carried-dealt fate.LoseRequest K L d p = subst P (sym d) p
@@ -60,7 +57,7 @@ module _ (P : List LaneEvent → Type 0) (number : ℕ) (delivered : (n : ℕ) (
   carried-dealt (fate.Late k) K L d p = subst P (sym d) p
 
   pub carried : (m : Letter) (K L : List LaneEvent) → IsGone number m K L → P (sending number m ∷ K) → P L
-  carried m K L g p = carried-late g.numbers g.between L g.late (carried-dealt g.fate (sending number m ∷ K) g.between g.dealt p)
+  carried m K L g p = over-all P delivered g.numbers g.between L g.late (carried-dealt g.fate (sending number m ∷ K) g.between g.dealt p)
 
 -- a legal journal was legal as the message was sent
 pub legal-sent : (S : Setting) (number : ℕ) (m : Letter) (K L : List LaneEvent) → IsGone number m K L → IsLegal S L → IsLegal S (sending number m ∷ K)

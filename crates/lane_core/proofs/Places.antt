@@ -33,13 +33,16 @@ older-below None v t w e = cc
 older-below (Some u) v t w e = let same : u ≡ w = cc in let less : u < v = grind (arith, nat_tests) in omega (arith, same, less)
 
 module _ (lane : Low) (rules : Rules) where
-  pub holds-older : (J : List LaneEvent) (d v : ℕ) (p : Part) → PartKeeps lane rules J d p → is_older (version_held p.state) v ≡ is_older (held d (history J)) v
-  holds-older J d v p k = by_state p.state k.heard
+  pub version-held : (J : List LaneEvent) (d : ℕ) (p : Part) → PartKeeps lane rules J d p → version_held p.state ≡ held d (history J)
+  version-held J d p k = by_state p.state k.heard
     where
       by_state : (o : Option ClusterState) → Holds lane d (held d (history J)) (λ v. state_in v J) (λ v n. asked v n (history J)) (λ v. opened v (history J)) (λ v key. row_with key (rows v (history J))) o p
-          → is_older (version_held o) v ≡ is_older (held d (history J)) v
-      by_state None h = ap (λ (x : Option ℕ). is_older x v) (sym h)
-      by_state (Some t) h = ap (λ (x : Option ℕ). is_older x v) (sym h.0)
+          → version_held o ≡ held d (history J)
+      by_state None h = sym h
+      by_state (Some t) h = sym h.0
+
+  pub holds-older : (J : List LaneEvent) (d v : ℕ) (p : Part) → PartKeeps lane rules J d p → is_older (version_held p.state) v ≡ is_older (held d (history J)) v
+  holds-older J d v p k = ap (λ (o : Option ℕ). is_older o v) (version-held J d p k)
 
   -- ---- one part is another
 

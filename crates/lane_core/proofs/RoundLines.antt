@@ -1,5 +1,5 @@
 -- A line that is to be prepared, over the round that is run for it.
-use Rattle.std.proofs.Common.{◌≡◌, ◌⊎◌, ◌≤◌, ◌+◌, ℕ, Bool, true, false, List, [], ◌∷◌, Option, Some, None, IsSome, inl, inr, refl, sym, ap, subst, ◌∙◌, arith, ◌%◌, ◌^◌, eq-eqb}
+use Rattle.std.proofs.Common.{◌≡◌, ◌⊎◌, ◌≤◌, ◌+◌, ℕ, Bool, true, List, [], ◌∷◌, Option, Some, None, IsSome, inl, inr, refl, sym, ap, subst, ◌∙◌, arith, ◌%◌, ◌^◌, eq-eqb}
 use mathlib.Core.Bool.{true≢false}
 use Rattle.std.proofs.lemmas.Bool.{eqb-true}
 use Rattle.bucket_ids.specs.Buckets.{Low, IsIn}
@@ -33,6 +33,7 @@ use Rattle.lane_core.specs.declared.rounds.RoundEnd.{RoundEnd}
 use Rattle.lane_core.specs.LaneStates.{IsResting}
 use Rattle.lane_core.specs.LaneValues.{last_state}
 use Rattle.lane_core.specs.Steps.{IsQuiet}
+use Rattle.lane_core.specs.Growing.{met_at}
 use Rattle.lane_core.specs.RoundRuns.{SendsNext, IsRoundRun, Nothing, Further, NoneRuns, MayBegin, Begins, EndsRun, IsBegunFor, IsWaitedFor, IsWholeRun, IsCutShort}
 use Rattle.lane_core.specs.Readying.{IsToPrepare, BeganNoRound}
 use Rattle.lane_core.proofs.Fitting.{some-same, same-state}
@@ -44,7 +45,7 @@ module _ (P : List LaneEvent → Type 0) (stays : (e : LaneEvent) (J : List Lane
   stays-next : (f : Fate) (last : ℕ) (late rest : List Late) (J K : List LaneEvent) → SendsNext lane d s f last late J rest K → P J → P K
   stays-next f last late rest J K h p =
       stays-delivered P stays (numbers ((h.sends).due).taken) (h.sends).after K ((h.sends).due).delivered
-      (stays-dealt P stays f (last + 1) (sending (last + 1) h.message ∷ J) (h.sends).after (h.sends).dealt (stays (sending (last + 1) h.message) J tt p))
+      (stays-dealt P stays (met_at J h.message f) (last + 1) (sending (last + 1) h.message ∷ J) (h.sends).after (h.sends).dealt (stays (sending (last + 1) h.message) J tt p))
 
   pub stays-round : (last : ℕ) (late : List Late) (J : List LaneEvent) (fates : List Fate) (rest : List Late) (K : List LaneEvent) → IsRoundRun lane d s last late J fates rest K → P J → P K
   stays-round last late J fates rest K Nothing p = p

@@ -1,5 +1,5 @@
 -- The round under way, over the events of its messages.
-use Rattle.std.proofs.Common.{◌≡◌, ◌⊎◌, ◌↔◌, ◌<◌, ◌||◌, ◌&&◌, not, ℕ, zero, suc, Bool, true, false, cond, List, [], ◌∷◌, Option, Some, None, inl, inr, refl, sym, ap, subst, ◌∙◌, eqb, eq-eqb, arith}
+use Rattle.std.proofs.Common.{◌≡◌, ◌⊎◌, ◌↔◌, ◌<◌, ◌||◌, ◌&&◌, not, ℕ, zero, suc, Bool, true, false, cond, List, ◌∷◌, Option, Some, None, inl, inr, refl, sym, ap, subst, ◌∙◌, eqb, eq-eqb, arith}
 use mathlib.Core.Bool.{true≢false}
 use Rattle.bucket_ids.specs.Buckets.{Low}
 use Rattle.cluster_states.specs.declared.cluster_state.ClusterState.{ClusterState}
@@ -16,7 +16,7 @@ use Rattle.distributor_part.specs.Parts.{Part}
 use Rattle.merge_rounds.specs.Rounds.{RoundState, after_read, IsAfterApply}
 use Rattle.lane_journals.specs.Events as plain
 use Rattle.lane_journals.specs.Readers as readers
-use Rattle.lane_journals.specs.Readers.{sent, first_reply, round_of, running, or_else, only_if}
+use Rattle.lane_journals.specs.Readers.{sent, first_reply, round_of, or_else, only_if}
 use Rattle.lane_journals.specs.Meanings.{history, meaning_reply}
 use Rattle.lane_journals.specs.Places.{Setting}
 use Rattle.lane_journals.specs.KeptJournals.{IsLegal}
@@ -32,6 +32,7 @@ use Rattle.lane_rounds.specs.RoundKeeping.{KnowsRound, IsAwaited, body_of}
 use Rattle.lane_rounds.proofs.Waiting.{knows-delivered}
 use Rattle.lane_core.specs.RoundRuns.{IsRunning, IsAfterReply, is_refusal, is_read_in, is_apply_in, KnowsRefusals, GoesOn, IsRunToldBy, left}
 use Rattle.lane_core.specs.declared.rounds.RoundRun.{RoundRun}
+use Rattle.lane_core.proofs.GivenOut.{over-all}
 use Rattle.lane_core.proofs.Refusals.{refusals-delivered, refusals-sent, refusals-returned}
 use Rattle.lane_core.proofs.Telling.{taken-told}
 
@@ -102,15 +103,9 @@ running-delivered S lane J legal x k n y = record {
   refusals = refusals-delivered S J legal (x.state).version (round_of (x.state).version (x.round).row (history J)) (x.round).row x.unread x.unapplied k.refusals n y;
 }
 
-legal-before : (S : Setting) (ns : List ℕ) (J K : List LaneEvent) → AreDelivered ns J K → IsLegal S K → IsLegal S J
-legal-before S [] J K h l = subst (λ (x : List LaneEvent). IsLegal S x) h l
-legal-before S (n ∷ ns) J K h l = (legal-before S ns (event.Delivered n h.0 ∷ J) K h.1 l).0
-
 -- one after the other
 pub running-all : (S : Setting) (lane : Low) (ns : List ℕ) (J K : List LaneEvent) → AreDelivered ns J K → IsLegal S K → (x : RoundRun) → IsRunning lane J x → IsRunning lane K x
-running-all S lane [] J K h l x k = subst (λ (y : List LaneEvent). IsRunning lane y x) (sym h) k
-running-all S lane (n ∷ ns) J K h l x k = running-all S lane ns (event.Delivered n h.0 ∷ J) K h.1 l x
-    (running-delivered S lane J (legal-before S (n ∷ ns) J K h l) x k n h.0)
+running-all S lane ns J K h l x k = over-all (λ (y : List LaneEvent). IsLegal S y → IsRunning lane y x) (λ n r y f legal. running-delivered S lane y legal.0 x (f legal.0) n r) ns J K h (λ legal. k) l
 
 module _ {lane : Low} {rules : Rules} {J : List LaneEvent} {newest : Option ClusterState} {last : ℕ} {nodes : List Node} {parts : List Part} (keep : Keeps lane rules J newest last nodes parts) (x : RoundRun) (k : IsRunning lane J x) where
   -- the next message of the round is sent

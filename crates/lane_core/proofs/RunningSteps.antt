@@ -1,5 +1,5 @@
 -- How a journal grows by an operation that is prepared.
-use Rattle.std.proofs.Common.{◌≡◌, ◌+◌, ℕ, Bool, true, false, List, [], ◌∷◌, Option, Some, None, is_some, IsSome, inl, inr, refl, sym, ap, ◌∙◌, subst, eqb, eq-eqb}
+use Rattle.std.proofs.Common.{◌≡◌, ◌+◌, ℕ, Bool, true, false, List, ◌∷◌, Option, Some, None, is_some, IsSome, inl, inr, refl, sym, ap, ◌∙◌, subst, eqb, eq-eqb}
 use Rattle.bucket_ids.specs.Buckets.{Low}
 use Rattle.carriers.specs.declared.fate.Fate.{Fate}
 use Rattle.carriers.specs.declared.fate.Fate.TheVariants as fate
@@ -31,6 +31,7 @@ use Rattle.lane_operations.proofs.Judged.{NextMessage, ARead, AStore, next-messa
 use Rattle.lane_wants.specs.Wants.{Adds, BodyGives, NextGives, IsWanted, IsRun, Same, More}
 use Rattle.lane_core.specs.declared.lane_state.LaneState.{LaneState}
 use Rattle.lane_core.specs.LaneStates.{journal_of}
+use Rattle.lane_core.proofs.GivenOut.{over-all}
 use Rattle.lane_core.proofs.Standing.{standing-delivered, awaiting-delivered, standing-late, standing-wrote}
 use Rattle.lane_core.specs.Steps.{sender_of, IsGoing, IsStanding, IsAwaiting, StandsIn, AwaitsIn, RunsIn, GoesIn, WritesOn, HearsIn, SendsIn, SentIn, IsReady, IsQuiet}
 
@@ -118,8 +119,7 @@ module _ (lane : Low) (rules : Rules) (J : List LaneEvent) (line : ℕ) (row : L
 
 module _ (lane : Low) (rules : Rules) (line : ℕ) (o : Operation) where
   pub run-delivered : (ns : List ℕ) (I J K : List LaneEvent) → AreDelivered ns J K → IsRun lane rules line o I J → IsRun lane rules line o I K
-  run-delivered [] I J K h run = subst (λ (X : List LaneEvent). IsRun lane rules line o I X) (sym h) run
-  run-delivered (n ∷ ns) I J K h run = run-delivered ns I (event.Delivered n h.0 ∷ J) K h.1 (More (event.Delivered n h.0) J run (inl tt))
+  run-delivered ns I J K h run = over-all (λ (X : List LaneEvent). IsRun lane rules line o I X) (λ n r X x. More (event.Delivered n r) X x (inl tt)) ns J K h run
 
   pub run-dealt : (f : Fate) (n : ℕ) (I J K : List LaneEvent) → IsDealt f n J K → IsRun lane rules line o I J → IsRun lane rules line o I K
   run-dealt fate.Deliver n I J K h run = subst (λ (X : List LaneEvent). IsRun lane rules line o I X) (sym h.1) (More (event.Returned n) _ (More (event.Delivered n h.0) J run (inl tt)) (inl tt))
@@ -147,8 +147,7 @@ module _ (lane : Low) (line : ℕ) (p : Plan) where
   going-wrote J e g = record { state = g.state; acting = record { holds = (g.acting).holds; published = (g.acting).published; owner = (g.acting).owner }; under_way = g.under_way }
 
   pub going-late : (ns : List ℕ) (J K : List LaneEvent) → AreDelivered ns J K → IsGoing lane J line p → IsGoing lane K line p
-  going-late [] J K h g = going-by lane J K line p h g
-  going-late (n ∷ ns) J K h g = going-late ns (event.Delivered n h.0 ∷ J) K h.1 (going-delivered J n h.0 g)
+  going-late ns J K h g = over-all (λ (X : List LaneEvent). IsGoing lane X line p) (λ n r X x. going-delivered X n r x) ns J K h g
 
   pub going-dealt : (f : Fate) (n : ℕ) (J K : List LaneEvent) → IsDealt f n J K → IsGoing lane J line p → IsGoing lane K line p
   going-dealt fate.Deliver n J K h g = going-by lane _ K line p h.1 (going-returned _ n (going-delivered J n h.0 g))
@@ -261,8 +260,7 @@ module _ (J : List LaneEvent) where
   quiet-wrote line e = record { newest = refl; counted = λ v. refl; rounds = λ v b. refl }
 
   pub quiet-late : (ns : List ℕ) (K L : List LaneEvent) → AreDelivered ns K L → IsQuiet J K → IsQuiet J L
-  quiet-late [] K L h q = quiet-by J K L h q
-  quiet-late (n ∷ ns) K L h q = quiet-late ns (event.Delivered n h.0 ∷ K) L h.1 (quiet-delivered K n h.0 q)
+  quiet-late ns K L h q = over-all (λ (X : List LaneEvent). IsQuiet J X) (λ n r X x. quiet-delivered X n r x) ns K L h q
 
   pub quiet-dealt : (f : Fate) (n : ℕ) (K L : List LaneEvent) → IsDealt f n K L → IsQuiet J K → IsQuiet J L
   quiet-dealt fate.Deliver n K L h q = quiet-by J _ L h.1 (quiet-returned _ n (quiet-delivered K n h.0 q))

@@ -18,6 +18,7 @@ use Rattle.lane_carriage.specs.Waits.{numbers, IsWaiting}
 use Rattle.lane_carriage.specs.Laws.{OfTaken}
 use Rattle.lane_rounds.specs.RoundKeeping.{KnowsRound}
 use Rattle.lane_core.specs.declared.lane_state.LaneState.{LaneState}
+use Rattle.lane_core.specs.Growing.{met_at}
 use Rattle.lane_core.specs.LaneStates.{journal_of, AreCarried, Went}
 use Rattle.lane_core.specs.RoundRuns.{Sends, SendsNext, IsRoundRun, Nothing, Further, RunsOn, GoesOn}
 use Rattle.lane_core.specs.declared.rounds.RoundRun.{RoundRun}
@@ -116,7 +117,7 @@ module _ (waits : OfTaken (λ given last late f taken rest. IsWaiting (given ++ 
         receiver = m.receiver;
         body = noted_body m.body;
         after = h.after;
-        dealt = subst (λ (i : ℕ). IsDealt fate (i + 1) (sending (i + 1) m ∷ J) h.after) (c.waiting).counted h.dealt;
+        dealt = subst (λ (i : ℕ). IsDealt (met_at J m fate) (i + 1) (sending (i + 1) m ∷ J) h.after) (c.waiting).counted h.dealt;
         late = subst (λ (i : ℕ). AreDelivered (due (given ++ fate ∷ []) (i + 1)) h.after K) (c.waiting).counted
             (subst (λ (ns : List ℕ). AreDelivered ns h.after K) (are_due given last late fate m (h.due).taken rest c.waiting (h.due).are_taken h.none_left) (h.due).delivered);
       }

@@ -1,5 +1,5 @@
 -- The work of a lane once the row of an operation that was begun was searched, and what the call comes to.
-use Rattle.std.proofs.Common.{◌≡◌, ◌≢◌, ◌≤◌, ◌<◌, ◌+◌, ◌-◌, ℕ, Bool, true, false, List, Option, Some, None, Result, Ok, Err, IfOk, OnErr, is_some, not, nat_eq, length, refl, sym, ap, ◌∙◌, subst, arith, inl, inr}
+use Rattle.std.proofs.Common.{◌≡◌, ◌≢◌, ◌<◌, ◌-◌, ℕ, Bool, true, false, List, Option, Some, None, Result, Ok, Err, IfOk, OnErr, is_some, not, nat_eq, vec_len, refl, sym, ap, ◌∙◌, subst, arith, inl, inr}
 use Rattle.std.proofs.lemmas.Bool.Decides.{nat_tests}
 use Rattle.bucket_ids.specs.Buckets.{Low, IsIn}
 use Rattle.stamps.specs.declared.stamp.Stamp.{Stamp}
@@ -16,7 +16,7 @@ use Rattle.lane_journals.specs.declared.event.LaneEvent.{LaneEvent}
 use Rattle.lane_journals.specs.declared.event.LaneEvent.TheVariants.{Prepared}
 use Rattle.lane_keeping.specs.Asking.{OthersStay}
 use Rattle.lane_keeping.specs.LaneKeeping.{part_in}
-use Rattle.lane_wants.specs.Wants.{IsRun, IsCutRun, More, IsEnd}
+use Rattle.lane_wants.specs.Wants.{More, IsEnd}
 use Rattle.lane_core.specs.declared.lane_state.LaneState.{LaneState}
 use Rattle.lane_core.specs.declared.job.Job.{Job}
 use Rattle.lane_core.specs.declared.job.Phase.{Phase}
@@ -31,8 +31,8 @@ use Rattle.lane_core.specs.LaneStates.{journal_of, IsKept, HasRoom, part_of, IsR
 use Rattle.lane_core.specs.LaneValues.{LaneValue, IsAt, with_run, under_way_of, WentOn, WasCut, IsAdvance}
 use Rattle.lane_core.specs.Works.{value_of, under_way_in, progress_of, IsUntouched, PhaseKeeps, PhaseLasts, IsJob, JobKeeps, JobLasts, IsWork}
 use Rattle.lane_core.specs.Steps.{IsQuiet, IsAtMessages, IsToStep}
-use Rattle.lane_core.specs.Preparations.{PreparesOf, PreparesBy, PreparesNext, IsReady, MayFallShort, is_over}
-use Rattle.lane_core.specs.Readying.{outcome_of, IsToPrepare, AskedNobody, BeganNoRound, IsForNewLine, OfUnprepared, GoesOnWith, IsCutOffWith, EndsShort, HasRowFor, FindsOr}
+use Rattle.lane_core.specs.Preparations.{PreparesOf, PreparesBy, PreparesNext, MayFallShort, is_over}
+use Rattle.lane_core.specs.Readying.{outcome_of, IsToPrepare, AskedNobody, BeganNoRound, IsForNewLine, OfUnprepared, GoesOnWith, IsCutOffWith, FindsOr}
 use Rattle.lane_core.specs.Searching.{is_begun, just_begun, HasCall, spent, WentAs, ComesToRow, EndsIn}
 use Rattle.lane_core.proofs.Working.{same-key}
 use Rattle.lane_core.specs.Written.{place_of, AddsNoEntry}
@@ -64,12 +64,13 @@ unacked (shortage.TooFew a b c) = refl
 
 -- a call of one distributor's part, which rests again
 pub onward-rested : (x y : LaneState) (d : ℕ) → y ≡ record x { journal = y.journal; last = y.last; nodes = y.nodes; parts = y.parts; late = y.late } → IsQuiet (journal_of x) (journal_of y)
-    → IsResting (part_of y d) → OthersStay x.lane x.rules x.parts.items y.parts.items d → IsOnward x y
-onward-rested x y d e q rests others = record {
+    → IsResting (part_of y d) → OthersStay x.lane x.rules x.parts.items y.parts.items d → vec_len y.parts ≡ vec_len x.parts → IsOnward x y
+onward-rested x y d e q rests others parted = record {
   lane = lane_is;
   rules = rules_are;
   newest = ap (λ (z : LaneState). z.newest) e;
   spare = ap (λ (z : LaneState). z.spare) e;
+  parted = parted;
   resting = λ r n. by_test r n (nat_eq n d) refl;
   quiet = q;
 }

@@ -1,14 +1,15 @@
 -- Whether a reply that came back said that the node wants memory, and that it stays so.
-use Rattle.std.proofs.Common.{◌≡◌, ◌↔◌, ℕ, Bool, true, false, cond, eqb, eq-eqb, List, [], ◌∷◌, Option, Some, None, IsSome, refl, sym, ap, subst, ◌∙◌}
+use Rattle.std.proofs.Common.{◌≡◌, ◌↔◌, ℕ, Bool, true, false, cond, eqb, eq-eqb, List, ◌∷◌, Option, Some, None, IsSome, refl, sym, ap, subst, ◌∙◌}
 use Rattle.messages.specs.declared.noted.NotedReply.{NotedReply}
 use Rattle.messages.specs.declared.noted.NotedReply.TheVariants as noted
 use Rattle.lane_journals.specs.Events as plain
-use Rattle.lane_journals.specs.Readers.{Journal, or_else, only_if, first_reply, returned}
+use Rattle.lane_journals.specs.Readers.{or_else, only_if, first_reply, returned}
 use Rattle.lane_journals.specs.Meanings.{history, meaning_reply}
 use Rattle.lane_journals.specs.declared.event.LaneEvent.{LaneEvent}
 use Rattle.lane_journals.specs.declared.event.LaneEvent.TheVariants.{Delivered, Returned}
 use Rattle.lane_carriage.specs.Carriage.{AreDelivered}
-use Rattle.lane_core.specs.Growing.{is_short, CameShort, IsSettled}
+use Rattle.lane_core.specs.Growing.{is_short, IsSettled}
+use Rattle.lane_core.proofs.GivenOut.{over-all}
 
 -- nothing came back
 pub settled-none : (number : ℕ) (J : List LaneEvent) → returned number (history J) ≡ false → IsSettled number J false
@@ -63,5 +64,4 @@ settled-stays number k J r short s = record {
 }
 
 pub settled-delivered : (number : ℕ) (ns : List ℕ) (J K : List LaneEvent) (short : Bool) → AreDelivered ns J K → IsSettled number J short → IsSettled number K short
-settled-delivered number [] J K short d s = subst (λ (X : List LaneEvent). IsSettled number X short) (sym d) s
-settled-delivered number (n ∷ ns) J K short d s = settled-delivered number ns (Delivered n d.0 ∷ J) K short d.1 (settled-stays number n J d.0 short s)
+settled-delivered number ns J K short d s = over-all (λ (X : List LaneEvent). IsSettled number X short) (λ n r X x. settled-stays number n X r short x) ns J K d s

@@ -1,5 +1,5 @@
 -- An operation that couldn't be prepared is over.
-use Rattle.std.proofs.Common.{◌≡◌, ◌+◌, ℕ, true, false, Option, None, Some, refl, sym, ap, subst, is_some, arith}
+use Rattle.std.proofs.Common.{◌≡◌, ℕ, true, false, Option, None, Some, refl, sym, ap, subst, is_some, arith}
 use Rattle.cluster_states.specs.declared.cluster_state.ClusterState.{ClusterState}
 use Rattle.messages.specs.declared.outcome.Outcome.{Outcome}
 use Rattle.messages.specs.declared.outcome.Outcome.TheVariants.{Acked, Nothing, Found, Missing, ConditionFailed, BadUpdate, TooFew, OwnedElsewhere, NoMemory}
@@ -37,7 +37,7 @@ work-over x o t n k f = by_job x.job refl k.job_is f
         let one : one_if (is_some x.job) ≡ 1 = ap (λ (z : Option Job). one_if (is_some z)) e in
         subst (λ (z : Option Job). IsWork (record { state = x.state; drawn = x.drawn; places = x.places; has_room = x.has_room; job = with_phase (Over o t n) z })) (sym e)
         (work-by (record { state = x.state; drawn = x.drawn; places = x.places; has_room = x.has_room; job = Some (record j { phase = Over o t n }) }) (journal_of x.state)
-        k.set_up k.kept k.room (let all = k.spare_is in omega (arith, all, one)) k.resting refl
+        k.set_up k.kept k.room (let all = k.spare_is in omega (arith, all, one)) k.parted k.resting refl
         (record {
           newest_is = k.newest_is;
           counts_are = k.counts_are;

@@ -1,5 +1,5 @@
 -- What is known of an operation that is prepared, as its messages are sent, delivered and told.
-use Rattle.std.proofs.Common.{◌≡◌, ◌+◌, ℕ, Bool, true, List, [], ◌∷◌, Option, Some, None, is_some, refl, sym, subst}
+use Rattle.std.proofs.Common.{◌≡◌, ◌+◌, ℕ, Bool, true, List, ◌∷◌, Option, Some, None, is_some, refl, sym, subst}
 use Rattle.bucket_ids.specs.Buckets.{Low}
 use Rattle.cluster_states.specs.declared.cluster_state.ClusterState.{ClusterState}
 use Rattle.entry_maps.specs.declared.entry.Entry.{Entry}
@@ -20,6 +20,7 @@ use Rattle.lane_operations.specs.OperationKeeping.{KnowsOperation}
 use Rattle.lane_operations.specs.Laws.{MayAskNext, MayWriteNext}
 use Rattle.lane_operations.proofs.Waiting.{standing-waits, asked-waits}
 use Rattle.lane_core.specs.Steps.{sender_of, IsStanding, IsAwaiting}
+use Rattle.lane_core.proofs.GivenOut.{over-all}
 
 -- the same acting, over one event more
 acts-on : (lane : Low) (J : List LaneEvent) (d : ℕ) (s : ClusterState) (k : ℕ) (r : NotedReply) → IsActing lane J d s → IsActing lane (event.Delivered k r ∷ J) d s
@@ -51,15 +52,10 @@ module _ (lane : Low) (rules : Rules) where
     }
 
   -- several late messages
-  legal-before : (ns : List ℕ) (J K : List LaneEvent) → AreDelivered ns J K → IsLegal (setting_of lane rules) K → IsLegal (setting_of lane rules) J
-  legal-before [] J K h l = subst (λ (X : List LaneEvent). IsLegal (setting_of lane rules) X) h l
-  legal-before (n ∷ ns) J K h l = (legal-before ns (event.Delivered n h.0 ∷ J) K h.1 l).0
-
   pub standing-late : (ns : List ℕ) (J K : List LaneEvent) (line : ℕ) (row : Low) (written : Bool) (t : Standing) → AreDelivered ns J K → IsLegal (setting_of lane rules) K
       → IsStanding lane rules J line row written t → IsStanding lane rules K line row written t
-  standing-late [] J K line row written t h l x = subst (λ (X : List LaneEvent). IsStanding lane rules X line row written t) (sym h) x
-  standing-late (n ∷ ns) J K line row written t h l x = standing-late ns (event.Delivered n h.0 ∷ J) K line row written t h.1 l
-      (standing-delivered J line row written t n h.0 (legal-before (n ∷ ns) J K h l) x)
+  standing-late ns J K line row written t h l x = over-all (λ (X : List LaneEvent). IsLegal (setting_of lane rules) X → IsStanding lane rules X line row written t)
+      (λ n r X f legal. standing-delivered X line row written t n r legal.0 (f legal.0)) ns J K h (λ legal. x) l
 
   -- ---- what comes next is written, or sent
 

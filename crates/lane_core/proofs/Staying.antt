@@ -1,5 +1,5 @@
 -- What stays over the events of messages stays while an owner asks node after node.
-use Rattle.std.proofs.Common.{◌≡◌, ℕ, Bool, List, [], ◌∷◌, Option, Some, None, sym, subst}
+use Rattle.std.proofs.Common.{◌≡◌, ℕ, Bool, List, ◌∷◌, Option, Some, None, sym, subst}
 use Rattle.bucket_ids.specs.Buckets.{Low}
 use Rattle.carriers.specs.declared.fate.Fate.{Fate}
 use Rattle.carriers.specs.declared.fate.Fate.TheVariants as fate
@@ -14,6 +14,7 @@ use Rattle.lane_journals.specs.declared.event.LaneEvent.TheVariants.{Sent, Deliv
 use Rattle.node_journals.specs.Replaying.{sending}
 use Rattle.lane_carriage.specs.Carriage.{IsDealt, AreDelivered}
 use Rattle.lane_core.specs.declared.lane_state.LaneState.{LaneState}
+use Rattle.lane_core.proofs.GivenOut.{over-all}
 use Rattle.lane_core.specs.LaneStates.{journal_of, part_of}
 use Rattle.lane_core.specs.Openings.{IsGone, IsAsked, Nobody, More, EndsBy, StopsAfter}
 
@@ -26,8 +27,7 @@ IsOfMessage _ = ⊥
 
 module _ (P : List LaneEvent → Type 0) (stays : (e : LaneEvent) (J : List LaneEvent) → IsOfMessage e → P J → P (e ∷ J)) where
   pub stays-delivered : (ns : List ℕ) (J K : List LaneEvent) → AreDelivered ns J K → P J → P K
-  stays-delivered [] J K d p = subst P (sym d) p
-  stays-delivered (n ∷ ns) J K d p = stays-delivered ns (Delivered n d.0 ∷ J) K d.1 (stays (Delivered n d.0) J tt p)
+  stays-delivered ns J K d p = over-all P (λ n r X q. stays (Delivered n r) X tt q) ns J K d p
 
   pub stays-dealt : (f : Fate) (n : ℕ) (J K : List LaneEvent) → IsDealt f n J K → P J → P K
   stays-dealt fate.Deliver n J K d p = subst P (sym d.1) (stays (Returned n) (Delivered n d.0 ∷ J) tt (stays (Delivered n d.0) J tt p))

@@ -1,5 +1,5 @@
 -- The messages and the end of a round are what the line of its operation wants.
-use Rattle.std.proofs.Common.{◌≡◌, ◌+◌, ℕ, true, List, [], ◌∷◌, length, Option, Some, None, inl, inr, refl, sym, ap, subst, ◌∙◌}
+use Rattle.std.proofs.Common.{◌≡◌, ◌+◌, ℕ, true, List, ◌∷◌, length, Option, Some, None, inl, inr, refl, sym, ap, subst, ◌∙◌}
 use Rattle.bucket_ids.specs.Buckets.{Low}
 use Rattle.stamps.specs.declared.stamp.Stamp.{Stamp}
 use Rattle.cluster_states.specs.declared.cluster_state.ClusterState.{ClusterState}
@@ -28,9 +28,11 @@ use Rattle.lane_keeping.specs.LaneKeeping.{PartKeeps}
 use Rattle.lane_rounds.specs.RoundKeeping.{KnowsRound}
 use Rattle.lane_operations.specs.OperationKeeping.{IsUnderWay}
 use Rattle.lane_wants.specs.Wants.{Adds, Wants, NoRoundSince, RoundGives, IsRun, Same, More, IsCutRun}
+use Rattle.lane_core.specs.Growing.{met_at}
 use Rattle.lane_core.specs.RoundRuns.{SendsNext, IsRoundRun, Nothing, Further, IsRunning, NoneRuns, Begins, IsBegunFor, IsWaitedFor, IsWholeRun, IsCutShort}
 use Rattle.lane_core.specs.declared.rounds.RoundRun.{RoundRun}
 use Rattle.lane_core.specs.declared.rounds.RoundEnd.{RoundEnd}
+use Rattle.lane_core.proofs.GivenOut.{over-all}
 
 module _ (lane : Low) (rules : Rules) (d : ℕ) (s : ClusterState) (line : ℕ) (o : Operation) (stamp : Option Stamp) (row : Low) (inside : contains row (key_of o.id) ≡ true) where
   -- the line waits for the round of the row
@@ -78,11 +80,10 @@ module _ (lane : Low) (rules : Rules) (d : ℕ) (s : ClusterState) (line : ℕ) 
   on-dealt (fate.Late k) n I J K h g = subst (λ (x : List LaneEvent). Goes I x) (sym h) g
 
   on-all : (ns : List ℕ) (I J K : List LaneEvent) → AreDelivered ns J K → Goes I J → Goes I K
-  on-all [] I J K h g = subst (λ (x : List LaneEvent). Goes I x) (sym h) g
-  on-all (n ∷ ns) I J K h g = on-all ns I (Delivered n h.0 ∷ J) K h.1 (on-delivered I J n h.0 g)
+  on-all ns I J K h g = over-all (λ (x : List LaneEvent). Goes I x) (λ n r x y. on-delivered I x n r y) ns J K h g
 
   on-next : (f : Fate) (last : ℕ) (late rest : List Late) (I J K : List LaneEvent) → SendsNext lane d s f last late J rest K → Goes I J → Goes I K
-  on-next f last late rest I J K h g = on-all _ I (h.sends).after K ((h.sends).due).delivered (on-dealt f (last + 1) I (sending (last + 1) h.message ∷ J) (h.sends).after (h.sends).dealt
+  on-next f last late rest I J K h g = on-all _ I (h.sends).after K ((h.sends).due).delivered (on-dealt (met_at J h.message f) (last + 1) I (sending (last + 1) h.message ∷ J) (h.sends).after (h.sends).dealt
       (record { run = More (sending (last + 1) h.message) J g.run (inr (wants J (sending (last + 1) h.message) g.waits h.round h.knows (Some h.message) h.next (last + 1, refl))); waits = was-sent J (last + 1) h.message g.waits }))
 
   on-run : (last : ℕ) (late : List Late) (J : List LaneEvent) (fates : List Fate) (rest : List Late) (K : List LaneEvent) → IsRoundRun lane d s last late J fates rest K → Waits J → Goes J K

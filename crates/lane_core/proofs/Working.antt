@@ -35,7 +35,7 @@ use Rattle.lane_core.specs.LaneValues.{IsSetUp, last_state, drawn}
 use Rattle.lane_core.specs.declared.lane_state.LaneState.{LaneState}
 use Rattle.lane_core.specs.Written.{place_of, FindsEntries}
 use Rattle.lane_core.proofs.Entries.{past-past, finds-none, finds-noted}
-use Rattle.lane_core.specs.Works.{value_of, under_way_in, new_job, count_of, count_after, one_if, IsUntouched, IsJob, JobKeeps, JobLasts, IsWork}
+use Rattle.lane_core.specs.Works.{value_of, under_way_in, new_job, count_of, count_after, one_if, room_for, IsUntouched, IsJob, JobKeeps, JobLasts, IsWork}
 
 -- ---- keys
 
@@ -59,9 +59,9 @@ pub record KeepsLines (lane : Low) (rules : Rules) (J : List LaneEvent) (newest 
 pub lines-of : (w : Work) → IsWork w → KeepsLines w.state.lane w.state.rules (journal_of w.state) w.state.newest (count_of w.drawn) w.job
 lines-of w k = record { newest_is = k.newest_is; counts_are = k.counts_are; no_round = k.no_round; job_is = k.job_is; lasts = k.lasts }
 
-pub work-by : (w : Work) (J : List LaneEvent) → IsSetUp w.state.lane w.state.rules → IsKept w.state → HasRoom 0 w.state → w.state.spare ≡ one_if w.has_room + one_if (is_some w.job)
-    → AreResting w.state → journal_of w.state ≡ J → KeepsLines w.state.lane w.state.rules J w.state.newest (count_of w.drawn) w.job → FindsEntries (place_of w.places) (past J) → IsWork w
-work-by w J set_up kept room spare resting is lines finds =
+pub work-by : (w : Work) (J : List LaneEvent) → IsSetUp w.state.lane w.state.rules → IsKept w.state → HasRoom 0 w.state → w.state.spare ≡ room_for w.has_room + one_if (is_some w.job)
+    → (w.has_room ≡ true → 32 ≤ vec_len w.state.parts) → AreResting w.state → journal_of w.state ≡ J → KeepsLines w.state.lane w.state.rules J w.state.newest (count_of w.drawn) w.job → FindsEntries (place_of w.places) (past J) → IsWork w
+work-by w J set_up kept room spare parted resting is lines finds =
     let k : KeepsLines w.state.lane w.state.rules (journal_of w.state) w.state.newest (count_of w.drawn) w.job
     = subst (λ (K : List LaneEvent). KeepsLines w.state.lane w.state.rules K w.state.newest (count_of w.drawn) w.job) (sym is) lines in
     record {
@@ -69,6 +69,7 @@ work-by w J set_up kept room spare resting is lines finds =
       kept = kept;
       room = room;
       spare_is = spare;
+      parted = parted;
       resting = resting;
       newest_is = k.newest_is;
       counts_are = k.counts_are;
@@ -172,7 +173,7 @@ counts-begun J line d v id (Some s) old new next is after w = after w ∙ by_tes
 -- ---- an event that is noted, with room for more of them kept free
 
 pub work-noted : (x : Work) (y : LaneState) (J : List LaneEvent) (counts : BTreeMap ℕ ℕ) (extra : ℕ) (job : Option Job) → IsWork x → y ≡ record x.state { journal = y.journal } → journal_of y ≡ J → IsKept y
-    → vec_len y.journal + (x.state.spare + extra) ≤ vec_capacity y.journal → x.state.spare + extra ≡ one_if x.has_room + one_if (is_some job)
+    → vec_len y.journal + (x.state.spare + extra) ≤ vec_capacity y.journal → x.state.spare + extra ≡ room_for x.has_room + one_if (is_some job)
     → KeepsLines x.state.lane x.state.rules J x.state.newest (count_of counts) job → FindsEntries (place_of x.places) (past J)
     → IsWork (record { state = record y { spare = y.spare + extra }; drawn = counts; places = x.places; has_room = x.has_room; job = job })
 work-noted x y J counts extra job k after is kept room spare lines finds =
@@ -184,24 +185,33 @@ work-noted x y J counts extra job k after is kept room spare lines finds =
     work-by (record { state = record y { spare = y.spare + extra }; drawn = counts; places = x.places; has_room = x.has_room; job = job }) J
     (subst (λ (b : Low). IsSetUp b y.rules) (sym lane) (subst (λ (r : Rules). IsSetUp x.state.lane r) (sym rules) k.set_up))
     kept (omega (arith, room, same)) (same_by same spare)
+    (λ made. rw parts (k.parted made))
     (λ d. rw (lane, rules, parts) (k.resting d)) is
     (rw (lane, rules, newest) lines) finds
   where
-    same_by : y.spare ≡ x.state.spare → x.state.spare + extra ≡ one_if x.has_room + one_if (is_some job) → y.spare + extra ≡ one_if x.has_room + one_if (is_some job)
+    same_by : y.spare ≡ x.state.spare → x.state.spare + extra ≡ room_for x.has_room + one_if (is_some job) → y.spare + extra ≡ room_for x.has_room + one_if (is_some job)
     same_by e h = ap (λ (n : ℕ). n + extra) e ∙ h
+
+-- the journal grew between two lines
+pub work-between : (x : Work) (y : LaneState) (J : List LaneEvent) (room : Bool) → IsWork x → x.job ≡ None → y.lane ≡ x.state.lane → y.rules ≡ x.state.rules → journal_of y ≡ J → IsKept y → AreResting y → HasRoom 0 y
+    → y.spare ≡ room_for room → (room ≡ true → 32 ≤ vec_len y.parts) → KeepsLines x.state.lane x.state.rules J y.newest (count_of x.drawn) None → FindsEntries (place_of x.places) (past J)
+    → IsWork (record { state = y; drawn = x.drawn; places = x.places; has_room = room; job = x.job })
+work-between x y J room k idle lane rules is kept resting free spare parted lines finds =
+    work-by (record { state = y; drawn = x.drawn; places = x.places; has_room = room; job = x.job }) J (rw (lane, rules) k.set_up) kept free
+    (rw idle (let e = spare in omega (arith, e))) parted resting is (rw (lane, rules, idle) lines) finds
 
 -- the close of the operation under way
 pub work-closed : (x : Work) (y : LaneState) (rest : Option Job) (j : Job) (line : ℕ) (o : Outcome) → IsWork x → x.job ≡ Some j → rest ≡ None → y.lane ≡ x.state.lane → y.rules ≡ x.state.rules → y.newest ≡ x.state.newest
-    → y.spare ≡ x.state.spare - 1 → IsKept y → AreResting y → journal_of y ≡ Closed line o ∷ journal_of x.state → vec_len y.journal ≡ vec_len x.state.journal + 1 → vec_capacity x.state.journal ≤ vec_capacity y.journal
+    → y.spare ≡ x.state.spare - 1 → vec_len y.parts ≡ vec_len x.state.parts → IsKept y → AreResting y → journal_of y ≡ Closed line o ∷ journal_of x.state → vec_len y.journal ≡ vec_len x.state.journal + 1 → vec_capacity x.state.journal ≤ vec_capacity y.journal
     → AllClosed (history (Closed line o ∷ journal_of x.state)) → IsWork (record { state = y; drawn = x.drawn; places = x.places; has_room = x.has_room; job = rest })
-work-closed x y rest j line o k is none lane rules newest spare kept resting grows len cap closed =
+work-closed x y rest j line o k is none lane rules newest spare parted kept resting grows len cap closed =
     let one : one_if (is_some x.job) ≡ 1 = ap (λ (z : Option Job). one_if (is_some z)) is in
-    let all : x.state.spare ≡ one_if x.has_room + one_if (is_some x.job) = k.spare_is in
+    let all : x.state.spare ≡ room_for x.has_room + one_if (is_some x.job) = k.spare_is in
     let room : vec_len x.state.journal + 0 + x.state.spare ≤ vec_capacity x.state.journal = k.room in
-    let left : y.spare ≡ one_if x.has_room = omega (arith, one, all, spare) in
+    let left : y.spare ≡ room_for x.has_room = omega (arith, one, all, spare) in
     work-by (record { state = y; drawn = x.drawn; places = x.places; has_room = x.has_room; job = rest }) (Closed line o ∷ journal_of x.state)
     (rw (lane, rules) k.set_up) kept (omega (arith, one, all, room, left, len, cap))
-    (rw none (let e = left in omega (arith, e))) resting grows
+    (rw none (let e = left in omega (arith, e))) (λ made. let all = k.parted made in omega (arith, all, parted)) resting grows
     (rw (lane, rules, newest, none) (record { newest_is = k.newest_is; counts_are = k.counts_are; no_round = k.no_round; job_is = closed; lasts = tt }))
     (finds-noted (place_of x.places) x.state.journal.items (Closed line o) refl k.finds)
 
@@ -211,6 +221,7 @@ pub work-new : (w : Work) → IsSetUp w.state.lane w.state.rules → IsKept w.st
     → w.has_room ≡ false → w.job ≡ None → ((v : ℕ) → count_of w.drawn v ≡ 0) → ((s : Stamp) → place_of w.places s ≡ None) → IsWork w
 work-new w set_up kept journal newest parts spare room unmade none counts places = work-by w [] set_up kept room
     (rw (spare, unmade, none) refl)
+    (λ made. let wrong : false ≡ true = sym unmade ∙ made in cc)
     (λ d. rw parts (record { unasked = refl; told = refl; no_round = refl }))
     journal
     (rw (none, newest) (record {

@@ -1,12 +1,15 @@
 -- The fields of a lane, and what its calls say of them.
-use Rattle.std.specs.Prelude.{◌≡◌, ◌≤◌, ◌<◌, ◌+◌, ℕ, List, [], ◌∷◌, ◌++◌, length, Option, None, vec_len, vec_capacity}
+use Rattle.std.specs.Prelude.{◌≡◌, ◌≤◌, ◌<◌, ◌+◌, ℕ, Bool, false, List, [], ◌∷◌, ◌++◌, length, Option, None, vec_len, vec_capacity}
 use Rattle.bucket_ids.specs.Buckets.{Low}
+use Rattle.node_sets.specs.Members.{has_node}
 use Rattle.cluster_states.specs.declared.cluster_state.ClusterState.{ClusterState}
 use Rattle.messages.specs.declared.message.Message.{Message}
 use Rattle.service_layer.specs.Nodes.{Node}
 use Rattle.distributor_part.specs.declared.rules.Rules.{Rules}
 use Rattle.distributor_part.specs.declared.stage.Stage.TheVariants.{Before}
 use Rattle.distributor_part.specs.Parts.{Part}
+use Rattle.lane_journals.specs.Readers.{stopped}
+use Rattle.lane_journals.specs.Meanings.{history}
 use Rattle.lane_journals.specs.KeptJournals.{past}
 use Rattle.lane_journals.specs.declared.event.LaneEvent.{LaneEvent}
 use Rattle.carriers.specs.declared.fate.Fate.{Fate}
@@ -16,7 +19,7 @@ use Rattle.node_journals.specs.Flights.{IsInFlight}
 use Rattle.node_journals.specs.Replaying.{sending}
 use Rattle.lane_carriage.specs.Carriage.{IsCarried, IsDealt}
 use Rattle.lane_carriage.specs.Waits.{IsWaiting, kept_by}
-use Rattle.lane_core.specs.Growing.{DeliversSome}
+use Rattle.lane_core.specs.Growing.{met_at, DeliversSome}
 use Rattle.lane_core.specs.declared.lane_state.LaneState.{LaneState}
 use Rattle.lane_keeping.specs.LaneKeeping.{part_in, Keeps}
 use Rattle.lane_keeping.specs.Asking.{IsAsking}
@@ -29,16 +32,25 @@ pub record IsComing (J : List LaneEvent) (nodes : List Node) (l : Late) : Type 0
   pub flight : IsInFlight J l.number l.message
   pub there : l.message.receiver < length nodes
 
--- the lane's bucket is one of a lane, nodes and parts are what the journal says, late messages are on their way, and
--- each message has an event, so that the next number finds room where the journal has some
-pub record IsKeptBy (lane : Low) (rules : Rules) (J : List LaneEvent) (newest : Option ClusterState) (last : ℕ) (nodes : List Node) (parts : List Part) (late : List Late) : Type 0 where
+-- these nodes are stopped, and no others
+abbrev pub AreStopped : (ℕ → Bool) → ℕ → Type 0
+AreStopped is_stopped stops = (n : ℕ) → is_stopped n ≡ has_node stops n
+
+-- the lane's bucket is one of a lane, nodes and parts are what the journal says, late messages are on their way, each
+-- message has an event, so that the next number finds room where the journal has some, and it is known who is stopped
+pub record IsKeptBy (lane : Low) (rules : Rules) (J : List LaneEvent) (newest : Option ClusterState) (last : ℕ) (nodes : List Node) (parts : List Part) (late : List Late) (stops : ℕ) : Type 0 where
   pub small : lane.bits ≤ 6
   pub keeps : Keeps lane rules J newest last nodes parts
   pub coming : Each (IsComing J nodes) late
   pub counted : last ≤ length J
+  pub stops_are : AreStopped (λ n. stopped n (history J)) stops
 
 abbrev pub IsKept : LaneState → Type 0
-IsKept c = IsKeptBy c.lane c.rules (journal_of c) c.newest c.last c.nodes.items c.parts.items c.late.late
+IsKept c = IsKeptBy c.lane c.rules (journal_of c) c.newest c.last c.nodes.items c.parts.items c.late.late c.stopped
+
+-- the node runs
+abbrev pub Receives : LaneState → ℕ → Type 0
+Receives c n = has_node c.stopped n ≡ false
 
 -- so many events more find room, and those for which there always is
 abbrev pub HasRoom : ℕ → LaneState → Type 0
@@ -80,14 +92,14 @@ pub record Stays (c e : LaneState) : Type 0 where
   pub last : e.last ≡ c.last
   pub parts : (d : ℕ) → part_of e d ≡ part_of c d
 
--- a message was sent with the next number and dealt with by the fate that the carrier gave it, and the late ones that
--- were due then were delivered
+-- a message was sent with the next number and dealt with by the fate that the carrier gave it, as its receiver ran or
+-- was stopped, and the late ones that were due then were given out
 pub record Went (c e : LaneState) (m : Message) (given now : List Fate) : Type 0 where
   pub fate : Fate
   pub fates : now ≡ given ++ fate ∷ []
   pub next : e.last ≡ c.last + 1
   -- the journal once it was dealt with
   pub between : List LaneEvent
-  pub dealt : IsDealt fate (c.last + 1) (sending (c.last + 1) m ∷ journal_of c) between
+  pub dealt : IsDealt (met_at (journal_of c) m fate) (c.last + 1) (sending (c.last + 1) m ∷ journal_of c) between
   pub late : DeliversSome (c.last + 1) (kept_by fate (c.last + 1) m c.late.late) e.late.late between (journal_of e)
   pub none_left : NoneIsDue (c.last + 1) e.late.late

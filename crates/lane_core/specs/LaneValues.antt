@@ -33,6 +33,7 @@ use Rattle.lane_keeping.specs.LaneKeeping.{setting_of, PartKeeps}
 use Rattle.lane_keeping.specs.Acting.{IsActing}
 use Rattle.lane_carriage.specs.Carriage.{IsCarried}
 use Rattle.lane_operations.specs.OperationKeeping.{AllClosed}
+use Rattle.lane_core.specs.Growing.{heard_next}
 use Rattle.lane_core.specs.declared.job.UnderWay.{UnderWay}
 use Rattle.lane_core.specs.contracts.job.UnderWay as under
 use Rattle.lane_core.specs.declared.job.Progress.{Progress}
@@ -52,7 +53,7 @@ pub record LaneValue : Type 0 where
   pub given : List Fate
   pub planned : List Fate
   pub takes_plans : Bool
-  -- whether room was made for the next publication
+  -- whether room was made for the next publication, stop or start
   pub has_room : Bool
   pub under_way : Option UnderWay
 
@@ -138,6 +139,20 @@ abbrev pub IsBeginning : ℕ → Operation → ℕ → LaneValue → LaneValue �
 IsBeginning line o via old new begin.Begun = Begins line o via old new
 IsBeginning line o via old new (begin.Refused outcome) = Refuses line via outcome old new
 IsBeginning line o via old new begin.NoMemory = new ≡ old
+
+-- the lane's owner under the newest state, once it heard that state, begins the operation
+pub record BeginsAtOwner (line : ℕ) (o : Operation) (old new : LaneValue) : Type 0 where
+  pub owner : ℕ
+  pub state : ClusterState
+  pub newest : last_state old.journal ≡ Some state
+  -- the journal once the owner heard that state
+  pub heard : List LaneEvent
+  pub heard_is : heard ≡ heard_next owner (Some state) old.journal
+  pub acting : IsActing old.lane heard owner state
+  pub after : new ≡ record old {
+    journal = Begun line owner state.version o.id (drawn o.kind state.version heard) ∷ heard;
+    under_way = Some (under_way_of line o owner Runs 65);
+  }
 
 -- ---- advance
 

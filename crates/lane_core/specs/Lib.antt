@@ -1,10 +1,9 @@
--- `LaneStates` has the fields of a lane, `Growing` what becomes of a message and what a distributor hears, `Openings`
--- how the owner's part opens its state, `RoundRuns` what calls make of a round. `LaneValues` says what a lane is to its
--- callers, `Works` and `LaneInside` what it keeps behind that, `Closing` what a close asks, and `Preparations` what
--- prepares an operation in its row. `Written` says where written entries stand.
--- how the owner's part opens its state, `RoundRuns` what calls make of a round, and `Steps` what an operation that is
--- prepared does. `LaneValues` says what a lane is to its callers, `Works` and `LaneInside` what it keeps behind that, and
--- `Closing` what a close asks.
+-- `LaneStates` has the fields of a lane, `Growing` what becomes of a message, what distributors hear and which nodes stop.
+-- `Openings` says how the owner's part opens its state, and `OpeningRuns` what is known between its steps where a line has
+-- it opened; `RoundRuns` what calls make of a round; `Readying` and `FilledRows` what an operation comes to that isn't
+-- prepared yet, `Preparations` what prepares it in its row, `Steps` what it does then, and `Closing` what its close asks.
+-- `LaneValues` says what a lane is to its callers, and `Works` and `LaneInside` what it keeps behind that. `Searching` is
+-- the search for the row of an operation, `Written` says where written entries stand, and `KnownOwners` who owns a lane.
 pub mod LaneStates
 pub mod Growing
 pub mod Openings

@@ -54,7 +54,7 @@ IsNext c e d (step.Asks m) = IsAskNext c e d m
 IsNext c e d step.Opened = IsOpenedNow c e d
 IsNext c e d (step.Lacks missing) = IsLacking c e d missing
 
--- a message is sent, dealt with by its fate, and late ones are delivered
+-- a message is sent, dealt with by a fate, and late ones are given out
 pub record IsGone (number : ℕ) (m : Message) (J K : List LaneEvent) : Type 0 where
   pub fate : Fate
   pub between : List LaneEvent

@@ -8,7 +8,6 @@ use Rattle.messages.specs.declared.operation.Operation.{Operation}
 use Rattle.messages.specs.declared.outcome.Outcome.{Outcome}
 use Rattle.messages.specs.declared.outcome.Outcome.TheVariants as outcome
 use Rattle.bucket_db.specs.declared.row.Row.{Row}
-use Rattle.distributor_part.specs.declared.rules.Rules.{Rules}
 use Rattle.lane_journals.specs.Buckets.{contains, key_of}
 use Rattle.lane_journals.specs.Readers.{opened}
 use Rattle.lane_journals.specs.Meanings.{history}

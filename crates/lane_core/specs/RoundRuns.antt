@@ -38,16 +38,17 @@ use Rattle.lane_keeping.specs.Asking.{unkept}
 use Rattle.lane_operations.specs.OperationKeeping.{IsUnderWay}
 use Rattle.lane_rounds.specs.RoundKeeping.{origin_in, KnowsRound, KnowsAnswers}
 use Rattle.lane_wants.specs.Wants.{NoRoundSince}
-use Rattle.lane_core.specs.Growing.{DeliversSome}
+use Rattle.lane_core.specs.Growing.{met_at, DeliversSome}
 use Rattle.lane_core.specs.declared.rounds.RoundRun.{RoundRun}
 use Rattle.lane_core.specs.declared.rounds.RoundEnd.{RoundEnd}
 
 -- ---- one message
 
--- the message is sent with the next number, dealt with by its fate, and followed by the late ones that are due
+-- the message is sent with the next number, dealt with by its fate, as its receiver runs or is stopped, and followed by
+-- the late ones that are due
 pub record Sends (m : Message) (fate : Fate) (last : ℕ) (late : List Late) (J : List LaneEvent) (rest : List Late) (K : List LaneEvent) : Type 0 where
   pub after : List LaneEvent
-  pub dealt : IsDealt fate (last + 1) (sending (last + 1) m ∷ J) after
+  pub dealt : IsDealt (met_at J m fate) (last + 1) (sending (last + 1) m ∷ J) after
   pub due : DeliversSome (last + 1) (kept_by fate (last + 1) m late) rest after K
   pub none_left : NoneIsDue (last + 1) rest
 

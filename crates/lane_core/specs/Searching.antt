@@ -1,5 +1,5 @@
 -- The search for the row of an operation that was begun, and what it comes to.
-use Rattle.std.specs.Prelude.{◌≤◌, ◌-◌, ℕ, Bool, true, false, List, Option, None, Some}
+use Rattle.std.specs.Prelude.{◌≤◌, ◌-◌, Bool, true, false, List, Option, None, Some}
 use Rattle.carriers.specs.declared.fate.Fate.{Fate}
 use Rattle.messages.specs.declared.outcome.Outcome.{Outcome}
 use Rattle.lane_wants.specs.Wants.{IsEnd}

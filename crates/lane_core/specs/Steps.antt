@@ -148,12 +148,23 @@ pub record WantsEnd (c : LaneState) (line : ℕ) (row : Low) (t : Standing) (out
   pub same : told ≡ outcome
   pub answered_is : answered ≡ standing.stores.answered
 
+-- the phase in which the operation of the machine is over, where it has an outcome
+abbrev pub HasEnded : Standing → Option Phase → Type 0
+HasEnded t None = outcome_in (next_at t) ≡ None
+HasEnded t (Some (Over outcome told answered)) = (outcome_in (next_at t) ≡ Some outcome) × (told ≡ outcome) × (answered ≡ t.stores.answered)
+HasEnded t (Some _) = ⊥
+
 -- the phase of a machine, and the answer
 abbrev pub IsPhaseOf : Low → Bool → Standing → Phase → Advance → Type 0
 IsPhaseOf row written t (Prepared machine r w) advance.More = (r ≡ row) × (w ≡ written) × (machine ≡ t) × (outcome_in (next_at t) ≡ None)
 IsPhaseOf row written t (Over outcome told answered) advance.Done = (outcome_in (next_at t) ≡ Some outcome) × (told ≡ outcome) × (answered ≡ t.stores.answered)
 IsPhaseOf row written t Short advance.NoMemory = Unit {0}
 IsPhaseOf row written t _ _ = ⊥
+
+-- the operation is prepared, and this holds of its row, whether its entry is written, and its machine
+abbrev pub OfPrepared : (Low → Bool → Standing → Type 0) → Phase → Type 0
+OfPrepared P (Prepared machine row written) = P row written machine
+OfPrepared P _ = ⊥
 
 -- the phase that a call comes to, and its answer
 abbrev pub ComesTo : LaneState → ℕ → Low → Standing → Phase → Advance → Type 0

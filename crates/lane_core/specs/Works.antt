@@ -1,6 +1,6 @@
 -- What a lane keeps behind its value: its fields, the stamps that were drawn, and the operation under way, of which
 -- the journal says what was done.
-use Rattle.std.specs.Prelude.{◌≡◌, ◌==◌, ◌≤◌, ◌+◌, ℕ, Bool, true, false, not, List, Option, None, Some, is_some, if◌then◌else◌}
+use Rattle.std.specs.Prelude.{◌≡◌, ◌==◌, ◌≤◌, ◌+◌, ℕ, Bool, true, false, not, List, ◌∷◌, Option, None, Some, is_some, vec_len, if◌then◌else◌}
 use Rattle.std.specs.Ordering.{nat_cmp}
 use Rattle.std.specs.Map.{count_at}
 use Rattle.std.specs.BTreeMap as tree
@@ -23,6 +23,7 @@ use Rattle.lane_journals.specs.Readers.{Journal, prepared, wrote, opened, stamps
 use Rattle.lane_journals.specs.Meanings.{history}
 use Rattle.lane_journals.specs.KeptJournals.{IsLegalStep}
 use Rattle.lane_journals.specs.declared.event.LaneEvent.{LaneEvent}
+use Rattle.lane_journals.specs.declared.event.LaneEvent.TheVariants as event
 use Rattle.lane_journals.specs.declared.event.LaneEvent.TheVariants.{Closed}
 use Rattle.lane_keeping.specs.LaneKeeping.{setting_of}
 use Rattle.lane_keeping.specs.Acting.{IsActing}
@@ -39,7 +40,7 @@ use Rattle.lane_core.specs.declared.work.Work.{Work}
 use Rattle.lane_core.specs.LaneStates.{journal_of, IsKept, HasRoom, AreResting, IsCarriedBy}
 use Rattle.lane_core.specs.Written.{place_of, FindsEntries}
 use Rattle.lane_wants.specs.Wants.{Stands, IsEnd, WasAskedIn}
-use Rattle.lane_core.specs.LaneValues.{LaneValue, IsSetUp, last_state, under_way_of}
+use Rattle.lane_core.specs.LaneValues.{LaneValue, IsSetUp, last_state, drawn, under_way_of}
 
 -- ---- the value
 
@@ -71,6 +72,10 @@ OfValues R old new = (given planned : List Fate) (takes_plans : Bool) → R (val
 
 abbrev pub SameValue : Work → Work → Type 0
 SameValue old new = OfValues (λ a b. b ≡ a) old new
+
+-- the operation of a line begins at a distributor under a version
+abbrev pub begun_by : ℕ → Operation → ℕ → ℕ → LaneValue → LaneValue
+begun_by line o d v old = record old { journal = event.Begun line d v o.id (drawn o.kind v old.journal) ∷ old.journal; under_way = Some (under_way_of line o d progress.Runs 65) }
 
 -- ---- the operation under way
 
@@ -180,12 +185,18 @@ count_after (Some s) counts v = if s.version == v then s.count else counts v
 abbrev pub one_if : Bool → ℕ
 one_if b = if b then 1 else 0
 
+-- room for a publication with all that hear it
+abbrev pub room_for : Bool → ℕ
+room_for has_room = if has_room then 33 else 0
+
 pub record IsWork (w : Work) : Type 0 where
   pub set_up : IsSetUp w.state.lane w.state.rules
   pub kept : IsKept w.state
   pub room : HasRoom 0 w.state
-  -- there is room for a publication, and for the close of the operation
-  pub spare_is : w.state.spare ≡ one_if w.has_room + one_if (is_some w.job)
+  -- there is room for a publication with all that hear it, and for the close of the operation
+  pub spare_is : w.state.spare ≡ room_for w.has_room + one_if (is_some w.job)
+  -- and then each distributor has its part
+  pub parted : w.has_room ≡ true → 32 ≤ vec_len w.state.parts
   pub resting : AreResting w.state
   pub newest_is : w.state.newest ≡ last_state (journal_of w.state)
   pub counts_are : (v : ℕ) → count_of w.drawn v ≡ stamps_of v (history (journal_of w.state))

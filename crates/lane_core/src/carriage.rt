@@ -1,21 +1,24 @@
-ghost use Rattle.std.specs.Prelude.{◌≡◌, ◌≤◌, ◌<◌, ◌+◌, ◌∷◌, true, false, OnOk, OnErr, length, vec_len, vec_capacity};
+ghost use Rattle.std.specs.Prelude.{◌≡◌, ◌≤◌, ◌<◌, ◌+◌, ◌∷◌, true, false, OnOk, OnErr, IfSome, length, vec_len, vec_capacity};
 ghost use Rattle.messages.specs.Noting.{noted_body};
+ghost use Rattle.service_layer.specs.Takes.{IsKeyOf};
 ghost use Rattle.late_messages.specs.Waiting.{NoneIsDue, AreSentBefore};
 ghost use Rattle.lane_journals.specs.Meanings.{entry_at};
 ghost use Rattle.lane_journals.specs.KeptJournals.{IsLegalStep};
+ghost use Rattle.lane_carriage.specs.Carriage.{IsGivenOut, is_cut_off};
 ghost use Rattle.lane_carriage.specs.Waits.{kept_by};
 ghost use Rattle.carriers.specs.declared.fate.Fate.TheVariants as fate;
 ghost use Rattle.node_journals.specs.Flights.{Brings, IsWhole, IsInFlight};
 ghost use Rattle.node_journals.specs.Replaying.{sending, delivered};
 ghost use Rattle.lane_keeping.specs.LaneKeeping.{setting_of};
 ghost use Rattle.lane_keeping.specs.Asking.{IsJustSent, IsTakenBy};
-ghost use Rattle.lane_core.specs.LaneStates.{journal_of, IsKept, HasRoom};
+ghost use Rattle.lane_core.specs.LaneStates.{journal_of, IsKept, IsComing, HasRoom, Receives};
 ghost use Rattle.lane_core.specs.Growing.{DeliversOne, DeliversSome};
 
 use crate::lane_state::{LaneState, push_within};
 use crate::parts::make_nodes;
 use lane_journals::LaneEvent;
 use lane_keeping::laws::events_are_kept;
+use late_messages::Late;
 use messages::{Message, NotedBody, Reply};
 use node_journals::laws::nodes_hold;
 use value_lists::NoMemory;
@@ -52,10 +55,13 @@ impl LaneState {
         );
     }
 
-    /// Delivers a message that is on its way, and notes the reply; takes no memory.
-    pub fn deliver(&mut self, number: u64, message: &Message) -> Reply
+    /// Delivers a message that is on its way to a node that runs, and notes the reply; takes no memory. The key of the
+    /// document that the message names may be known, so that nothing is digested.
+    pub fn deliver(&mut self, number: u64, key: Option<u64>, message: &Message) -> Reply
         requires keeps { IsKept self.old }
         requires flight { IsInFlight (journal_of self.old) number message.now }
+        requires receives { Receives self.old message.now.receiver }
+        requires key { IfSome key (IsKeyOf message.now.body) }
         requires there { message.now.receiver < vec_len self.old.nodes }
         requires room { vec_len self.old.journal + 1 ≤ vec_capacity self.old.journal }
         ensures keeps { IsKept self.new }
@@ -68,7 +74,7 @@ impl LaneState {
     {
         events_are_kept();
         nodes_hold();
-        let taken = self.nodes[usize::from(message.receiver)].take(message);
+        let taken = self.nodes[usize::from(message.receiver)].take_at(key, message);
         push_within(
             &mut self.journal,
             LaneEvent::Delivered {
@@ -117,7 +123,8 @@ impl LaneState {
         self.late.keep(number + u64::from(later), number, message);
     }
 
-    /// Delivers the first late message, if it is due; takes no memory.
+    /// Takes the first late message out, if it is due, and gives it out: it is delivered, or lost where its receiver is
+    /// stopped; takes no memory.
     fn deliver_first(&mut self) -> bool
         requires keeps { IsKept self.old }
         requires room { vec_len self.old.journal + length self.old.late.late ≤ vec_capacity self.old.journal }
@@ -131,17 +138,35 @@ impl LaneState {
             ≡ record self.old { journal = self.new.journal; nodes = self.new.nodes; late = self.new.late } }
         ensures nodes { vec_len self.new.nodes ≡ vec_len self.old.nodes }
         ensures len { vec_len self.new.journal + length self.new.late.late
-            ≡ vec_len self.old.journal + length self.old.late.late }
+            ≤ vec_len self.old.journal + length self.old.late.late }
         ensures capacity { vec_capacity self.old.journal ≤ vec_capacity self.new.journal }
     {
         let Some(late) = self.late.take_due(self.last) else {
             return false;
         };
-        self.deliver(late.number, &late.message);
+        self.give_out(&late);
         true
     }
 
-    /// Delivers the late messages that are due, in their order; takes no memory.
+    /// Delivers a late message that is due, or loses it where its receiver is stopped; takes no memory.
+    fn give_out(&mut self, late: &Late)
+        requires keeps { IsKept self.old }
+        requires coming { IsComing (journal_of self.old) self.old.nodes.items late.now }
+        requires room { vec_len self.old.journal + 1 ≤ vec_capacity self.old.journal }
+        ensures keeps { IsKept self.new }
+        ensures given_out { IsGivenOut (is_cut_off late.now.number (journal_of self.old)) late.now.number
+            (journal_of self.old) (journal_of self.new) }
+        ensures after { self.new ≡ record self.old { journal = self.new.journal; nodes = self.new.nodes } }
+        ensures nodes { vec_len self.new.nodes ≡ vec_len self.old.nodes }
+        ensures len { vec_len self.new.journal ≤ vec_len self.old.journal + 1 }
+        ensures capacity { vec_capacity self.old.journal ≤ vec_capacity self.new.journal }
+    {
+        if !self.is_stopped(late.message.receiver) {
+            self.deliver(late.number, None, &late.message);
+        }
+    }
+
+    /// Gives out the late messages that are due, in their order; takes no memory.
     pub fn deliver_due(&mut self)
         requires keeps { IsKept self.old }
         requires room { vec_len self.old.journal + length self.old.late.late ≤ vec_capacity self.old.journal }
@@ -153,7 +178,7 @@ impl LaneState {
             ≡ record self.old { journal = self.new.journal; nodes = self.new.nodes; late = self.new.late } }
         ensures nodes { vec_len self.new.nodes ≡ vec_len self.old.nodes }
         ensures len { vec_len self.new.journal + length self.new.late.late
-            ≡ vec_len self.old.journal + length self.old.late.late }
+            ≤ vec_len self.old.journal + length self.old.late.late }
         ensures capacity { vec_capacity self.old.journal ≤ vec_capacity self.new.journal }
     {
         while self.deliver_first() {}

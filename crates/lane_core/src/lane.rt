@@ -1,6 +1,7 @@
 ghost use Rattle.std.specs.Prelude.{◌≡◌, ◌≢◌, ℕ, ◌≤◌, ◌<◌, ◌^◌, [], ◌∷◌, Bool, true, false, None, Some, IsSome, IfSome, IfOk, OnOk, OnErr, option_map};
 ghost use Rattle.std.specs.Option.{option_copied};
 ghost use Rattle.bucket_ids.specs.Buckets.{IsIn};
+ghost use Rattle.global_ids.specs.Keys as keys;
 ghost use Rattle.cluster_states.specs.Publishing.{publish_fault};
 ghost use Rattle.ideal_nodes.specs.Placement.{IsOwner};
 ghost use Rattle.carriers.specs.Fates.{planned_with};
@@ -14,8 +15,8 @@ ghost use Rattle.lane_journals.specs.declared.event.LaneEvent.TheVariants as eve
 ghost use Rattle.node_journals.specs.NodeKeeping.{NodeKeeps};
 ghost use Rattle.lane_keeping.specs.LaneKeeping.{setting_of};
 ghost use Rattle.lane_operations.specs.OperationKeeping.{IsFresh, IsPlainGet};
-ghost use Rattle.lane_core.specs.Growing.{heard_next};
-ghost use Rattle.lane_core.specs.LaneValues.{LaneValue, IsSetUp, new_value, IsLaneValue, last_state, IsBeginning, IsAdvance, IsAt, MayClose, IsOutcome, closed_by, node_or_new, HasEntries, HasRows};
+ghost use Rattle.lane_core.specs.Growing.{heard_next, announced, stopped_next, started_next};
+ghost use Rattle.lane_core.specs.LaneValues.{LaneValue, IsSetUp, new_value, IsLaneValue, last_state, IsBeginning, BeginsAtOwner, IsAdvance, IsAt, MayClose, IsOutcome, closed_by, node_or_new, HasEntries, HasRows};
 ghost use Rattle.lane_core.specs.declared.job.Progress.TheVariants as progress;
 
 use crate::answers::{Advance, Begin};
@@ -30,6 +31,7 @@ use distributor_part::Rules;
 use entry_maps::Entry;
 use lane_journals::LaneEvent;
 use messages::{Operation, Outcome};
+use node_sets::NodeSet;
 use service_layer::NodePart;
 use stamps::Stamp;
 use std::alloc::Global;
@@ -76,7 +78,8 @@ impl<C: Carrier + Drop> Lane<C> {
 
     // ---- states
 
-    /// Makes room for one publication. The only error is want of memory.
+    /// Makes room for one publication with all that hear it, or for one stop or start. The only error is want
+    /// of memory.
     pub fn room(&mut self) -> Result<(), NoMemory>
         ensures ok { OnOk result (self.new ≡ record self.old { has_room = true }) }
         ensures err { OnErr result (self.new ≡ self.old) }
@@ -97,6 +100,20 @@ impl<C: Carrier + Drop> Lane<C> {
         self.owner = KnownOwner::new(self.work.state.lane, state);
     }
 
+    /// Publishes a state, which all distributors hear but the deaf ones, in rising number; takes no memory. Room
+    /// was made for it since the last one.
+    pub fn announce(&mut self, state: &ClusterState, deaf: NodeSet)
+        requires idle { self.old.under_way ≡ None }
+        requires room { self.old.has_room ≡ true }
+        requires accepted { publish_fault (told (setting_of self.old.lane self.old.rules) self.old.journal) state.now
+            ≡ None }
+        ensures { self.new
+            ≡ record self.old { journal = announced deaf state.now self.old.journal; has_room = false } }
+    {
+        self.work.announce(state, deaf);
+        self.owner = KnownOwner::new(self.work.state.lane, state);
+    }
+
     /// The distributor that owns the lane under the state that was published last, where that is known; takes no
     /// memory.
     pub fn owner(&self) -> Option<u8>
@@ -109,6 +126,13 @@ impl<C: Carrier + Drop> Lane<C> {
             return None;
         };
         known.owner_of(self.work.state.lane, state)
+    }
+
+    /// The version of the state that a distributor holds, if it holds one; takes no memory.
+    pub fn held(&self, distributor: u8) -> Option<u32>
+        ensures { result ≡ held distributor (history self.now.journal) }
+    {
+        self.work.state.held(distributor)
     }
 
     /// A distributor hears the newest state, where it holds none or an older one; answers its version.
@@ -124,11 +148,34 @@ impl<C: Carrier + Drop> Lane<C> {
         self.work.hear(distributor)
     }
 
+    // ---- nodes
+
+    /// A node stops; nothing happens where it is stopped already. Takes no memory. Room was made for it.
+    pub fn stop(&mut self, node: u8)
+        requires idle { self.old.under_way ≡ None }
+        requires room { self.old.has_room ≡ true }
+        requires number { node < 32 }
+        ensures { self.new ≡ record self.old { journal = stopped_next node self.old.journal; has_room = false } }
+    {
+        self.work.stop(node);
+    }
+
+    /// A node starts; nothing happens where it isn't stopped. Takes no memory. Room was made for it.
+    pub fn start(&mut self, node: u8)
+        requires idle { self.old.under_way ≡ None }
+        requires room { self.old.has_room ≡ true }
+        requires number { node < 32 }
+        ensures { self.new ≡ record self.old { journal = started_next node self.old.journal; has_room = false } }
+    {
+        self.work.start(node);
+    }
+
     // ---- one operation
 
     /// Begins the operation of a line at a distributor, which draws its stamp; refused exactly where that
     /// distributor doesn't own the lane under the state that it holds. Room is made for its close.
-    pub fn begin(&mut self, line: u32, operation: &Operation, via: u8) -> Begin
+    pub fn begin(&mut self, line: u32, key: u64, operation: &Operation, via: u8) -> Begin
+        requires key { key ≡ keys.key_of operation.now.id }
         requires idle { self.old.under_way ≡ None }
         requires line { 1 ≤ line }
         requires fresh { IsFresh (history self.old.journal) line }
@@ -139,7 +186,31 @@ impl<C: Carrier + Drop> Lane<C> {
         requires plain { IsPlainGet operation.now }
         ensures { IsBeginning line operation.now via self.old self.new result }
     {
-        self.work.begin(line, operation, via, self.owner.as_ref())
+        self.work
+            .begin(line, key, operation, via, self.owner.as_ref())
+    }
+
+    /// Begins the operation of a line at the lane's owner under the newest state, which first hears that state.
+    /// Room is made for its close. The only error is want of memory, and then nothing has changed.
+    pub fn begin_at_owner(
+        &mut self,
+        line: u32,
+        key: u64,
+        operation: &Operation,
+    ) -> Result<(), NoMemory>
+        requires key { key ≡ keys.key_of operation.now.id }
+        requires idle { self.old.under_way ≡ None }
+        requires line { 1 ≤ line }
+        requires fresh { IsFresh (history self.old.journal) line }
+        requires published { IsSome (last_state self.old.journal) }
+        requires in_lane { IsIn self.old.lane (key_of operation.now.id) }
+        requires own { IsOwn operation.now.id operation.now.kind }
+        requires plain { IsPlainGet operation.now }
+        ensures ok { OnOk result (BeginsAtOwner line operation.now self.old self.new) }
+        ensures err { OnErr result (self.new ≡ self.old) }
+    {
+        self.work
+            .begin_at_owner(line, key, operation, self.owner.as_ref())
     }
 
     /// Prepares the operation that was begun, and then sends one message with each call and deals with it. At

@@ -16,12 +16,14 @@ use lane_journals::laws::states_are_published;
 use lane_keeping::laws::{asks_are_kept, lanes_begin, states_are_kept};
 use late_messages::LateList;
 use messages::{Message, NotedBody};
+use node_sets::NodeSet;
 use service_layer::NodePart;
 use std::alloc::Global;
 use value_lists::NoMemory;
 
 /// A lane's journal, and what it says: the state that was published last, the number of the last message,
-/// the nodes and the distributors' parts. A node or a part is made when it is first needed.
+/// the nodes and the distributors' parts, and which nodes are stopped. A node or a part is made when it is first
+/// needed.
 #[derive(Drop)]
 pub struct LaneState {
     pub lane: Bucket,
@@ -30,6 +32,7 @@ pub struct LaneState {
     pub newest: Option<ClusterState>,
     pub last: u64,
     pub nodes: Vec<NodePart>,
+    pub stopped: NodeSet,
     pub parts: Vec<DistributorPart>,
     /// The messages that are to be delivered late.
     pub late: LateList,
@@ -73,6 +76,7 @@ impl LaneState {
             newest: None,
             last: 0,
             nodes: Vec::new(alloc),
+            stopped: NodeSet::none(),
             parts: Vec::new(alloc),
             late: LateList::new(alloc),
             spare: 0,
@@ -102,6 +106,8 @@ impl LaneState {
         ensures keeps { IsKept self.new }
         ensures grows { journal_of self.new ≡ event.Published state.now ∷ journal_of self.old }
         ensures after { self.new ≡ record self.old { journal = self.new.journal; newest = Some state.now } }
+        ensures len { vec_len self.new.journal ≡ vec_len self.old.journal + 1 }
+        ensures capacity { vec_capacity self.old.journal ≤ vec_capacity self.new.journal }
     {
         states_are_published();
         states_are_kept();

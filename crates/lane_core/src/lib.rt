@@ -2,11 +2,12 @@
 //!
 //! A `LaneState` has a journal, the state that was published last, the number of its last message, its nodes
 //! and its distributors' parts. `IsKept` in `specs/LaneStates.antt` says that they are what the journal says
-//! (`lane_keeping`), that late messages are on their way, that the numbers of messages find room, and that the
-//! lane's bucket is one. A node or a part that isn't there yet counts as a new one.
+//! (`lane_keeping`), that late messages are on their way, that the numbers of messages find room, which nodes are
+//! stopped, and that the lane's bucket is one. A node or a part that isn't there yet counts as a new one.
 //!
-//! Each call says by which events the journal grows. A distributor hears the newest state (`parts`). A message
-//! is delivered, or kept and delivered when it falls due (`carriage`). An owner opens its state: it asks node
+//! Each call says by which events the journal grows. A distributor hears the newest state (`parts`). Nodes stop and
+//! start (`stopping`); a message to a stopped node is not delivered. A message is delivered, or kept and delivered
+//! when it falls due (`carriage`). An owner opens its state: it asks node
 //! after node, deals with each Ask by the fate that the carrier gives, and is told what came back (`opening`);
 //! so is each message of a round (`rounds`) and of an operation that is prepared (`steps`).
 //!
@@ -24,6 +25,7 @@
 #![tactic(auto)]
 
 pub mod answers;
+pub mod beginning;
 pub mod begun;
 pub mod carriage;
 pub mod filled_rows;
@@ -42,6 +44,7 @@ pub mod shortfall;
 pub mod shown;
 pub mod states;
 pub mod steps;
+pub mod stopping;
 pub mod work;
 pub mod written;
 

@@ -5,11 +5,12 @@ ghost use Rattle.messages.specs.declared.noted.NotedReply.TheVariants as noted;
 ghost use Rattle.carriers.specs.declared.fate.Fate.TheVariants as fate;
 ghost use Rattle.late_messages.specs.Waiting.{AreSentBefore};
 ghost use Rattle.lane_carriage.specs.Carriage.{IsDealt};
+ghost use Rattle.lane_carriage.specs.Readers.{IsPrompt};
 ghost use Rattle.lane_carriage.specs.Waits.{kept_by};
 ghost use Rattle.distributor_part.specs.Steps.{IsAfterAnswer};
 ghost use Rattle.node_journals.specs.Flights.{IsInFlight};
 ghost use Rattle.lane_keeping.specs.Asking.{IsJustSent, OthersStay};
-ghost use Rattle.lane_core.specs.LaneStates.{journal_of, IsKept, HasRoom, part_of, Asks, IsCarriedBy, IsResting, Stays, Went};
+ghost use Rattle.lane_core.specs.LaneStates.{journal_of, IsKept, HasRoom, Receives, part_of, Asks, IsCarriedBy, IsResting, Stays, Went};
 ghost use Rattle.lane_core.specs.Growing.{IsToldBy, HasHeard, is_short, IsSettled};
 ghost use Rattle.lane_core.specs.Openings.{IsOpening, IsNext, AsksOn, StopsAsking, EndsAsking, StopsAfter, GivesUp, EndsOpening, StopsOpening};
 ghost use Rattle.bucket_ids.specs.Buckets.{Low, IsIn};
@@ -119,6 +120,7 @@ impl LaneState {
     fn bring_back(&mut self, distributor: u8, number: u64, message: &Message) -> bool
         requires keeps { IsKept self.old }
         requires just { IsJustSent (journal_of self.old) number message.now }
+        requires receives { Receives self.old message.now.receiver }
         requires asks { Asks self.old distributor message.now }
         requires awaited { (part_of self.old distributor).awaited ≡ Some message.now.receiver }
         requires node { message.now.receiver < vec_len self.old.nodes }
@@ -171,6 +173,7 @@ impl LaneState {
     fn deal_ask(&mut self, distributor: u8, fate: Fate, message: Message) -> bool
         requires keeps { IsKept self.old }
         requires just { IsJustSent (journal_of self.old) self.old.last message }
+        requires receives { IsPrompt fate → Receives self.old message.receiver }
         requires before { AreSentBefore self.old.last self.old.late.late }
         requires asks { Asks self.old distributor message }
         requires awaited { (part_of self.old distributor).awaited ≡ Some message.receiver }
@@ -204,13 +207,13 @@ impl LaneState {
                 false
             }
             Fate::LoseReply => {
-                self.deliver(number, &message);
+                self.deliver(number, None, &message);
                 self.bring_none(distributor, message.receiver);
                 false
             }
             Fate::Twice => {
                 let short = self.bring_back(distributor, number, &message);
-                self.deliver(number, &message);
+                self.deliver(number, None, &message);
                 short
             }
             Fate::Late(later) => {
@@ -222,7 +225,7 @@ impl LaneState {
     }
 
     /// Sends the Ask of a distributor, and deals with it by its fate; the late messages that are due then are
-    /// delivered. The only error is want of memory, and then the journal is the same.
+    /// given out. The only error is want of memory, and then the journal is the same.
     pub fn ask<C: Carrier>(
         &mut self,
         distributor: u8,
@@ -259,7 +262,8 @@ impl LaneState {
         self.room_for_message(message.receiver)?;
         self.send(distributor, &message);
         let fate = carrier.fate(self.last);
-        let short = self.deal_ask(distributor, fate, message);
+        let met = self.met(message.receiver, fate);
+        let short = self.deal_ask(distributor, met, message);
         self.deliver_due();
         Ok(short)
     }

@@ -7,6 +7,7 @@ ghost use Rattle.lane_journals.specs.Places.{state_in};
 ghost use Rattle.lane_journals.specs.declared.event.LaneEvent.TheVariants as event;
 ghost use Rattle.lane_keeping.specs.LaneKeeping.{setting_of};
 ghost use Rattle.lane_keeping.specs.Laws.{IsQuietEvent};
+ghost use Rattle.lane_core.specs.Growing.{IsNoStop};
 ghost use Rattle.lane_core.specs.LaneStates.{journal_of, IsKept, part_of, AreResting};
 ghost use Rattle.lane_core.specs.Closing.{MayAcknowledge, MayEndWith};
 
@@ -20,10 +21,11 @@ use node_sets::NodeSet;
 use stamps::Stamp;
 
 impl LaneState {
-    /// Notes an event that leaves nodes and parts as they are.
+    /// Notes an event that leaves nodes and parts as they are, and by which no node stops or starts.
     pub fn note(&mut self, event: LaneEvent)
         requires keeps { IsKept self.old }
         requires quiet { IsQuietEvent event }
+        requires no_stop { IsNoStop event }
         requires legal { IsLegalStep (setting_of self.old.lane self.old.rules) (journal_of self.old) event }
         requires room { vec_len self.old.journal + 1 ≤ vec_capacity self.old.journal }
         ensures keeps { IsKept self.new }
@@ -73,6 +75,7 @@ impl LaneState {
         ensures keeps { IsKept self.new }
         ensures grows { journal_of self.new ≡ event.Closed line (outcome.Acked stamp) ∷ journal_of self.old }
         ensures after { self.new ≡ record self.old { journal = self.new.journal; parts = self.new.parts } }
+        ensures parts { vec_len self.new.parts ≡ vec_len self.old.parts }
         ensures resting { AreResting self.old → AreResting self.new }
         ensures len { vec_len self.new.journal ≡ vec_len self.old.journal + 1 }
         ensures capacity { vec_capacity self.old.journal ≤ vec_capacity self.new.journal }
@@ -104,6 +107,7 @@ impl LaneState {
         ensures keeps { IsKept self.new }
         ensures grows { journal_of self.new ≡ event.Closed line outcome ∷ journal_of self.old }
         ensures after { self.new ≡ record self.old { journal = self.new.journal; parts = self.new.parts } }
+        ensures parts { vec_len self.new.parts ≡ vec_len self.old.parts }
         ensures resting { AreResting self.old → AreResting self.new }
         ensures len { vec_len self.new.journal ≡ vec_len self.old.journal + 1 }
         ensures capacity { vec_capacity self.old.journal ≤ vec_capacity self.new.journal }

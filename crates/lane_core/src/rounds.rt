@@ -15,6 +15,7 @@ ghost use Rattle.distributor_part.specs.Steps as steps;
 ghost use Rattle.merge_rounds.specs.Rounds.{HaveAllShown, IsOver};
 ghost use Rattle.late_messages.specs.Waiting.{AreSentBefore};
 ghost use Rattle.lane_carriage.specs.Carriage.{IsDealt};
+ghost use Rattle.lane_carriage.specs.Readers.{IsPrompt};
 ghost use Rattle.lane_carriage.specs.Waits.{kept_by};
 ghost use Rattle.lane_journals.specs.Facts.{Idle};
 ghost use Rattle.lane_journals.specs.Meanings.{history, entry_at};
@@ -25,7 +26,7 @@ ghost use Rattle.lane_keeping.specs.LaneKeeping.{setting_of};
 ghost use Rattle.lane_keeping.specs.Asking.{IsJustSent, OthersStay};
 ghost use Rattle.lane_rounds.specs.RoundKeeping.{IsAwaited};
 ghost use Rattle.lane_wants.specs.Wants.{IsRun, IsCutRun};
-ghost use Rattle.lane_core.specs.LaneStates.{journal_of, IsKept, HasRoom, part_of, IsCarriedBy};
+ghost use Rattle.lane_core.specs.LaneStates.{journal_of, IsKept, HasRoom, Receives, part_of, IsCarriedBy};
 ghost use Rattle.lane_core.specs.RoundRuns.{IsAfterReply, IsRoundToldBy, is_refusal, NoneRuns, IsRunning, IsToSend, IsCutOff, GoesOn, IsRunToldBy, left, IsRunBy, MayBegin, IsNewRun, EndsEnough, Begins, RunsOn, EndsWith, IsStageOver, IsToldOver, EndsJob, EndsRun, are_missing, is_short, IsEnd, IsBegunFor, OfWaited, IsWholeRun, IsCutShort};
 
 use crate::lane_state::{LaneState, push_within};
@@ -265,6 +266,7 @@ impl LaneState {
         requires keeps { IsKept self.old }
         requires runs { IsRunning self.old.lane (journal_of self.old) run.old }
         requires awaited { IsAwaited (journal_of self.old) run.old.round number message.now }
+        requires receives { Receives self.old message.now.receiver }
         requires small { message.now.receiver < 32 }
         requires node { message.now.receiver < vec_len self.old.nodes }
         requires room { vec_len self.old.journal + 2 ≤ vec_capacity self.old.journal }
@@ -311,6 +313,7 @@ impl LaneState {
         requires keeps { IsKept self.old }
         requires runs { IsRunning self.old.lane (journal_of self.old) run.now }
         requires flight { IsInFlight (journal_of self.old) number message.now }
+        requires receives { Receives self.old message.now.receiver }
         requires there { message.now.receiver < vec_len self.old.nodes }
         requires room { vec_len self.old.journal + 1 ≤ vec_capacity self.old.journal }
         ensures keeps { IsKept self.new }
@@ -323,7 +326,7 @@ impl LaneState {
         ensures capacity { vec_capacity self.old.journal ≤ vec_capacity self.new.journal }
     {
         messages_fly();
-        self.deliver(number, message);
+        self.deliver(number, None, message);
     }
 
     /// Deals with a round's message that was just sent, by its fate; the round is told the reply, or that none
@@ -332,6 +335,7 @@ impl LaneState {
         requires keeps { IsKept self.old }
         requires runs { IsRunning self.old.lane (journal_of self.old) run.old }
         requires awaited { IsAwaited (journal_of self.old) run.old.round self.old.last message }
+        requires receives { IsPrompt fate → Receives self.old message.receiver }
         requires before { AreSentBefore self.old.last self.old.late.late }
         requires small { message.receiver < 32 }
         requires node { message.receiver < vec_len self.old.nodes }
@@ -411,7 +415,8 @@ impl LaneState {
         rounds_send();
         self.send_message(&message, body);
         let fate = carrier.fate(self.last);
-        self.deal_round(run, fate, message);
+        let met = self.met(message.receiver, fate);
+        self.deal_round(run, met, message);
         self.deliver_due();
     }
 

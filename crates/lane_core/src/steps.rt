@@ -1,23 +1,26 @@
 ghost use Rattle.std.specs.Prelude.{◌≡◌, ◌≤◌, ◌<◌, ◌+◌, ◌∷◌, ℕ, true, false, None, OnOk, OnErr, IfOk, length, vec_len, vec_capacity};
 ghost use Rattle.carriers.specs.declared.fate.Fate.TheVariants as fate;
+ghost use Rattle.global_ids.specs.Keys.{key_of};
 ghost use Rattle.messages.specs.Noting.{noted_body};
+ghost use Rattle.service_layer.specs.Takes.{IsKeyOf};
 ghost use Rattle.op_machine.specs.Outcomes.{Asks, message_in};
 ghost use Rattle.op_machine.specs.Standings.{next_at};
 ghost use Rattle.late_messages.specs.Waiting.{AreSentBefore};
 ghost use Rattle.lane_journals.specs.KeptJournals.{IsLegalStep};
 ghost use Rattle.lane_journals.specs.declared.event.LaneEvent.TheVariants as event;
 ghost use Rattle.lane_carriage.specs.Carriage.{IsDealt};
+ghost use Rattle.lane_carriage.specs.Readers.{IsPrompt};
 ghost use Rattle.lane_carriage.specs.Waits.{kept_by};
 ghost use Rattle.node_journals.specs.Flights.{IsInFlight};
 ghost use Rattle.lane_keeping.specs.LaneKeeping.{setting_of};
 ghost use Rattle.lane_keeping.specs.Asking.{IsJustSent};
-ghost use Rattle.lane_core.specs.LaneStates.{journal_of, IsKept, HasRoom, IsCarriedBy};
-ghost use Rattle.lane_core.specs.Steps.{HearsIn, IsToWrite, IsToSend, IsReady, WritesOn, SendsIn, SentIn, IsPreparedIn, StandsOn, GoesIn, RunsIn, IsTold, TellsOne, StandsIn, IsQuiet, IsPhaseOf, ComesTo, IsToStep, AdvancesBy};
+ghost use Rattle.lane_core.specs.LaneStates.{journal_of, IsKept, HasRoom, Receives, IsCarriedBy};
+ghost use Rattle.lane_core.specs.Steps.{HearsIn, IsToWrite, IsToSend, IsReady, WritesOn, SendsIn, SentIn, IsPreparedIn, StandsOn, GoesIn, RunsIn, IsTold, TellsOne, StandsIn, IsQuiet, HasEnded, IsPhaseOf, OfPrepared, IsAtMessages, ComesTo, IsToStep, AdvancesBy};
 ghost use Rattle.lane_core.specs.Works.{StaysCarried, IsWork};
 ghost use Rattle.lane_core.specs.Written.{place_of, FindsEntries, AddsNoEntry};
 
 use crate::answers::Advance;
-use crate::job::{Job, Phase};
+use crate::job::Phase;
 use crate::lane_state::{LaneState, push_within};
 use crate::work::{Work, put_job};
 use crate::written::keep_place;
@@ -38,39 +41,46 @@ use std::alloc::Global;
 use std::collections::BTreeMap;
 use value_lists::{NoMemory, TryCopy};
 
-/// The phase that a call comes to, and what it answers.
-struct Stepped {
-    phase: Phase,
-    answer: Advance,
-}
-
-/// How an operation stands after a message, or where none was left: over where its machine has an outcome.
-fn phase_of(alloc: Global, row: Bucket, written: bool, machine: OpMachine) -> Stepped
-    ensures { IsPhaseOf row written machine result.phase result.answer }
+/// The phase in which an operation is over, if its machine has an outcome. The only error is want of memory.
+fn ended(alloc: Global, machine: &OpMachine) -> Result<Option<Phase>, NoMemory>
+    ensures { IfOk result (HasEnded machine.now) }
 {
     let Some(outcome) = machine.outcome() else {
-        return Stepped {
-            phase: Phase::Prepared {
-                machine,
-                row,
-                written,
-            },
-            answer: Advance::More,
-        };
+        return Ok(None);
     };
-    match (outcome.copy(alloc), outcome.copy(alloc)) {
-        (Ok(outcome), Ok(told)) => Stepped {
-            phase: Phase::Over {
-                outcome,
-                told,
-                answered: machine.stored(),
-            },
-            answer: Advance::Done,
-        },
-        _ => Stepped {
-            phase: Phase::Short,
-            answer: Advance::NoMemory,
-        },
+    Ok(Some(Phase::Over {
+        outcome: outcome.copy(alloc)?,
+        told: outcome.copy(alloc)?,
+        answered: machine.stored(),
+    }))
+}
+
+/// Puts a phase into its place.
+fn put_phase(place: &mut Phase, phase: Phase)
+    ensures { place.new ≡ phase }
+{
+    *place = phase;
+}
+
+/// Brings the phase of an operation that is prepared to what follows from what its machine was told: it is over
+/// where the machine has an outcome.
+fn bring_on(alloc: Global, phase: &mut Phase) -> Advance
+    requires { IsAtMessages phase.old }
+    ensures { OfPrepared (λ row written machine. IsPhaseOf row written machine phase.new result) phase.old }
+{
+    let Phase::Prepared { machine, .. } = phase else {
+        unreachable!();
+    };
+    match ended(alloc, machine) {
+        Ok(None) => Advance::More,
+        Ok(Some(over)) => {
+            put_phase(phase, over);
+            Advance::Done
+        }
+        Err(NoMemory) => {
+            put_phase(phase, Phase::Short);
+            Advance::NoMemory
+        }
     }
 }
 
@@ -146,16 +156,19 @@ impl LaneState {
         }
     }
 
-    /// Delivers the message of an operation, notes that its reply is returned, and tells the machine. The only
-    /// error is want of memory, and then the machine isn't told.
+    /// Delivers the message of an operation, the key of whose document is known, notes that its reply is returned,
+    /// and tells the machine. The only error is want of memory, and then the machine isn't told.
     fn bring_back_operation(
         &mut self,
         machine: &mut OpMachine,
         number: u64,
+        key: u64,
         message: &Message,
     ) -> Result<(), NoMemory>
         requires keeps { IsKept self.old }
         requires just { IsJustSent (journal_of self.old) number message.now }
+        requires receives { Receives self.old message.now.receiver }
+        requires key { IsKeyOf message.now.body key }
         requires next { next_at machine.old ≡ Asks message.now }
         requires node { message.now.receiver < vec_len self.old.nodes }
         requires room { vec_len self.old.journal + 2 ≤ vec_capacity self.old.journal }
@@ -172,7 +185,7 @@ impl LaneState {
         events_are_kept();
         messages_fly();
         operations_hear();
-        let reply = self.deliver(number, message);
+        let reply = self.deliver(number, Some(key), message);
         push_within(&mut self.journal, LaneEvent::Returned { number });
         machine.answer(self.alloc, message.receiver, Some(&reply))
     }
@@ -200,10 +213,13 @@ impl LaneState {
         &mut self,
         machine: &mut OpMachine,
         fate: Fate,
+        key: u64,
         message: Message,
     ) -> Result<(), NoMemory>
         requires keeps { IsKept self.old }
         requires just { IsJustSent (journal_of self.old) self.old.last message }
+        requires receives { IsPrompt fate → Receives self.old message.receiver }
+        requires key { IsKeyOf message.body key }
         requires before { AreSentBefore self.old.last self.old.late.late }
         requires next { next_at machine.old ≡ Asks message }
         requires node { message.receiver < vec_len self.old.nodes }
@@ -226,15 +242,15 @@ impl LaneState {
     {
         let number = self.last;
         match fate {
-            Fate::Deliver => self.bring_back_operation(machine, number, &message),
+            Fate::Deliver => self.bring_back_operation(machine, number, key, &message),
             Fate::LoseRequest => self.bring_none_operation(machine, &message),
             Fate::LoseReply => {
-                self.deliver(number, &message);
+                self.deliver(number, Some(key), &message);
                 self.bring_none_operation(machine, &message)
             }
             Fate::Twice => {
-                let told = self.bring_back_operation(machine, number, &message);
-                self.deliver(number, &message);
+                let told = self.bring_back_operation(machine, number, key, &message);
+                self.deliver(number, Some(key), &message);
                 told
             }
             Fate::Late(later) => {
@@ -250,12 +266,14 @@ impl LaneState {
     fn send_operation<C: Carrier>(
         &mut self,
         machine: &mut OpMachine,
+        key: u64,
         message: Message,
         carrier: &mut C,
         body: NotedBody,
     ) -> Result<(), NoMemory>
         requires keeps { IsKept self.old }
         requires carried { IsCarriedBy self.old (C.given carrier.old) }
+        requires key { IsKeyOf message.body key }
         requires sends { IsToSend self.old message }
         requires next { next_at machine.old ≡ Asks message }
         requires noted { body ≡ noted_body message.body }
@@ -283,17 +301,19 @@ impl LaneState {
         operations_send();
         self.send_message(&message, body);
         let fate = carrier.fate(self.last);
-        let told = self.deal_operation(machine, fate, message);
+        let met = self.met(message.receiver, fate);
+        let told = self.deal_operation(machine, met, key, message);
         self.deliver_due();
         told
     }
 
     /// Sends the next message of an operation that is prepared, if one is left, and deals with it; the entry of
-    /// a Store is written before. Answers whether one was left. The only error is want of memory, and then nothing
-    /// more is known of the operation than that it is under way.
+    /// a Store is written before. The key of its document is known. Answers whether one was left. The only error is
+    /// want of memory, and then nothing more is known of the operation than that it is under way.
     pub fn send_next<C: Carrier>(
         &mut self,
         line: u32,
+        key: u64,
         written: &mut bool,
         machine: &mut OpMachine,
         places: &mut BTreeMap<Stamp, usize>,
@@ -303,6 +323,7 @@ impl LaneState {
         requires spare { HasRoom 0 self.old }
         requires carried { IsCarriedBy self.old (C.given carrier.old) }
         requires stands { IsPreparedIn self.old line written.old machine.old }
+        requires key { key ≡ key_of machine.old.plan.operation.id }
         requires finds { FindsEntries (place_of places.old) self.old.journal.items }
         ensures keeps { IsKept self.new }
         ensures spare { HasRoom 0 self.new }
@@ -331,24 +352,25 @@ impl LaneState {
         let ready = self.write_wanted(places, line, *written, &message)?;
         *written = ready;
         self.room_for_message(message.receiver)?;
-        self.send_operation(machine, message, carrier, body)?;
+        self.send_operation(machine, key, message, carrier, body)?;
         Ok(true)
     }
 
-    /// Sends the next message of an operation that is prepared, if one is left, and says what it comes to.
+    /// Sends the next message of an operation that is prepared, if one is left, and brings its phase to what
+    /// follows.
     fn step_phase<C: Carrier>(
         &mut self,
         line: u32,
-        row: Bucket,
-        written: bool,
-        machine: OpMachine,
+        key: u64,
+        phase: &mut Phase,
         places: &mut BTreeMap<Stamp, usize>,
         carrier: &mut C,
-    ) -> Stepped
+    ) -> Advance
         requires keeps { IsKept self.old }
         requires spare { HasRoom 0 self.old }
         requires carried { IsCarriedBy self.old (C.given carrier.old) }
-        requires stands { StandsIn self.old line row written machine }
+        requires stands { OfPrepared (StandsIn self.old line) phase.old }
+        requires key { OfPrepared (λ row written machine. key ≡ key_of machine.plan.operation.id) phase.old }
         requires finds { FindsEntries (place_of places.old) self.old.journal.items }
         ensures keeps { IsKept self.new }
         ensures spare { HasRoom 0 self.new }
@@ -357,9 +379,9 @@ impl LaneState {
         ensures planned { C.planned carrier.new ≡ C.planned carrier.old }
         ensures kind { C.takes_plans carrier.new ≡ C.takes_plans carrier.old }
         ensures quiet { IsQuiet (journal_of self.old) (journal_of self.new) }
-        ensures run { RunsIn self.old self.new line machine }
-        ensures going { GoesIn self.new line machine.plan }
-        ensures comes { ComesTo self.new line row machine result.phase result.answer }
+        ensures run { OfPrepared (λ row written machine. RunsIn self.old self.new line machine) phase.old }
+        ensures going { OfPrepared (λ row written machine. GoesIn self.new line machine.plan) phase.old }
+        ensures comes { OfPrepared (λ row written machine. ComesTo self.new line row machine phase.new result) phase.old }
         ensures after { self.new ≡ record self.old {
           journal = self.new.journal;
           last = self.new.last;
@@ -368,14 +390,20 @@ impl LaneState {
         } }
     {
         operations_shorten();
-        let mut written = written;
-        let mut machine = machine;
-        match self.send_next(line, &mut written, &mut machine, places, carrier) {
-            Ok(_) => phase_of(self.alloc, row, written, machine),
-            Err(NoMemory) => Stepped {
-                phase: Phase::Short,
-                answer: Advance::NoMemory,
-            },
+        let Phase::Prepared {
+            machine,
+            written,
+            ..
+        } = phase
+        else {
+            unreachable!();
+        };
+        match self.send_next(line, key, written, machine, places, carrier) {
+            Ok(_) => bring_on(self.alloc, phase),
+            Err(NoMemory) => {
+                put_phase(phase, Phase::Short);
+                Advance::NoMemory
+            }
         }
     }
 }
@@ -396,38 +424,19 @@ impl Work {
         let Some(job) = self.job.take() else {
             unreachable!();
         };
-        let Job {
-            line,
-            operation,
-            key,
-            distributor,
-            stamp,
-            left,
-            phase,
-        } = job;
-        let Phase::Prepared {
-            machine,
-            row,
-            written,
-        } = phase
-        else {
+        let Phase::Prepared { .. } = &job.phase else {
             unreachable!();
         };
-        let Stepped { phase, answer } = self
-            .state
-            .step_phase(line, row, written, machine, &mut self.places, carrier);
-        put_job(
-            &mut self.job,
-            Job {
-                line,
-                operation,
-                key,
-                distributor,
-                stamp,
-                left: left - 1,
-                phase,
-            },
+        let mut job = job;
+        job.left -= 1;
+        let answer = self.state.step_phase(
+            job.line,
+            job.key,
+            &mut job.phase,
+            &mut self.places,
+            carrier,
         );
+        put_job(&mut self.job, job);
         answer
     }
 }

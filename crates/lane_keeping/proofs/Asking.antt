@@ -205,7 +205,6 @@ module _ (lane : Low) (rules : Rules) where
       legal = keep.legal;
       newest_is = keep.newest_is;
       numbered = keep.numbered;
-      running = keep.running;
       nodes_are = keep.nodes_are;
       parts_are = λ e. elim (cases_eq e d) [
         | inl is ↦ subst (λ (z : ℕ). PartKeeps lane rules J z (part_in lane rules after z)) (sym is) here
@@ -238,7 +237,6 @@ module _ (lane : Low) (rules : Rules) where
     legal = tt;
     newest_is = λ v. refl;
     numbered = λ k m h. absurd (none k m h);
-    running = λ n. refl;
     nodes_are = begins;
     parts_are = λ d. record { number_is = refl; lane_is = refl; rules_are = refl; heard = refl };
   }

@@ -110,32 +110,33 @@ module _ (lane : Low) (rules : Rules) (J : List LaneEvent) (newest : Option Clus
 
   module _ (waits : (J : List LaneEvent) (e : LaneEvent) (n : ℕ) (x : Node) → IsNoDelivery e → NodeKeeps J n x → NodeKeeps (e ∷ J) n x) where
     next : (e : LaneEvent) → IsLegalStep S J e → IsNoDelivery e → IsNewest (λ v. state_in v (e ∷ J)) (λ v. published v (history (e ∷ J))) newest → AreNumbered (λ k. sent k (history (e ∷ J))) last
-        → ((n : ℕ) → stopped n (history (e ∷ J)) ≡ false) → PartsKeep lane rules (e ∷ J) parts → Keeps lane rules (e ∷ J) newest last nodes parts
-    next e step none newest_is numbered running parts_are = record {
+        → PartsKeep lane rules (e ∷ J) parts → Keeps lane rules (e ∷ J) newest last nodes parts
+    next e step none newest_is numbered parts_are = record {
       legal = (keep.legal, step);
       newest_is = newest_is;
       numbered = numbered;
-      running = running;
       nodes_are = λ n. waits J e n (node_in nodes n) none (keep.nodes_are n);
       parts_are = parts_are;
     }
 
     by_outcome : (line : ℕ) (o : Outcome) → is_acked o ≡ false → IsLegalStep S J (event.Closed line o) → Keeps lane rules (event.Closed line o ∷ J) newest last nodes parts
     by_outcome line (Acked t) q step = cc
-    by_outcome line o q step = next (event.Closed line o) step tt keep.newest_is keep.numbered keep.running keep.parts_are
+    by_outcome line o q step = next (event.Closed line o) step tt keep.newest_is keep.numbered keep.parts_are
 
     by_decision : (d v : ℕ) (x : Decision) → IsQuietEvent (event.Decided d v x) → IsLegalStep S J (event.Decided d v x) → Keeps lane rules (event.Decided d v x ∷ J) newest last nodes parts
-    by_decision d v (choice.RoundBegun b set) q step = next (event.Decided d v (choice.RoundBegun b set)) step tt keep.newest_is keep.numbered keep.running keep.parts_are
+    by_decision d v (choice.RoundBegun b set) q step = next (event.Decided d v (choice.RoundBegun b set)) step tt keep.newest_is keep.numbered keep.parts_are
     by_decision d v x q step = absurd q
 
     -- an event that leaves nodes and parts as they are
     pub keeps-quiet : (e : LaneEvent) → IsQuietEvent e → IsLegalStep S J e → Keeps lane rules (e ∷ J) newest last nodes parts
-    keeps-quiet (event.Begun l d v id s) q step = next (event.Begun l d v id s) step tt keep.newest_is keep.numbered keep.running keep.parts_are
-    keeps-quiet (event.Refused l d o) q step = next (event.Refused l d o) step tt keep.newest_is keep.numbered keep.running keep.parts_are
-    keeps-quiet (event.Prepared l b set) q step = next (event.Prepared l b set) step tt keep.newest_is keep.numbered keep.running keep.parts_are
-    keeps-quiet (event.Wrote l entry) q step = next (event.Wrote l entry) step tt keep.newest_is keep.numbered keep.running keep.parts_are
+    keeps-quiet (event.Begun l d v id s) q step = next (event.Begun l d v id s) step tt keep.newest_is keep.numbered keep.parts_are
+    keeps-quiet (event.Refused l d o) q step = next (event.Refused l d o) step tt keep.newest_is keep.numbered keep.parts_are
+    keeps-quiet (event.Prepared l b set) q step = next (event.Prepared l b set) step tt keep.newest_is keep.numbered keep.parts_are
+    keeps-quiet (event.Wrote l entry) q step = next (event.Wrote l entry) step tt keep.newest_is keep.numbered keep.parts_are
     keeps-quiet (event.Closed l o) q step = by_outcome l o q step
     keeps-quiet (event.Decided d v x) q step = by_decision d v x q step
+    keeps-quiet (event.Stopped n) q step = next (event.Stopped n) step tt keep.newest_is keep.numbered keep.parts_are
+    keeps-quiet (event.Started n) q step = next (event.Started n) step tt keep.newest_is keep.numbered keep.parts_are
     keeps-quiet e q step = absurd q
 
   -- a message is sent
@@ -157,13 +158,13 @@ module _ (lane : Low) (rules : Rules) (J : List LaneEvent) (newest : Option Clus
   -- a message is delivered
   pub keeps-taken : (permitted : OfTaken (λ S J number m y r. IsLegalStep S J (delivered number r))) (replays : OfTaken (λ S J number m y r. NodeKeeps (delivered number r ∷ J) m.receiver y))
       (apart : (J : List LaneEvent) (number : ℕ) (r : _) (m : Message) (n : ℕ) (x : Node) → IsInFlight J number m → m.receiver ≢ n → NodeKeeps J n x → NodeKeeps (event.Delivered number r ∷ J) n x)
-      (number : ℕ) (m : Message) (r : Reply) (now : List Node) → IsInFlight J number m → IsTakenBy nodes now m r → Keeps lane rules (delivered number r ∷ J) newest last now parts
-  keeps-taken permitted replays apart number m r now flight taken = keeps-delivered lane rules J newest last nodes now parts number m.receiver r (node_in now m.receiver) keep
+      (number : ℕ) (m : Message) (r : Reply) (now : List Node) → IsInFlight J number m → stopped m.receiver (history J) ≡ false → IsTakenBy nodes now m r → Keeps lane rules (delivered number r ∷ J) newest last now parts
+  keeps-taken permitted replays apart number m r now flight runs taken = keeps-delivered lane rules J newest last nodes now parts number m.receiver r (node_in now m.receiver) keep
       (permitted S J number m (node_in nodes m.receiver) (node_in now m.receiver) r is-taken) (replays S J number m (node_in nodes m.receiver) (node_in now m.receiver) r is-taken)
       (λ n x ne h. apart J number (noted_reply r) m n x flight ne h) refl taken.others
     where
       is-taken : IsTaken S J number m (node_in nodes m.receiver) (node_in now m.receiver) r
-      is-taken = record { legal = keep.legal; flight = flight; runs = keep.running m.receiver; keeps = keep.nodes_are m.receiver; takes = taken.takes }
+      is-taken = record { legal = keep.legal; flight = flight; runs = runs; keeps = keep.nodes_are m.receiver; takes = taken.takes }
 
   -- a reply that says nothing of an opening is returned
   pub returned-next : (number : ℕ) (m : Message) → IsInFlight J number m → IsNoAsk m.body → IsSome (first_reply number (history J)) → returned number (history J) ≡ false → IsKeptNext lane rules J newest last nodes parts (event.Returned number)
@@ -173,7 +174,6 @@ module _ (lane : Low) (rules : Rules) (J : List LaneEvent) (newest : Option Clus
       legal = (keep.legal, step);
       newest_is = keep.newest_is;
       numbered = keep.numbered;
-      running = keep.running;
       nodes_are = keep.nodes_are;
       parts_are = λ d. subst (λ (f : ℕ → ℕ → Option Given). IsPartOf lane rules d (held d (history J)) (λ v. state_in v J) f (λ v. opened v (history J)) (λ v key. row_with key (rows v (history J))) (part_in lane rules parts d))
           (λ i v n. sym (asked-same (history J) number flight.sending flight.was_sent (ap is_ask flight.body_is ∙ no_ask m.body other) v n) i) (keep.parts_are d);

@@ -177,7 +177,6 @@ module _ (lane : Low) (rules : Rules) (J : List LaneEvent) (newest : Option Clus
       legal = (keep.legal, step);
       newest_is = keep.newest_is;
       numbered = keep.numbered;
-      running = keep.running;
       nodes_are = keep.nodes_are;
       parts_are = λ e. let w = plain-with x.rows x.opened x.at x.marks (Ended x.missing) x.after e in record {
         number_is = w.0;
@@ -249,7 +248,6 @@ module _ (lane : Low) (rules : Rules) (J : List LaneEvent) (newest : Option Clus
       legal = (keep.legal, step);
       newest_is = keep.newest_is;
       numbered = keep.numbered;
-      running = keep.running;
       nodes_are = keep.nodes_are;
       parts_are = λ e. let w = plain-with x.rows x.opened x.at x.marks p.stage x.after e in record {
         number_is = w.0;

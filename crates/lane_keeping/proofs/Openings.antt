@@ -243,7 +243,6 @@ module _ (lane : Low) (rules : Rules) where
     legal = (keep.legal, record { noted = tt; permitted = record { once = once; reply = y; replied = replied }; placed = tt; ended = tt });
     newest_is = keep.newest_is;
     numbered = keep.numbered;
-    running = keep.running;
     nodes_are = keep.nodes_are;
     parts_are = λ e. elim (cases_eq e d) [
       | inl is ↦ subst (λ (z : ℕ). PartKeeps lane rules (event.Returned k ∷ J) z (part_in lane rules now z)) (sym is) (subst (λ (z : Part). PartKeeps lane rules (event.Returned k ∷ J) d z) (sym own) part)
@@ -356,7 +355,6 @@ module _ (lane : Low) (rules : Rules) where
       legal = (keep.legal, may-open);
       newest_is = keep.newest_is;
       numbered = keep.numbered;
-      running = keep.running;
       nodes_are = keep.nodes_are;
       parts_are = λ e. elim (cases_eq e d) [
         | inl is ↦ subst (λ (z : ℕ). PartKeeps lane rules (event.Opened d s.version bs ∷ J) z (part_in lane rules now z)) (sym is) (subst (λ (z : Part). PartKeeps lane rules (event.Opened d s.version bs ∷ J) d z) (sym own) opener)

@@ -57,7 +57,6 @@ module _ (lane : Low) (rules : Rules) where
     legal = (k.legal, step);
     newest_is = (ap (λ (o : Option ClusterState). or_else o (only_if (eqb s.version s.version) s)) (unpublished J s step (state_in s.version J) refl) ∙ ap (λ (t : Bool). only_if t s) (eq-eqb s.version s.version refl), greatest);
     numbered = k.numbered;
-    running = k.running;
     nodes_are = k.nodes_are;
     parts_are = λ d. let p = k.parts_are d in record {
       number_is = p.number_is;
@@ -122,7 +121,6 @@ module _ (lane : Low) (rules : Rules) where
     );
     newest_is = k.newest_is;
     numbered = k.numbered;
-    running = k.running;
     nodes_are = k.nodes_are;
     parts_are = λ e. elim (cases_eq e d) [
       | inl is ↦ subst (λ (x : ℕ). PartKeeps lane rules (event.Heard d s.version ∷ J) x (part_in lane rules now x)) (sym is) (subst (λ (x : Part). PartKeeps lane rules (event.Heard d s.version ∷ J) d x) (sym own) hearer)
@@ -177,7 +175,6 @@ module _ (lane : Low) (rules : Rules) where
     legal = (k.legal, step);
     newest_is = k.newest_is;
     numbered = λ j x h. numbered j x h;
-    running = k.running;
     nodes_are = k.nodes_are;
     parts_are = k.parts_are;
   }
@@ -199,7 +196,6 @@ module _ (lane : Low) (rules : Rules) where
     legal = (k.legal, step);
     newest_is = k.newest_is;
     numbered = k.numbered;
-    running = k.running;
     nodes_are = λ m. elim (cases_eq m n) [
       | inl is ↦ subst (λ (x : ℕ). NodeKeeps (delivered number r ∷ J) x (node_in now x)) (sym is) (subst (λ (x : Node). NodeKeeps (delivered number r ∷ J) n x) (sym own) taken)
       | inr off ↦ subst (λ (x : Node). NodeKeeps (delivered number r ∷ J) m x) (sym (other m off)) (stay m (node_in nodes m) (λ same. off (sym same)) (k.nodes_are m))

@@ -14,7 +14,7 @@ use Rattle.distributor_part.specs.Parts.{Part, new_part, rows_of}
 use Rattle.service_layer.specs.Nodes.{Node, new_node}
 use Rattle.lane_journals.specs.Buckets.{contains}
 use Rattle.lane_journals.specs.Readers as readers
-use Rattle.lane_journals.specs.Readers.{Message, Given, Beginning, sent, published, stopped, held, asked, opened}
+use Rattle.lane_journals.specs.Readers.{Message, Given, Beginning, sent, published, held, asked, opened}
 use Rattle.lane_journals.specs.Legal.{Parted}
 use Rattle.lane_journals.specs.RowLists as listed
 use Rattle.lane_journals.specs.RowLists.{row_with, rows}
@@ -131,6 +131,5 @@ pub record Keeps (lane : Low) (rules : Rules) (J : List LaneEvent) (newest : Opt
   pub legal : IsLegal (setting_of lane rules) J
   pub newest_is : IsNewest (λ v. state_in v J) (λ v. published v (history J)) newest
   pub numbered : AreNumbered (λ k. sent k (history J)) last
-  pub running : (n : ℕ) → stopped n (history J) ≡ false
   pub nodes_are : NodesKeep J nodes
   pub parts_are : PartsKeep lane rules J parts

@@ -12,7 +12,7 @@ use Rattle.distributor_part.specs.Parts.{Part}
 use Rattle.lane_journals.specs.Meanings.{is_acked}
 use Rattle.lane_journals.specs.KeptJournals.{IsLegalStep}
 use Rattle.lane_journals.specs.declared.event.LaneEvent.{LaneEvent}
-use Rattle.lane_journals.specs.declared.event.LaneEvent.TheVariants.{Begun, Refused, Prepared, Wrote, Closed, Decided}
+use Rattle.lane_journals.specs.declared.event.LaneEvent.TheVariants.{Begun, Refused, Prepared, Wrote, Closed, Decided, Stopped, Started}
 use Rattle.node_journals.specs.Replaying.{sending}
 use Rattle.lane_keeping.specs.LaneKeeping.{setting_of, Keeps}
 use Rattle.lane_keeping.specs.Asking.{IsJustSent}
@@ -32,6 +32,9 @@ IsQuietEvent (Wrote line entry) = Unit {0}
 -- an acknowledgement takes marks
 IsQuietEvent (Closed line outcome) = is_acked outcome ≡ false
 IsQuietEvent (Decided d v (RoundBegun bucket receivers)) = Unit {0}
+-- a node that is stopped or started keeps what it has
+IsQuietEvent (Stopped n) = Unit {0}
+IsQuietEvent (Started n) = Unit {0}
 IsQuietEvent _ = ⊥
 
 -- any message but an Ask: its reply says nothing of an opening

@@ -21,7 +21,7 @@ ghost use Rattle.distributor_part.specs.Parts.{Part, new_part};
 ghost use Rattle.distributor_part.specs.Steps.{IsAfterAnswer, Opens, IsRowOf, EndsRound, IsClosed};
 ghost use Rattle.lane_journals.specs.Stamps.{Stamp};
 ghost use Rattle.lane_journals.specs.Buckets.{Id, key_of, contains};
-ghost use Rattle.lane_journals.specs.Readers.{held, began, closed, asked, opened, first_reply, returned, complete, answered_store};
+ghost use Rattle.lane_journals.specs.Readers.{held, stopped, began, closed, asked, opened, first_reply, returned, complete, answered_store};
 ghost use Rattle.lane_journals.specs.RowLists.{row_with, rows};
 ghost use Rattle.lane_journals.specs.Facts.{AnsweredAsk};
 ghost use Rattle.lane_journals.specs.States.{state_of};
@@ -91,9 +91,10 @@ pub fn owners_act()
         → contains row.bucket key ≡ true }
 {}
 
-/// A lane keeps its journal, with the same parts, over each event that leaves nodes and parts as they are; when
-/// any message is sent with the next number; when one that is on its way is taken by its node with whatever
-/// reply; and when the first reply to one that is no Ask is returned.
+/// A lane keeps its journal, with the same parts, over each event that leaves nodes and parts as they are, as
+/// when a node is stopped or started; when any message is sent with the next number; when one that is on its
+/// way is taken by its node, which isn't stopped, with whatever reply; and when the first reply to one that is
+/// no Ask is returned.
 pub fn events_are_kept()
     ensures quiet { OfKept (λ lane rules J newest last nodes parts. (e : LaneEvent)
         → IsQuietEvent e → IsLegalStep (setting_of lane rules) J e
@@ -103,14 +104,16 @@ pub fn events_are_kept()
         → Brings (λ s. entry_at s J) m.body → IsWhole m.body
         → IsSentNext lane rules J newest last nodes parts m) }
     ensures taken { OfKept (λ lane rules J newest last nodes parts. (number : ℕ) (m : Message) (r : Reply)
-        (now : List Node) → IsInFlight J number m → IsTakenBy nodes now m r
+        (now : List Node) → IsInFlight J number m → stopped m.receiver (history J) ≡ false
+        → IsTakenBy nodes now m r
         → Keeps lane rules (delivered number r ∷ J) newest last now parts) }
     ensures returned { OfKept (λ lane rules J newest last nodes parts. (number : ℕ) (m : Message)
         → IsInFlight J number m → IsNoAsk m.body
         → IsSome (first_reply number (history J)) → returned number (history J) ≡ false
         → IsKeptNext lane rules J newest last nodes parts (Returned number)) }
     ensures answered { OfKept (λ lane rules J newest last nodes parts. (number : ℕ) (m : Message) (r : Reply)
-        (now : List Node) → IsJustSent J number m → IsNoAsk m.body → IsTakenBy nodes now m r
+        (now : List Node) → IsJustSent J number m → stopped m.receiver (history J) ≡ false
+        → IsNoAsk m.body → IsTakenBy nodes now m r
         → Keeps lane rules (Returned number ∷ delivered number r ∷ J) newest last now parts) }
 {
     messages_fly();
@@ -119,13 +122,14 @@ pub fn events_are_kept()
 }
 
 /// A lane keeps its journal when the Ask of an owner is sent with the next number, and when its first reply is
-/// returned and told.
+/// returned and told, where the node that it asks isn't stopped.
 pub fn asks_are_kept()
     ensures sent { OfKept (λ lane rules J newest last nodes parts. (d : ℕ) (m : Message)
         → IsAsking lane d (part_in lane rules parts d) m
         → IsSentNext lane rules J newest last nodes parts m) }
     ensures returned { OfKept (λ lane rules J newest last nodes parts. (number : ℕ) (m : Message) (r : Reply)
-        (now : List Node) (d : ℕ) (after : List Part) → IsJustSent J number m → IsTakenBy nodes now m r
+        (now : List Node) (d : ℕ) (after : List Part) → IsJustSent J number m → stopped m.receiver (history J) ≡ false
+        → IsTakenBy nodes now m r
         → IsAsking lane d (part_in lane rules parts d) m → IsToldTo lane rules parts after d m.receiver r
         → Keeps lane rules (Returned number ∷ delivered number r ∷ J) newest last now after) }
 {

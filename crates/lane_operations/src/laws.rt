@@ -23,7 +23,7 @@ ghost use Rattle.op_machine.specs.Outcomes.{answers_of, Asks, Finishes};
 ghost use Rattle.op_machine.specs.Plans.{IsPlan, plan_of};
 ghost use Rattle.op_machine.specs.Standings.{due_entry, next_at, IsAnswered, IsBegun};
 ghost use Rattle.lane_journals.specs.Buckets.{Id, contains, key_of};
-ghost use Rattle.lane_journals.specs.Readers.{stamps_of, row_at, running, answered_store};
+ghost use Rattle.lane_journals.specs.Readers.{stopped, stamps_of, row_at, running, answered_store};
 ghost use Rattle.lane_journals.specs.Legal.{IsNextStamp};
 ghost use Rattle.lane_journals.specs.Endings.{RoundFellShort, UnionFellShort};
 ghost use Rattle.lane_journals.specs.Meanings.{history};
@@ -110,11 +110,12 @@ pub fn operations_send()
     messages_fly();
 }
 
-/// Once the answer came back and is told, the journal shows what the machine was told; and so it does once the
-/// machine was told that none came.
+/// Once the answer of a node that isn't stopped came back and is told, the journal shows what the machine was told;
+/// and so it does once the machine was told that none came.
 pub fn operations_hear()
     ensures told { OfAsked (λ lane rules J nodes d s line row written t number m. (now : List Node) (y : Reply) (after : Standing)
-        → IsJustSent J number m → IsTakenBy nodes now m y → IsAnswered m.receiver (Some y) t after
+        → IsJustSent J number m → stopped m.receiver (history J) ≡ false → IsTakenBy nodes now m y
+        → IsAnswered m.receiver (Some y) t after
         → KnowsOperation lane rules (Returned number ∷ delivered number y ∷ J) d s line row written after) }
     ensures silent { OfAsked (λ lane rules J nodes d s line row written t number m. (after : Standing)
         → IsAnswered m.receiver None t after → KnowsOperation lane rules J d s line row written after) }

@@ -23,7 +23,7 @@ use Rattle.distributor_part.specs.declared.rules.Rules.{Rules}
 use Rattle.distributor_part.specs.Parts.{Part}
 use Rattle.merge_rounds.specs.Rounds.{RoundState, did_show, is_answer, shown_by, after_read, IsAfterApply}
 use Rattle.lane_journals.specs.Events as plain
-use Rattle.lane_journals.specs.Readers.{Journal, Message, Given, or_else, only_if, sent, first_reply, returned, given_by, answer, answer_of, is_read, round_of, running}
+use Rattle.lane_journals.specs.Readers.{Journal, Message, Given, or_else, only_if, sent, first_reply, returned, stopped, given_by, answer, answer_of, is_read, round_of, running}
 use Rattle.lane_journals.specs.Facts.{AnsweredApply}
 use Rattle.lane_journals.specs.Legal.{Legal}
 use Rattle.lane_journals.specs.States.{state_of}
@@ -131,7 +131,7 @@ unapplied lane J d s r after n w h = subst (λ (x : RoundState). KnowsRound lane
 -- ---- the reply
 
 module _ (lane : Low) (rules : Rules) (J : List LaneEvent) (newest : Option ClusterState) (last : ℕ) (nodes : List Node) (parts : List Part) (keep : Keeps lane rules J newest last nodes parts)
-    (d : ℕ) (s : ClusterState) (r : RoundState) (know : KnowsRound lane J d s r) (number : ℕ) (m : Letter) (y : Reply) (now : List Node) (wait : IsAwaited J r number m) (taken : IsTakenBy nodes now m y) where
+    (d : ℕ) (s : ClusterState) (r : RoundState) (know : KnowsRound lane J d s r) (number : ℕ) (m : Letter) (y : Reply) (now : List Node) (wait : IsAwaited J r number m) (runs : stopped m.receiver (history J) ≡ false) (taken : IsTakenBy nodes now m y) where
   abbrev S : Setting
   S = setting_of lane rules
 
@@ -178,7 +178,7 @@ module _ (lane : Low) (rules : Rules) (J : List LaneEvent) (newest : Option Clus
   first = ap (λ (o : Option plain.Reply). or_else o (only_if (eqb number number) z)) (wait.just).unreplied ∙ ap (λ (t : Bool). only_if t z) (eq-eqb number number refl)
 
   is-taken : IsTaken S J number m (node_in nodes m.receiver) (node_in now m.receiver) y
-  is-taken = record { legal = keep.legal; flight = (wait.just).flight; runs = keep.running m.receiver; keeps = keep.nodes_are m.receiver; takes = taken.takes }
+  is-taken = record { legal = keep.legal; flight = (wait.just).flight; runs = runs; keeps = keep.nodes_are m.receiver; takes = taken.takes }
 
   brought : BringsBack (λ t. entry_at t J) m.body y
   brought = taken-back S J number m (node_in nodes m.receiver) (node_in now m.receiver) y is-taken

@@ -12,7 +12,7 @@ ghost use Rattle.messages.specs.declared.decision.Decision.TheVariants.{RoundBeg
 ghost use Rattle.service_layer.specs.Nodes.{Node};
 ghost use Rattle.merge_rounds.specs.Rounds.{RoundState, new_round, did_show, IsNext, after_send, after_read, IsAfterApply};
 ghost use Rattle.lane_journals.specs.Sets.{count};
-ghost use Rattle.lane_journals.specs.Readers.{opened};
+ghost use Rattle.lane_journals.specs.Readers.{opened, stopped};
 ghost use Rattle.lane_journals.specs.Endings.{RoundFellShort, UnionFellShort};
 ghost use Rattle.lane_journals.specs.Meanings.{history, entry_at};
 ghost use Rattle.lane_journals.specs.KeptJournals.{IsLegalStep};
@@ -68,13 +68,16 @@ pub fn rounds_wait()
         → KnowsAnswers (Delivered number y ∷ J) s r) }
 {}
 
-/// The message that is waited for is taken by its node, and the reply is returned and told; or none is.
+/// The message that is waited for is taken by its node, which isn't stopped, and the reply is returned and told;
+/// or none is.
 pub fn rounds_hear()
     ensures read { OfRound (λ lane rules J last nodes d s r. (number : ℕ) (m : Message) (y : Reply)
-        (now : List Node) → IsAwaited J r number m → IsTakenBy nodes now m y → r.applies ≡ 0
+        (now : List Node) → IsAwaited J r number m → stopped m.receiver (history J) ≡ false → IsTakenBy nodes now m y
+        → r.applies ≡ 0
         → KnowsRound lane (Returned number ∷ delivered number y ∷ J) d s (after_read r m.receiver (Some y))) }
     ensures applied { OfRound (λ lane rules J last nodes d s r. (number : ℕ) (m : Message) (y : Reply)
-        (now : List Node) (after : RoundState) → IsAwaited J r number m → IsTakenBy nodes now m y
+        (now : List Node) (after : RoundState) → IsAwaited J r number m → stopped m.receiver (history J) ≡ false
+        → IsTakenBy nodes now m y
         → 0 < r.applies → IsAfterApply r after m.receiver (Some y)
         → KnowsRound lane (Returned number ∷ delivered number y ∷ J) d s after) }
     ensures unread { OfRound (λ lane rules J last nodes d s r. (n : ℕ)

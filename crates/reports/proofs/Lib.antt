@@ -1,2 +1,6 @@
 pub mod NoFloats
 pub mod Texts
+pub mod OneObject
+pub mod Rising
+pub mod Parts
+pub mod Different

@@ -51,4 +51,41 @@ pub enum Answer {
     },
     /// The line has more bytes than a line may have.
     TooLong,
+    /// The state of this version is published.
+    Published {
+        version: u32,
+    },
+    /// The text is no state; it is one up to this place.
+    BadState {
+        offset: u32,
+    },
+    /// The state isn't newer than the last one, of this version.
+    NotNewer {
+        have: u32,
+    },
+    /// The state has no distributor that is up.
+    NoDistributor,
+    /// The state has so few storage nodes up where a write needs so many.
+    TooFewUp {
+        up: u8,
+        acks: u8,
+    },
+    /// Under the state so many nodes would be out that a write of so many acknowledgements may be on them
+    /// alone.
+    TooManyOut {
+        out: u8,
+        acks: u8,
+    },
+    /// The node is stopped.
+    Stopped {
+        node: u8,
+    },
+    /// The node runs.
+    Started {
+        node: u8,
+    },
+    /// The fates are planned, or the carrier takes no plans.
+    Planned {
+        taken: bool,
+    },
 }

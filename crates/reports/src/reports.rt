@@ -3,7 +3,7 @@ ghost use Rattle.std.specs.String.{string_bytes};
 ghost use Rattle.json.specs.Token.{begin_object, key, string, number, boolean};
 ghost use Rattle.serde_json.specs.Written.{compact_text};
 ghost use Rattle.stamps.specs.Printed.{printed};
-ghost use Rattle.reports.specs.ReportText.{fields_of, acked_text, found_text, missing_text, condition_failed_text, nothing_text, field_fault_text, size_fault_text, result_text, bad_update_text, too_few_text, owned_elsewhere_text, cause_text, bad_line_text, report_text, usage_text, line_text};
+ghost use Rattle.reports.specs.ReportText.{fields_of, acked_members, found_members, missing_members, condition_failed_members, nothing_members, field_fault_members, size_fault_members, result_members, bad_update_members, too_few_members, owned_elsewhere_members, cause_text, published_members, not_newer_members, too_few_up_members, too_many_out_members, count_members, planned_members, bad_line_members, report_text, usage_text, line_text};
 ghost use Rattle.reports.specs.Writing.{Puts, result_tokens, seen_tokens, IsWhole, IsBehindFields, fields_front};
 
 use crate::answer::Answer;
@@ -91,9 +91,9 @@ fn ended(out: Writer) -> Result<Vec<u8>, NoMemory>
 }
 
 /// `{"line":1,"result":"acked","stamp":"1:1"}`.
-#[tactic(auto, unfolding(crate::specs::ReportText::acked_text))]
+#[tactic(auto, unfolding(crate::specs::ReportText::acked_members))]
 fn acked_report(alloc: Global, line: u32, stamp: Stamp) -> Result<Vec<u8>, NoMemory>
-    ensures { IfOk result (λ bytes. bytes.items ≡ acked_text line stamp) }
+    ensures { IfOk result (λ bytes. bytes.items ≡ line_text (acked_members line stamp)) }
 {
     let mut out = begun(alloc)?;
     put_result(&mut out, line, "acked")?;
@@ -122,7 +122,7 @@ fn begun_with(alloc: Global, fields: &str) -> Result<Writer, NoMemory>
 }
 
 /// `{"fields":{..},"id":"..","line":2,"result":"found","stamp":"1:1"}`.
-#[tactic(auto, unfolding(crate::specs::ReportText::found_text))]
+#[tactic(auto, unfolding(crate::specs::ReportText::found_members))]
 fn found_report(
     alloc: Global,
     line: u32,
@@ -130,7 +130,7 @@ fn found_report(
     document: &Document,
     stamp: Stamp,
 ) -> Result<Vec<u8>, NoMemory>
-    ensures { IfOk result (λ bytes. bytes.items ≡ found_text line id.now document.now stamp) }
+    ensures { IfOk result (λ bytes. bytes.items ≡ line_text (found_members line id.now document.now stamp)) }
 {
     let fields = fields_text(alloc, document)?;
     let mut out = begun_with(alloc, fields.as_str())?;
@@ -141,9 +141,9 @@ fn found_report(
 }
 
 /// `{"line":3,"result":"missing","seen":"1:2"}`, with null where nothing was seen.
-#[tactic(auto, unfolding(crate::specs::ReportText::missing_text))]
+#[tactic(auto, unfolding(crate::specs::ReportText::missing_members))]
 fn missing_report(alloc: Global, line: u32, seen: Option<Stamp>) -> Result<Vec<u8>, NoMemory>
-    ensures { IfOk result (λ bytes. bytes.items ≡ missing_text line seen) }
+    ensures { IfOk result (λ bytes. bytes.items ≡ line_text (missing_members line seen)) }
 {
     let mut out = begun(alloc)?;
     put_result(&mut out, line, "missing")?;
@@ -152,13 +152,13 @@ fn missing_report(alloc: Global, line: u32, seen: Option<Stamp>) -> Result<Vec<u
 }
 
 /// `{"line":3,"result":"conditionfailed","seen":"1:2"}`, with null where nothing was seen.
-#[tactic(auto, unfolding(crate::specs::ReportText::condition_failed_text))]
+#[tactic(auto, unfolding(crate::specs::ReportText::condition_failed_members))]
 fn condition_failed_report(
     alloc: Global,
     line: u32,
     seen: Option<Stamp>,
 ) -> Result<Vec<u8>, NoMemory>
-    ensures { IfOk result (λ bytes. bytes.items ≡ condition_failed_text line seen) }
+    ensures { IfOk result (λ bytes. bytes.items ≡ line_text (condition_failed_members line seen)) }
 {
     let mut out = begun(alloc)?;
     put_result(&mut out, line, "conditionfailed")?;
@@ -167,9 +167,9 @@ fn condition_failed_report(
 }
 
 /// `{"found":false,"line":4,"result":"acked"}`.
-#[tactic(auto, unfolding(crate::specs::ReportText::nothing_text))]
+#[tactic(auto, unfolding(crate::specs::ReportText::nothing_members))]
 fn nothing_report(alloc: Global, line: u32) -> Result<Vec<u8>, NoMemory>
-    ensures { IfOk result (λ bytes. bytes.items ≡ nothing_text line) }
+    ensures { IfOk result (λ bytes. bytes.items ≡ line_text (nothing_members line)) }
 {
     let mut out = begun(alloc)?;
     out.key("found")?;
@@ -179,14 +179,14 @@ fn nothing_report(alloc: Global, line: u32) -> Result<Vec<u8>, NoMemory>
 }
 
 /// `{"fault":"overflow","field":"year","line":2,"result":"badupdate"}`.
-#[tactic(auto, unfolding(crate::specs::ReportText::field_fault_text))]
+#[tactic(auto, unfolding(crate::specs::ReportText::field_fault_members))]
 fn field_fault_report(
     alloc: Global,
     line: u32,
     word: &str,
     field: &str,
 ) -> Result<Vec<u8>, NoMemory>
-    ensures { IfOk result (λ bytes. bytes.items ≡ field_fault_text line word.now field.now) }
+    ensures { IfOk result (λ bytes. bytes.items ≡ line_text (field_fault_members line word.now field.now)) }
 {
     let mut out = begun(alloc)?;
     put_text(&mut out, "fault", word)?;
@@ -196,9 +196,9 @@ fn field_fault_report(
 }
 
 /// `{"fault":"toolarge","line":2,"result":"badupdate","size":65537}`.
-#[tactic(auto, unfolding(crate::specs::ReportText::size_fault_text))]
+#[tactic(auto, unfolding(crate::specs::ReportText::size_fault_members))]
 fn size_fault_report(alloc: Global, line: u32, size: u64) -> Result<Vec<u8>, NoMemory>
-    ensures { IfOk result (λ bytes. bytes.items ≡ size_fault_text line size) }
+    ensures { IfOk result (λ bytes. bytes.items ≡ line_text (size_fault_members line size)) }
 {
     let mut out = begun(alloc)?;
     put_text(&mut out, "fault", "toolarge")?;
@@ -208,9 +208,9 @@ fn size_fault_report(alloc: Global, line: u32, size: u64) -> Result<Vec<u8>, NoM
 }
 
 /// A report of a line's number and a result alone.
-#[tactic(auto, unfolding(crate::specs::ReportText::result_text))]
+#[tactic(auto, unfolding(crate::specs::ReportText::result_members))]
 fn result_report(alloc: Global, line: u32, word: &str) -> Result<Vec<u8>, NoMemory>
-    ensures { IfOk result (λ bytes. bytes.items ≡ result_text line word.now) }
+    ensures { IfOk result (λ bytes. bytes.items ≡ line_text (result_members line word.now)) }
 {
     let mut out = begun(alloc)?;
     put_result(&mut out, line, word)?;
@@ -218,7 +218,7 @@ fn result_report(alloc: Global, line: u32, word: &str) -> Result<Vec<u8>, NoMemo
 }
 
 fn bad_update_report(alloc: Global, line: u32, fault: &UpdateFault) -> Result<Vec<u8>, NoMemory>
-    ensures { IfOk result (λ bytes. bytes.items ≡ bad_update_text line fault.now) }
+    ensures { IfOk result (λ bytes. bytes.items ≡ line_text (bad_update_members line fault.now)) }
 {
     match fault {
         UpdateFault::ZeroDivisor { field } => {
@@ -234,7 +234,7 @@ fn bad_update_report(alloc: Global, line: u32, fault: &UpdateFault) -> Result<Ve
 }
 
 /// `{"absent":1,"answered":1,"line":4,"needed":2,"result":"toofew"}`.
-#[tactic(auto, unfolding(crate::specs::ReportText::too_few_text))]
+#[tactic(auto, unfolding(crate::specs::ReportText::too_few_members))]
 fn too_few_report(
     alloc: Global,
     line: u32,
@@ -242,7 +242,7 @@ fn too_few_report(
     needed: u8,
     absent: u8,
 ) -> Result<Vec<u8>, NoMemory>
-    ensures { IfOk result (λ bytes. bytes.items ≡ too_few_text line answered needed absent) }
+    ensures { IfOk result (λ bytes. bytes.items ≡ line_text (too_few_members line answered needed absent)) }
 {
     let mut out = begun(alloc)?;
     put_count(&mut out, "absent", u64::from(absent))?;
@@ -254,14 +254,14 @@ fn too_few_report(
 }
 
 /// `{"line":1,"owner":0,"result":"notowner","version":1}`.
-#[tactic(auto, unfolding(crate::specs::ReportText::owned_elsewhere_text))]
+#[tactic(auto, unfolding(crate::specs::ReportText::owned_elsewhere_members))]
 fn owned_elsewhere_report(
     alloc: Global,
     line: u32,
     owner: u8,
     version: u32,
 ) -> Result<Vec<u8>, NoMemory>
-    ensures { IfOk result (λ bytes. bytes.items ≡ owned_elsewhere_text line owner version) }
+    ensures { IfOk result (λ bytes. bytes.items ≡ line_text (owned_elsewhere_members line owner version)) }
 {
     let mut out = begun(alloc)?;
     put_count(&mut out, "line", u64::from(line))?;
@@ -289,13 +289,91 @@ fn cause_text(cause: Cause) -> &'static str
 }
 
 /// `{"cause":"unbuilt","line":5,"result":"badline"}`.
-#[tactic(auto, unfolding(crate::specs::ReportText::bad_line_text))]
+#[tactic(auto, unfolding(crate::specs::ReportText::bad_line_members))]
 fn bad_line_report(alloc: Global, line: u32, cause: Cause) -> Result<Vec<u8>, NoMemory>
-    ensures { IfOk result (λ bytes. bytes.items ≡ bad_line_text line cause) }
+    ensures { IfOk result (λ bytes. bytes.items ≡ line_text (bad_line_members line cause)) }
 {
     let mut out = begun(alloc)?;
     put_text(&mut out, "cause", cause_text(cause))?;
     put_result(&mut out, line, "badline")?;
+    ended(out)
+}
+
+/// `{"line":5,"result":"published","version":2}`.
+#[tactic(auto, unfolding(crate::specs::ReportText::published_members))]
+fn published_report(alloc: Global, line: u32, version: u32) -> Result<Vec<u8>, NoMemory>
+    ensures { IfOk result (λ bytes. bytes.items ≡ line_text (published_members line version)) }
+{
+    let mut out = begun(alloc)?;
+    put_result(&mut out, line, "published")?;
+    put_count(&mut out, "version", u64::from(version))?;
+    ended(out)
+}
+
+/// `{"have":1,"line":1,"result":"notnewer"}`.
+#[tactic(auto, unfolding(crate::specs::ReportText::not_newer_members))]
+fn not_newer_report(alloc: Global, line: u32, have: u32) -> Result<Vec<u8>, NoMemory>
+    ensures { IfOk result (λ bytes. bytes.items ≡ line_text (not_newer_members line have)) }
+{
+    let mut out = begun(alloc)?;
+    put_count(&mut out, "have", u64::from(have))?;
+    put_result(&mut out, line, "notnewer")?;
+    ended(out)
+}
+
+/// `{"acks":2,"line":4,"result":"toofewup","up":1}`.
+#[tactic(auto, unfolding(crate::specs::ReportText::too_few_up_members))]
+fn too_few_up_report(alloc: Global, line: u32, up: u8, acks: u8) -> Result<Vec<u8>, NoMemory>
+    ensures { IfOk result (λ bytes. bytes.items ≡ line_text (too_few_up_members line up acks)) }
+{
+    let mut out = begun(alloc)?;
+    put_count(&mut out, "acks", u64::from(acks))?;
+    put_result(&mut out, line, "toofewup")?;
+    put_count(&mut out, "up", u64::from(up))?;
+    ended(out)
+}
+
+/// `{"acks":2,"line":3,"out":2,"result":"toomanyout"}`.
+#[tactic(auto, unfolding(crate::specs::ReportText::too_many_out_members))]
+fn too_many_out_report(alloc: Global, line: u32, out: u8, acks: u8) -> Result<Vec<u8>, NoMemory>
+    ensures { IfOk result (λ bytes. bytes.items ≡ line_text (too_many_out_members line out acks)) }
+{
+    let mut writer = begun(alloc)?;
+    put_count(&mut writer, "acks", u64::from(acks))?;
+    put_count(&mut writer, "line", u64::from(line))?;
+    put_count(&mut writer, "out", u64::from(out))?;
+    put_text(&mut writer, "result", "toomanyout")?;
+    ended(writer)
+}
+
+/// A report with one count, whose name stands between the line's number and the result, as
+/// `{"line":1,"node":1,"result":"stopped"}`.
+#[tactic(auto, unfolding(crate::specs::ReportText::count_members))]
+fn count_report(
+    alloc: Global,
+    line: u32,
+    name: &str,
+    count: u64,
+    word: &str,
+) -> Result<Vec<u8>, NoMemory>
+    ensures { IfOk result (λ bytes. bytes.items ≡ line_text (count_members line name.now count word.now)) }
+{
+    let mut out = begun(alloc)?;
+    put_count(&mut out, "line", u64::from(line))?;
+    put_count(&mut out, name, count)?;
+    put_text(&mut out, "result", word)?;
+    ended(out)
+}
+
+/// `{"line":3,"result":"planned","taken":true}`.
+#[tactic(auto, unfolding(crate::specs::ReportText::planned_members))]
+fn planned_report(alloc: Global, line: u32, taken: bool) -> Result<Vec<u8>, NoMemory>
+    ensures { IfOk result (λ bytes. bytes.items ≡ line_text (planned_members line taken)) }
+{
+    let mut out = begun(alloc)?;
+    put_result(&mut out, line, "planned")?;
+    out.key("taken")?;
+    out.boolean(taken)?;
     ended(out)
 }
 
@@ -325,6 +403,17 @@ pub fn report(alloc: Global, line: u32, answer: &Answer) -> Result<Vec<u8>, NoMe
         Answer::NoMemory => result_report(alloc, line, "nomemory"),
         Answer::BadLine { cause } => bad_line_report(alloc, line, *cause),
         Answer::TooLong => result_report(alloc, line, "toolong"),
+        Answer::Published { version } => published_report(alloc, line, *version),
+        Answer::BadState { offset } => {
+            count_report(alloc, line, "offset", u64::from(*offset), "badstate")
+        }
+        Answer::NotNewer { have } => not_newer_report(alloc, line, *have),
+        Answer::NoDistributor => result_report(alloc, line, "nodistributor"),
+        Answer::TooFewUp { up, acks } => too_few_up_report(alloc, line, *up, *acks),
+        Answer::TooManyOut { out, acks } => too_many_out_report(alloc, line, *out, *acks),
+        Answer::Stopped { node } => count_report(alloc, line, "node", u64::from(*node), "stopped"),
+        Answer::Started { node } => count_report(alloc, line, "node", u64::from(*node), "started"),
+        Answer::Planned { taken } => planned_report(alloc, line, *taken),
     }
 }
 

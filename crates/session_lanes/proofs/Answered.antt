@@ -5,7 +5,7 @@ use Rattle.messages.specs.declared.outcome.Outcome.{Outcome}
 use Rattle.messages.specs.declared.outcome.Outcome.TheVariants.{Found}
 use Rattle.stamps.specs.declared.stamp.Stamp.{Stamp}
 use Rattle.lane_journals.specs.Meanings.{entry_at}
-use Rattle.lane_journals.specs.Places.{Setting}
+use Rattle.lane_journals.specs.Places.{Setting, IsElsewhere}
 use Rattle.lane_journals.specs.Endings.{Ended, MayEnd}
 use Rattle.lane_journals.specs.KeptJournals.{IsLegal, IsLegalStep}
 use Rattle.lane_journals.specs.declared.event.LaneEvent.{LaneEvent}
@@ -34,10 +34,13 @@ found_written S (e ∷ J) legal j t h = by_event e legal.1 (λ old. found_writte
       | inl before ↦ old before
       | inr now ↦ by_close l o step.ended ((only_if-some (l == j) o (Found t) now.1).1)
     ])
+    by_event (event.Refused l d o) step old h = here (event.Refused l d o) (elim (or_else-cases (outcome_in j J) _ (Found t) h) [
+      | inl before ↦ old before
+      | inr now ↦ absurd (subst (IsElsewhere S J d) ((only_if-some (l == j) o (Found t) now.1).1) step.placed)
+    ])
     by_event (event.Published s) step old h = here (event.Published s) (old h)
     by_event (event.Heard d v) step old h = here (event.Heard d v) (old h)
     by_event (event.Begun l d v id s) step old h = here (event.Begun l d v id s) (old h)
-    by_event (event.Refused l d x) step old h = here (event.Refused l d x) (old h)
     by_event (event.Opened d v rows) step old h = here (event.Opened d v rows) (old h)
     by_event (event.Prepared l b set) step old h = here (event.Prepared l b set) (old h)
     by_event (event.Wrote l entry) step old h = here (event.Wrote l entry) (old h)

@@ -7,7 +7,9 @@ use Rattle.carriers.specs.declared.fate.Fate.{Fate}
 use Rattle.carriers.specs.declared.fate.Fate.TheVariants.{Deliver, LoseRequest, LoseReply, Twice, Late}
 use Rattle.lane_journals.specs.declared.event.LaneEvent.{LaneEvent}
 use Rattle.lane_journals.specs.declared.event.LaneEvent.TheVariants.{Sent, Delivered, Returned}
-use Rattle.lane_carriage.specs.Carriage.{IsDealt, AreDelivered, due, IsOther, IsCarried, Nothing, Other, Message}
+use Rattle.lane_journals.specs.Readers.{stopped}
+use Rattle.lane_journals.specs.Meanings.{history}
+use Rattle.lane_carriage.specs.Carriage.{met, IsDealt, is_cut_off, IsGivenOut, AreDelivered, due, IsOther, IsCarried, Nothing, Other, Message}
 use Rattle.lane_carriage.specs.Readers.{fate_from}
 
 -- so many of the fates are those of the messages before
@@ -29,11 +31,15 @@ past_one x e A (m ∷ M) R not other h = (M, same_tail h)
     same_tail : x ∷ A ≡ m ∷ (M ++ e ∷ R) → A ≡ M ++ e ∷ R
     same_tail h = cc
 
+past_given : (cut : Bool) (n : ℕ) (A L M R : List LaneEvent) (e : LaneEvent) → IsOther e → IsGivenOut cut n A L → L ≡ M ++ e ∷ R → (N : List LaneEvent) × (A ≡ N ++ e ∷ R)
+past_given true n A L M R e other d h = (M, sym d ∙ h)
+past_given false n A L M R e other d h = past_one (Delivered n d.0) e A M R (λ z. z) other (sym d.1 ∙ h)
+
 past_late : (ns : List ℕ) (A K M R : List LaneEvent) (e : LaneEvent) → IsOther e → AreDelivered ns A K → K ≡ M ++ e ∷ R → (N : List LaneEvent) × (A ≡ N ++ e ∷ R)
 past_late [] A K M R e other d h = (M, sym d ∙ h)
 past_late (n ∷ ns) A K M R e other d h =
-    let t = past_late ns (Delivered n d.0 ∷ A) K M R e other d.1 h in
-    past_one (Delivered n d.0) e A t.0 R (λ z. z) other t.1
+    let t = past_late ns d.0 K M R e other d.1.1 h in
+    past_given (is_cut_off n A) n A d.0 t.0 R e other d.1.0 t.1
 
 past_own : (f : Fate) (n : ℕ) (A K M R : List LaneEvent) (e : LaneEvent) → IsOther e → IsDealt f n A K → K ≡ M ++ e ∷ R → (N : List LaneEvent) × (A ≡ N ++ e ∷ R)
 past_own Deliver n A K M R e other d h =
@@ -73,7 +79,7 @@ carried_then given K (Other g J x o c) (m ∷ M) e R other h = carried_then g J 
     same_tail h = cc
 carried_then given K (Message g J f L m c) M e R other h =
     let late = past_late (due (g ++ f ∷ []) (length g + 1)) m.after L M R e other m.late h in
-    let own = past_own f (length g + 1) (Sent (length g + 1) m.version m.sender m.receiver m.body ∷ J) m.after late.0 R e other m.dealt late.1 in
+    let own = past_own (met (stopped m.receiver (history J)) f) (length g + 1) (Sent (length g + 1) m.version m.sender m.receiver m.body ∷ J) m.after late.0 R e other m.dealt late.1 in
     let before = past_one (Sent (length g + 1) m.version m.sender m.receiver m.body) e J own.0 R (λ z. z) other own.1 in
     longer g f R (carried_then g J c before.0 e R other before.1)
 
@@ -84,6 +90,10 @@ then_trans given K R t u = record {
   carried = u.carried;
   are = t.are ∙ ap (λ g. g ++ t.rest) u.are ∙ append_assoc u.first u.rest t.rest;
 }
+
+-- before one more such event
+pub other_before : (given : List Fate) (e : LaneEvent) (J : List LaneEvent) → IsOther e → IsCarriedThen given (e ∷ J) → IsCarriedThen given J
+other_before given e J other t = then_trans given (e ∷ J) J t (carried_then t.first (e ∷ J) t.carried [] e J other refl)
 
 -- a message has its fate among the first ones already
 fate_first : (i k : ℕ) (g rest : List Fate) → IsSome (fate_from i k g) → fate_from i k (g ++ rest) ≡ fate_from i k g

@@ -1,55 +1,63 @@
 -- The first events of a lane.
-use Rattle.std.proofs.Common.{◌≡◌, ◌≤◌, ℕ, zero, suc, ◌+◌, List, [], ◌∷◌, None, Some, refl, ap, ◌∙◌, arith, if◌then◌else◌, Option}
+use Rattle.std.proofs.Common.{◌≡◌, ◌==◌, ◌<◌, ℕ, zero, suc, Bool, true, false, List, [], ◌∷◌, Option, Some, is_some, inl, inr, refl, sym, ap, ◌∙◌, arith, if◌then◌else◌}
 use Rattle.std.specs.Option.{IsSome}
+use Rattle.std.proofs.lemmas.Bool.{cases_lt}
 use Rattle.std.proofs.lemmas.Bool.Decides.{nat_tests}
+use Rattle.node_sets.specs.Members.{has_node}
+use Rattle.node_sets.proofs.Bits.{has_none}
 use Rattle.carriers.specs.declared.fate.Fate.{Fate}
 use Rattle.cluster_states.specs.declared.cluster_state.ClusterState.{ClusterState}
 use Rattle.lane_journals.specs.Readers.{held}
 use Rattle.lane_journals.specs.Meanings.{history}
-use Rattle.lane_journals.specs.declared.event.LaneEvent.TheVariants.{Heard}
-use Rattle.lane_core.specs.Growing.{is_older, heard_next}
-use Rattle.lane_core.specs.LaneValues.{LaneValue, IsLaneValue, last_state}
+use Rattle.lane_journals.specs.declared.event.LaneEvent.{LaneEvent}
+use Rattle.lane_journals.specs.declared.event.LaneEvent.TheVariants.{Published, Heard}
+use Rattle.lane_core.specs.Growing.{heard_below, announced}
+use Rattle.lane_core.specs.LaneValues.{LaneValue, new_value, IsLaneValue}
 use Rattle.session_settings.specs.declared.setting.Setting.{Setting}
-use Rattle.session_lanes.specs.Lives.{heard_below}
-use Rattle.session_lanes.specs.Serving.{bucket_in, IsServing, heard_so_far}
+use Rattle.session_lanes.specs.Serving.{bucket_in, IsServing}
+use Rattle.session_lanes.proofs.Told.{same_deaf}
 
-pub last_heard : (s : ClusterState) (d : ℕ) → last_state (heard_below d s) ≡ Some s
-last_heard s zero = refl
-last_heard s (suc d) = last_heard s d
+-- each of those below a number that isn't deaf holds the state
+pub held_below : (deaf : ℕ) (s : ClusterState) (J : List LaneEvent) (d e : ℕ) → e < d → has_node deaf e ≡ false → held e (history (heard_below d deaf s J)) ≡ Some s.version
+unfolding heard_below
+held_below deaf s J zero e h hears = absurd (omega (arith, h))
+held_below deaf s J (suc d) e h hears = elim (cases_lt e d) [
+  | inl below ↦ further (has_node deaf d) (held_below deaf s J d e below hears)
+  | inr here ↦ own (omega (arith, h, here))
+]
+  where
+    over : (t : Bool) (o : Option ℕ) → o ≡ Some s.version → (if t then Some s.version else o) ≡ Some s.version
+    over true o is = refl
+    over false o is = is
 
--- a distributor above heard nothing yet
-pub held_above : (s : ClusterState) (d e : ℕ) → d ≤ e → held e (history (heard_below d s)) ≡ None
-held_above s zero e h = refl
-held_above s (suc d) e h =
-    let below : held e (history (heard_below d s)) ≡ None = held_above s d e (omega (arith, h)) in
-    grind (arith, nat_tests)
+    further : (t : Bool) → held e (history (heard_below d deaf s J)) ≡ Some s.version → held e (history (if t then heard_below d deaf s J else Heard d s.version ∷ heard_below d deaf s J)) ≡ Some s.version
+    further true is = is
+    further false is = over (d == e) _ is
 
-hears_by : (s : ClusterState) (d : ℕ) (o : Option ℕ) → o ≡ None → (if is_older o s.version then Heard d s.version ∷ heard_below d s else heard_below d s) ≡ Heard d s.version ∷ heard_below d s
-hears_by s d None h = refl
-hears_by s d (Some w) h = cc h
+    heard : d ≡ e → held e (history (Heard d s.version ∷ heard_below d deaf s J)) ≡ Some s.version
+    heard same = grind (arith, nat_tests)
 
-hears : (s : ClusterState) (d : ℕ) → heard_next d (Some s) (heard_below d s) ≡ heard_below (suc d) s
-hears s d = hears_by s d (held d (history (heard_below d s))) (held_above s d d (omega arith))
+    own : d ≡ e → held e (history (if has_node deaf d then heard_below d deaf s J else Heard d s.version ∷ heard_below d deaf s J)) ≡ Some s.version
+    own same = ap (λ (t : Bool). held e (history (if t then heard_below d deaf s J else Heard d s.version ∷ heard_below d deaf s J))) (ap (has_node deaf) same ∙ hears) ∙ heard same
 
-pub is_published : (s : ClusterState) (d : ℕ) (first now : LaneValue) → now ≡ heard_so_far s d first → IsSome (last_state now.journal)
-is_published s d first now is = rw (is, last_heard s d) refl
+pub held_told : (deaf : ℕ) (s : ClusterState) (J : List LaneEvent) (d : ℕ) → d < 32 → has_node deaf d ≡ false → held d (history (announced deaf s J)) ≡ Some s.version
+held_told deaf s J d small hears = held_below deaf s (Published s ∷ J) 32 d small hears
 
-pub hear_next : (s : ClusterState) (d : ℕ) (first now next : LaneValue) → now ≡ heard_so_far s d first → next ≡ record now { journal = heard_next d (last_state now.journal) now.journal } → next ≡ heard_so_far s (d + 1) first
-hear_next s d first now next is heard =
-    let at : last_state now.journal ≡ Some s = ap (λ (v : LaneValue). last_state v.journal) is ∙ last_heard s d in
-    let one : next ≡ record now { journal = heard_next d (Some s) now.journal } = heard ∙ ap (λ o. record now { journal = heard_next d o now.journal }) at in
-    let two : record now { journal = heard_next d (Some s) now.journal } ≡ record first { journal = heard_next d (Some s) (heard_below d s) } = ap (λ (v : LaneValue). record v { journal = heard_next d (Some s) v.journal }) is in
-    let same : suc d ≡ d + 1 = omega arith in
-    one ∙ two ∙ ap (λ J. record first { journal = J }) (hears s d ∙ ap (λ n. heard_below n s) same)
+pub heard_first : (s : ClusterState) (d : ℕ) → d < 32 → IsSome (held d (history (announced 0 s [])))
+heard_first s d h = ap is_some (held_told 0 s [] d h (has_none d))
 
-pub opened_serves : (s : Setting) (planned : List Fate) (lane : ℕ) (first v : LaneValue) → first.lane ≡ bucket_in s lane → first.rules ≡ s.rules → first.planned ≡ planned → first.under_way ≡ None
-    → v ≡ heard_so_far s.initial 32 first → IsLaneValue v → IsServing s planned lane [] v
-opened_serves s planned lane first v lane_is rules_are planned_are idle is holds = record {
-  lane_is = ap (λ (x : LaneValue). x.lane) is ∙ lane_is;
-  rules_are = ap (λ (x : LaneValue). x.rules) is ∙ rules_are;
-  planned_are = ap (λ (x : LaneValue). x.planned) is ∙ planned_are;
-  idle = ap (λ (x : LaneValue). x.under_way) is ∙ idle;
-  rising = tt;
-  life = ap (λ (x : LaneValue). x.journal) is;
-  holds = holds;
-}
+-- a lane that was made, for which room was made, and where the first state was announced to all
+pub opened_serves : (s : Setting) (planned carried : List Fate) (takes_plans : Bool) (lane deaf : ℕ) (made roomed v : LaneValue) → carried ≡ planned → made ≡ new_value (bucket_in s lane) s.rules [] carried takes_plans
+    → roomed ≡ record made { has_room = true } → ((n : ℕ) → has_node deaf n ≡ false) → v ≡ record roomed { journal = announced deaf s.initial roomed.journal; has_room = false } → IsLaneValue v → IsServing s planned lane [] v
+opened_serves s planned carried takes_plans lane deaf made roomed v same new room none is holds =
+    let first : v ≡ record (new_value (bucket_in s lane) s.rules [] carried takes_plans) { journal = announced deaf s.initial [] } =
+    is ∙ (λ i. record (room i) { journal = announced deaf s.initial (room i).journal; has_room = false }) ∙ (λ i. record (new i) { journal = announced deaf s.initial (new i).journal; has_room = false }) in
+    record {
+      lane_is = ap (λ (x : LaneValue). x.lane) first;
+      rules_are = ap (λ (x : LaneValue). x.rules) first;
+      planned_are = ap (λ (x : LaneValue). x.planned) first ∙ same;
+      idle = ap (λ (x : LaneValue). x.under_way) first;
+      rising = tt;
+      life = ap (λ (x : LaneValue). x.journal) first ∙ same_deaf deaf 0 (λ n. none n ∙ sym (has_none n)) 32 s.initial (Published s.initial ∷ []);
+      holds = holds;
+    }

@@ -7,23 +7,19 @@ use Rattle.entry_maps.specs.declared.entry.Entry.{Entry}
 use Rattle.messages.specs.declared.operation.Operation.{Operation}
 use Rattle.messages.specs.declared.outcome.Outcome.{Outcome}
 use Rattle.stamps.specs.declared.stamp.Stamp.{Stamp}
-use Rattle.lane_journals.specs.Readers.{published, held, began, refused, prepared, wrote, closed, before_line}
+use Rattle.lane_journals.specs.Readers.{held, began, refused, prepared, wrote, closed, before_line}
 use Rattle.lane_journals.specs.Meanings.{history, entry_at}
-use Rattle.lane_journals.specs.Places.{state_in}
 use Rattle.lane_journals.specs.declared.event.LaneEvent.{LaneEvent}
 use Rattle.lane_journals.specs.declared.event.LaneEvent.TheVariants as event
 use Rattle.lane_journals.proofs.Basics.{or_else-some}
-use Rattle.lane_core.specs.LaneValues.{last_state}
 use Rattle.lane_wants.specs.Wants.{IsRun, Same, More, IsCutRun}
-use Rattle.session_lanes.specs.Lives.{RunsTo, outcome_in}
+use Rattle.session_lanes.specs.Lives.{RunsTo, outcome_in, told_events}
 use Rattle.session_lanes.proofs.Quiet.{AddsFor, wanted_adds, cut_adds}
 
 -- what is read of states and of lines is the same, but for what the line prepared and wrote
 pub record Leaves (line : ℕ) (J K : List LaneEvent) : Type 0 where
   pub held_is : (d : ℕ) → held d (history K) ≡ held d (history J)
-  pub state_is : (v : ℕ) → state_in v K ≡ state_in v J
-  pub published_is : (v : ℕ) → published v (history K) ≡ published v (history J)
-  pub last_is : last_state K ≡ last_state J
+  pub told_is : told_events K ≡ told_events J
   pub began_is : (j : ℕ) → began j (history K) ≡ began j (history J)
   pub refused_is : (j : ℕ) → refused j (history K) ≡ refused j (history J)
   pub closed_is : (j : ℕ) → closed j (history K) ≡ closed j (history J)
@@ -36,9 +32,7 @@ pub record Leaves (line : ℕ) (J K : List LaneEvent) : Type 0 where
 pub leaves_itself : (line : ℕ) (J : List LaneEvent) → Leaves line J J
 leaves_itself line J = record {
   held_is = λ d. refl;
-  state_is = λ v. refl;
-  published_is = λ v. refl;
-  last_is = refl;
+  told_is = refl;
   began_is = λ j. refl;
   refused_is = λ j. refl;
   closed_is = λ j. refl;
@@ -52,9 +46,7 @@ leaves_itself line J = record {
 pub leaves-trans : (line : ℕ) (I J K : List LaneEvent) → Leaves line I J → Leaves line J K → Leaves line I K
 leaves-trans line I J K a b = record {
   held_is = λ d. b.held_is d ∙ a.held_is d;
-  state_is = λ v. b.state_is v ∙ a.state_is v;
-  published_is = λ v. b.published_is v ∙ a.published_is v;
-  last_is = b.last_is ∙ a.last_is;
+  told_is = b.told_is ∙ a.told_is;
   began_is = λ j. b.began_is j ∙ a.began_is j;
   refused_is = λ j. b.refused_is j ∙ a.refused_is j;
   closed_is = λ j. b.closed_is j ∙ a.closed_is j;
@@ -79,9 +71,7 @@ leaves_event line J (event.Stopped n) h = absurd h
 leaves_event line J (event.Started n) h = absurd h
 leaves_event line J (event.Opened d v rows) h = record {
   held_is = λ d. refl;
-  state_is = λ v. refl;
-  published_is = λ v. refl;
-  last_is = refl;
+  told_is = refl;
   began_is = λ j. refl;
   refused_is = λ j. refl;
   closed_is = λ j. refl;
@@ -93,9 +83,7 @@ leaves_event line J (event.Opened d v rows) h = record {
 }
 leaves_event line J (event.Sent k v d n b) h = record {
   held_is = λ d. refl;
-  state_is = λ v. refl;
-  published_is = λ v. refl;
-  last_is = refl;
+  told_is = refl;
   began_is = λ j. refl;
   refused_is = λ j. refl;
   closed_is = λ j. refl;
@@ -107,9 +95,7 @@ leaves_event line J (event.Sent k v d n b) h = record {
 }
 leaves_event line J (event.Delivered k r) h = record {
   held_is = λ d. refl;
-  state_is = λ v. refl;
-  published_is = λ v. refl;
-  last_is = refl;
+  told_is = refl;
   began_is = λ j. refl;
   refused_is = λ j. refl;
   closed_is = λ j. refl;
@@ -121,9 +107,7 @@ leaves_event line J (event.Delivered k r) h = record {
 }
 leaves_event line J (event.Returned k) h = record {
   held_is = λ d. refl;
-  state_is = λ v. refl;
-  published_is = λ v. refl;
-  last_is = refl;
+  told_is = refl;
   began_is = λ j. refl;
   refused_is = λ j. refl;
   closed_is = λ j. refl;
@@ -135,9 +119,7 @@ leaves_event line J (event.Returned k) h = record {
 }
 leaves_event line J (event.Decided d v x) h = record {
   held_is = λ d. refl;
-  state_is = λ v. refl;
-  published_is = λ v. refl;
-  last_is = refl;
+  told_is = refl;
   began_is = λ j. refl;
   refused_is = λ j. refl;
   closed_is = λ j. refl;
@@ -149,9 +131,7 @@ leaves_event line J (event.Decided d v x) h = record {
 }
 leaves_event line J (event.Prepared l b set) h = record {
   held_is = λ d. refl;
-  state_is = λ v. refl;
-  published_is = λ v. refl;
-  last_is = refl;
+  told_is = refl;
   began_is = λ j. refl;
   refused_is = λ j. refl;
   closed_is = λ j. refl;
@@ -166,9 +146,7 @@ leaves_event line J (event.Prepared l b set) h = record {
     other_line j other = grind (arith, nat_tests)
 leaves_event line J (event.Wrote l entry) h = record {
   held_is = λ d. refl;
-  state_is = λ v. refl;
-  published_is = λ v. refl;
-  last_is = refl;
+  told_is = refl;
   began_is = λ j. refl;
   refused_is = λ j. refl;
   closed_is = λ j. refl;

@@ -7,14 +7,14 @@ use Rattle.messages.specs.declared.operation.Operation.{Operation}
 use Rattle.messages.specs.declared.outcome.Outcome.{Outcome}
 use Rattle.lane_journals.specs.declared.event.LaneEvent.{LaneEvent}
 use Rattle.lane_journals.specs.declared.event.LaneEvent.TheVariants.{Closed}
-use Rattle.lane_core.specs.LaneValues.{LaneValue, IsLaneValue, under_way_of, with_run, Begins, Refuses, IsAt, IsAdvance, EndsAs, IsOutcome, MayClose, line_of, closed_by}
+use Rattle.lane_core.specs.LaneValues.{LaneValue, under_way_of, with_run, IsAt, IsAdvance, EndsAs, IsOutcome, MayClose, line_of, closed_by}
 use Rattle.lane_wants.specs.Wants.{IsRun, Same, More, IsCutRun, IsEnd}
 use Rattle.lane_core.specs.declared.job.UnderWay.{UnderWay}
 use Rattle.lane_core.specs.declared.job.Progress.{Progress}
 use Rattle.lane_core.specs.declared.job.Progress.TheVariants.{Runs, Over, Short}
 use Rattle.lane_core.specs.declared.answers.Advance.TheVariants as advance
-use Rattle.session_lanes.specs.Lives.{RunsTo}
-use Rattle.session_lanes.specs.Runs.{IsOwned, closed_with, Finishes, IsFinish, going_with, GoesOn, IsGoing, left_in, IsOperated}
+use Rattle.session_lanes.specs.Lives.{FeedLine, RunsTo, begun_at, IsRunAt}
+use Rattle.session_lanes.specs.Runs.{closed_with, Finishes, IsFinish, going_with, GoesOn, IsGoing, left_in, begun_with}
 
 -- ---- runs
 
@@ -153,38 +153,36 @@ finish_short line (Some u) old now next new outcome at g h ended after =
       after = closed_trans old now next new (still u g.left) (under_way_of u.line u.operation u.distributor Short went.left) (line_of next.under_way) u.line outcome (sym (ap (λ (v : LaneValue). line_of v.under_way) went.after)) g.after went.after after;
     }
 
--- ---- the beginning
+-- ---- from its beginning on
 
-begun_at : (line d : ℕ) (o : Operation) (old begun : LaneValue) (b : Begins line o d old begun) → begun.under_way ≡ Some (under_way_of line o d Runs 65)
-begun_at line d o old begun b = ap (λ (v : LaneValue). v.under_way) b.after
+begun_runs_at : (line : FeedLine) (d : ℕ) (state : ClusterState) (J : List LaneEvent) (old begun : LaneValue) → begun ≡ begun_with old line d state J → begun.under_way ≡ Some (under_way_of line.number line.operation d Runs 65)
+begun_runs_at line d state J old begun b = ap (λ (v : LaneValue). v.under_way) b
 
-pub begun_runs : (line d : ℕ) (o : Operation) (old begun : LaneValue) → Begins line o d old begun → IsAt line Runs begun.under_way
-begun_runs line d o old begun b = subst (IsAt line Runs) (sym (begun_at line d o old begun b)) (refl, refl)
+pub begun_runs : (line : FeedLine) (d : ℕ) (state : ClusterState) (J : List LaneEvent) (old begun : LaneValue) → begun ≡ begun_with old line d state J → IsAt line.number Runs begun.under_way
+begun_runs line d state J old begun b = subst (IsAt line.number Runs) (sym (begun_runs_at line d state J old begun b)) (refl, refl)
 
-pub operated : (line d : ℕ) (o : Operation) (old begun new : LaneValue) (outcome : Outcome) → Begins line o d old begun → IsFinish begun.under_way begun new outcome → IsLaneValue new → IsOperated line o d old new outcome
-operated line d o old begun new outcome b f holds =
-    let done : Finishes (under_way_of line o d Runs 65) begun new outcome = subst (λ w. IsFinish w begun new outcome) (begun_at line d o old begun b) f in
-    let lane : begun.lane ≡ old.lane = ap (λ (v : LaneValue). v.lane) b.after in
-    let rules : begun.rules ≡ old.rules = ap (λ (v : LaneValue). v.rules) b.after in
-    let journal = ap (λ (v : LaneValue). v.journal) b.after in
+-- the line ran to its end, and nothing else changed
+pub record HasRun (line : FeedLine) (d : ℕ) (state : ClusterState) (J : List LaneEvent) (old new : LaneValue) (x : Outcome) : Type 0 where
+  pub ran : IsRunAt old.lane old.rules line d state J new.journal
+  pub outcome_is : ran.outcome ≡ x
+  pub after : new ≡ record old { journal = new.journal; given = new.given; under_way = None }
+
+pub has_run : (line : FeedLine) (d : ℕ) (state : ClusterState) (J : List LaneEvent) (old begun new : LaneValue) (x : Outcome) → begun ≡ begun_with old line d state J → IsFinish begun.under_way begun new x → HasRun line d state J old new x
+has_run line d state J old begun new x b f =
+    let done : Finishes (under_way_of line.number line.operation d Runs 65) begun new x = subst (λ w. IsFinish w begun new x) (begun_runs_at line d state J old begun b) f in
+    let lane : begun.lane ≡ old.lane = ap (λ (v : LaneValue). v.lane) b in
+    let rules : begun.rules ≡ old.rules = ap (λ (v : LaneValue). v.rules) b in
+    let journal : begun.journal ≡ begun_at line d state J = ap (λ (v : LaneValue). v.journal) b in
+    let closed : new.journal ≡ Closed line.number x ∷ done.run = ap (λ (v : LaneValue). v.journal) done.after in
     record {
-      state = b.state;
-      acting = b.acting;
-      run = done.run;
-      runs = subst (λ J. RunsTo old.lane old.rules line o J done.run outcome) journal
-          (subst (λ r. RunsTo old.lane r line o begun.journal done.run outcome) rules (subst (λ l. RunsTo l begun.rules line o begun.journal done.run outcome) lane done.runs));
-      after = done.after ∙ (λ i. record (b.after i) { journal = Closed line outcome ∷ done.run; given = new.given; under_way = None });
-      holds = holds;
+      ran = record {
+        run = done.run;
+        outcome = x;
+        runs = subst (λ L. RunsTo old.lane old.rules line.number line.operation L done.run x) journal
+            (subst (λ r. RunsTo old.lane r line.number line.operation begun.journal done.run x) rules (subst (λ l. RunsTo l begun.rules line.number line.operation begun.journal done.run x) lane done.runs));
+        closed = closed;
+      };
+      outcome_is = refl;
+      after = done.after ∙ (λ i. record (b i) { journal = Closed line.number x ∷ done.run; given = new.given; under_way = None })
+          ∙ (λ i. record old { journal = sym closed i; given = new.given; under_way = None });
     }
-
--- an owner refuses no line
-pub owner_begins : (line d : ℕ) (old new : LaneValue) (outcome : Outcome) → IsOwned old d → Refuses line d outcome old new → ⊥
-owner_begins line d old new outcome owned r =
-    let version : (owned.0).version ≡ (r.state).version = some_version (sym (owned.1).holds ∙ r.holds) in
-    r.not_owner (subst (λ (s : ClusterState). Rattle.ideal_nodes.specs.Placement.IsOwner old.lane s d) (same_state version (owned.1).published r.published) (owned.1).owner)
-  where
-    some_version : {a b : ℕ} → Some a ≡ Some b → a ≡ b
-    some_version e = cc
-
-    same_state : {v w : ℕ} {s t : ClusterState} → v ≡ w → Rattle.lane_journals.specs.Places.state_in v old.journal ≡ Some s → Rattle.lane_journals.specs.Places.state_in w old.journal ≡ Some t → s ≡ t
-    same_state is a b = cc

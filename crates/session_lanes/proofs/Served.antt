@@ -1,77 +1,106 @@
--- A lane that serves its lines may be asked for one more, and then serves that one too.
-use Rattle.std.proofs.Common.{◌≡◌, ◌<◌, ℕ, List, ◌∷◌, Some, refl, sym, ap, ◌∙◌, subst}
+-- A lane that serves its lines may be told or asked of one thing more, and then serves on.
+use Rattle.std.proofs.Common.{◌≡◌, ◌<◌, ℕ, Bool, false, List, ◌∷◌, Some, refl, sym, ap, ◌∙◌, subst}
+use Rattle.std.specs.Option.{IsSome}
+use Rattle.bucket_ids.specs.Buckets.{Low}
 use Rattle.carriers.specs.declared.fate.Fate.{Fate}
 use Rattle.cluster_states.specs.declared.cluster_state.ClusterState.{ClusterState}
-use Rattle.ideal_nodes.specs.Placement.{IsOwner}
-use Rattle.messages.specs.declared.operation.Operation.{Operation}
+use Rattle.cluster_states.specs.Publishing.{Told}
+use Rattle.distributor_part.specs.declared.rules.Rules.{Rules}
 use Rattle.messages.specs.declared.outcome.Outcome.{Outcome}
+use Rattle.lane_journals.specs.Readers.{held}
 use Rattle.lane_journals.specs.Meanings.{history}
-use Rattle.lane_journals.specs.Places.{state_in}
+use Rattle.lane_journals.specs.Places.{told}
 use Rattle.lane_journals.specs.declared.event.LaneEvent.{LaneEvent}
-use Rattle.lane_journals.specs.declared.event.LaneEvent.TheVariants.{Begun}
+use Rattle.lane_keeping.specs.LaneKeeping.{setting_of}
 use Rattle.lane_operations.specs.OperationKeeping.{IsFresh}
-use Rattle.lane_core.specs.LaneValues.{LaneValue, drawn}
+use Rattle.lane_core.specs.Growing.{announced, stopped_next, started_next}
+use Rattle.lane_core.specs.LaneValues.{LaneValue, IsLaneValue, last_state}
 use Rattle.session_settings.specs.declared.setting.Setting.{Setting}
-use Rattle.session_lanes.specs.Lives.{RunsTo, Lines, last_line, IsCarriedOut}
-use Rattle.session_lanes.specs.Runs.{IsOwned, IsOperated}
+use Rattle.session_lanes.specs.Lives.{FeedLine, Deed, Announces, Stops, Starts, Runs, Does, IsCarriedOut, lines_of, last_line, AreRising, states_in, newest_in}
+use Rattle.session_lanes.specs.Runs.{IsLineRun}
 use Rattle.session_lanes.specs.Serving.{bucket_in, IsServing}
-use Rattle.session_lanes.proofs.Living.{heard_all, state_published, others_fresh, later_none}
+use Rattle.session_lanes.proofs.Living.{heard_all, newest_published, states_published, others_fresh, later_none}
 
--- ---- what may be asked
+abbrev told_of : ℕ → List ClusterState → Told
+told_of acks states = record { acks = acks; states = states }
 
-pub serving_fresh : (s : Setting) (planned : List Fate) (lane line : ℕ) (lines : Lines) (v : LaneValue) → IsServing s planned lane lines v → last_line lines < line → IsFresh (history v.journal) line
-serving_fresh s planned lane line lines v is later = others_fresh s (bucket_in s lane) lines v.journal is.life line (later_none line lines is.rising later)
+module _ (s : Setting) (planned : List Fate) (lane : ℕ) (deeds : List Deed) (v : LaneValue) where
+  -- ---- what it may be asked
 
--- the owner holds the state
-pub serving_owned : (s : Setting) (planned : List Fate) (lane d : ℕ) (lines : Lines) (v : LaneValue) → IsServing s planned lane lines v → d < 32 → IsOwner (bucket_in s lane) s.initial d → IsOwned v d
-serving_owned s planned lane d lines v is small owns = (
-  s.initial,
-  record {
-    holds = heard_all s (bucket_in s lane) lines v.journal is.life d small;
-    published = state_published s (bucket_in s lane) lines v.journal is.life;
-    owner = subst (λ b. IsOwner b s.initial d) (sym is.lane_is) owns;
-  },
-)
+  pub serving_fresh : (line : ℕ) → IsServing s planned lane deeds v → last_line (lines_of deeds) < line → IsFresh (history v.journal) line
+  serving_fresh line is later = others_fresh s (bucket_in s lane) deeds v.journal is.life line (later_none line (lines_of deeds) is.rising later)
 
--- ---- what is served then
+  -- each distributor holds a state
+  pub serving_heard : (d : ℕ) → IsServing s planned lane deeds v → d < 32 → IsSome (held d (history v.journal))
+  serving_heard d is small = heard_all s (bucket_in s lane) deeds v.journal is.life d small
 
-one_version : {a b : ℕ} → Some a ≡ Some b → a ≡ b
-one_version e = cc
+  pub serving_newest : IsServing s planned lane deeds v → last_state v.journal ≡ Some (newest_in s deeds)
+  serving_newest is = newest_published s (bucket_in s lane) deeds v.journal is.life
 
-one_state : (J : List LaneEvent) {v w : ℕ} {s t : ClusterState} → v ≡ w → state_in v J ≡ Some s → state_in w J ≡ Some t → s ≡ t
-one_state J is a b = cc
+  pub serving_told : IsServing s planned lane deeds v → told (setting_of v.lane v.rules) v.journal ≡ record { acks = (s.rules).acks; states = states_in s deeds }
+  serving_told is =
+      ap (told_of (v.rules).acks) (states_published s (bucket_in s lane) deeds v.journal is.life) ∙ ap (λ (r : Rules). told_of r.acks (states_in s deeds)) is.rules_are
 
--- the state under which the operation was begun is the first one
-same_state : (s : Setting) (planned : List Fate) (lane line d : ℕ) (lines : Lines) (o : Operation) (v new : LaneValue) (x : Outcome) → IsServing s planned lane lines v → d < 32 → (done : IsOperated line o d v new x) → done.state ≡ s.initial
-same_state s planned lane line d lines o v new x is small done =
-    let heard = heard_all s (bucket_in s lane) lines v.journal is.life d small in
-    one_state v.journal (one_version (sym (done.acting).holds ∙ heard)) (done.acting).published (state_published s (bucket_in s lane) lines v.journal is.life)
+  -- ---- what it serves then
 
-pub carried_out : (s : Setting) (planned : List Fate) (lane line d : ℕ) (lines : Lines) (o : Operation) (v new : LaneValue) (x : Outcome) → IsServing s planned lane lines v → d < 32 → IsOperated line o d v new x
-    → (c : IsCarriedOut s (bucket_in s lane) (record { number = line; operation = o }) v.journal new.journal) × (c.outcome ≡ x)
-carried_out s planned lane line d lines o v new x is small done =
-    let state = same_state s planned lane line d lines o v new x is small done in (
-      record {
-        owner = d;
-        owns = subst (λ b. IsOwner b s.initial d) is.lane_is (subst (λ t. IsOwner v.lane t d) state (done.acting).owner);
-        run = done.run;
-        outcome = x;
-        runs = subst (λ b. RunsTo b s.rules line o (Begun line d (s.initial).version o.id (drawn o.kind (s.initial).version v.journal) ∷ v.journal) done.run x) is.lane_is
-            (subst (λ r. RunsTo v.lane r line o (Begun line d (s.initial).version o.id (drawn o.kind (s.initial).version v.journal) ∷ v.journal) done.run x) is.rules_are
-            (subst (λ (t : ClusterState). RunsTo v.lane v.rules line o (Begun line d t.version o.id (drawn o.kind t.version v.journal) ∷ v.journal) done.run x) state done.runs));
-        closed = ap (λ (n : LaneValue). n.journal) done.after;
-      },
-      refl,
-    )
+  module _ (new : LaneValue) where
+    -- after one deed more, in which only the journal, the fates and the room changed
+    serves_after : (deed : Deed) (J : List LaneEvent) (given : List Fate) (room : Bool) → IsServing s planned lane deeds v → new ≡ record v { journal = J; given = given; has_room = room } → IsLaneValue new
+        → AreRising (lines_of (deed ∷ deeds)) → Does s (bucket_in s lane) deed v.journal new.journal → IsServing s planned lane (deed ∷ deeds) new
+    serves_after deed J given room is after holds rising does = record {
+      lane_is = ap (λ (n : LaneValue). n.lane) after ∙ is.lane_is;
+      rules_are = ap (λ (n : LaneValue). n.rules) after ∙ is.rules_are;
+      planned_are = ap (λ (n : LaneValue). n.planned) after ∙ is.planned_are;
+      idle = ap (λ (n : LaneValue). n.under_way) after ∙ is.idle;
+      rising = rising;
+      life = (v.journal, (is.life, does));
+      holds = holds;
+    }
 
-pub serves_more : (s : Setting) (planned : List Fate) (lane line d : ℕ) (lines : Lines) (o : Operation) (v new : LaneValue) (x : Outcome) → IsServing s planned lane lines v → last_line lines < line → d < 32 → IsOperated line o d v new x
-    → IsServing s planned lane (record { number = line; operation = o } ∷ lines) new
-serves_more s planned lane line d lines o v new x is later small done = record {
-  lane_is = ap (λ (n : LaneValue). n.lane) done.after ∙ is.lane_is;
-  rules_are = ap (λ (n : LaneValue). n.rules) done.after ∙ is.rules_are;
-  planned_are = ap (λ (n : LaneValue). n.planned) done.after ∙ is.planned_are;
-  idle = ap (λ (n : LaneValue). n.under_way) done.after;
-  rising = (later, is.rising);
-  life = (v.journal, (is.life, (carried_out s planned lane line d lines o v new x is small done).0));
-  holds = done.holds;
-}
+    pub serves_announced : (state : ClusterState) (deaf : ℕ) → IsServing s planned lane deeds v → new ≡ record v { journal = announced deaf state v.journal; has_room = false } → IsLaneValue new → IsServing s planned lane (Announces state deaf ∷ deeds) new
+    serves_announced state deaf is after holds = serves_after (Announces state deaf) (announced deaf state v.journal) v.given false is after holds is.rising (ap (λ (n : LaneValue). n.journal) after)
+
+    pub serves_stopped : (n : ℕ) → IsServing s planned lane deeds v → new ≡ record v { journal = stopped_next n v.journal; has_room = false } → IsLaneValue new → IsServing s planned lane (Stops n ∷ deeds) new
+    serves_stopped n is after holds = serves_after (Stops n) (stopped_next n v.journal) v.given false is after holds is.rising (ap (λ (x : LaneValue). x.journal) after)
+
+    pub serves_started : (n : ℕ) → IsServing s planned lane deeds v → new ≡ record v { journal = started_next n v.journal; has_room = false } → IsLaneValue new → IsServing s planned lane (Starts n ∷ deeds) new
+    serves_started n is after holds = serves_after (Starts n) (started_next n v.journal) v.given false is after holds is.rising (ap (λ (x : LaneValue). x.journal) after)
+
+    carried_here : (line : FeedLine) (x : Outcome) → IsServing s planned lane deeds v → IsLineRun line v new x → IsCarriedOut (bucket_in s lane) s.rules line line.via v.journal new.journal
+    carried_here line x is run =
+        subst (λ (r : Rules). IsCarriedOut (bucket_in s lane) r line line.via v.journal new.journal) is.rules_are (subst (λ (b : Low). IsCarriedOut b v.rules line line.via v.journal new.journal) is.lane_is run.done)
+
+    pub serves_run : (line : FeedLine) (x : Outcome) → IsServing s planned lane deeds v → last_line (lines_of deeds) < line.number → IsLineRun line v new x → IsServing s planned lane (Runs line ∷ deeds) new
+    serves_run line x is later run = serves_after (Runs line) new.journal new.given v.has_room is run.after run.holds (later, is.rising) (carried_here line x is run)
+
+    -- ---- what is no deed
+
+    room_holds : (room : Bool) → IsLaneValue v → IsLaneValue (record v { has_room = room })
+    room_holds room h = record { legal = h.legal; carried = h.carried; lines = h.lines }
+
+    -- room was made
+    pub serves_room : IsServing s planned lane deeds v → new ≡ record v { has_room = new.has_room } → IsServing s planned lane deeds new
+    serves_room is after = subst (IsServing s planned lane deeds) (sym after) (record {
+      lane_is = is.lane_is;
+      rules_are = is.rules_are;
+      planned_are = is.planned_are;
+      idle = is.idle;
+      rising = is.rising;
+      life = is.life;
+      holds = room_holds new.has_room is.holds;
+    })
+
+    plans_hold : (more : List Fate) → IsLaneValue v → IsLaneValue (record v { planned = more })
+    plans_hold more h = record { legal = h.legal; carried = h.carried; lines = h.lines }
+
+    -- fates were planned
+    pub serves_planned : (more : List Fate) → IsServing s planned lane deeds v → new ≡ record v { planned = more } → IsServing s more lane deeds new
+    serves_planned more is after = subst (IsServing s more lane deeds) (sym after) (record {
+      lane_is = is.lane_is;
+      rules_are = is.rules_are;
+      planned_are = refl;
+      idle = is.idle;
+      rising = is.rising;
+      life = is.life;
+      holds = plans_hold more is.holds;
+    })

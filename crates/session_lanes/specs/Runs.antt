@@ -1,20 +1,14 @@
 -- One operation in a lane, from its beginning to its close.
 use Rattle.std.specs.Prelude.{◌≡◌, ℕ, List, ◌∷◌, Option, None, Some}
 use Rattle.cluster_states.specs.declared.cluster_state.ClusterState.{ClusterState}
-use Rattle.messages.specs.declared.operation.Operation.{Operation}
 use Rattle.messages.specs.declared.outcome.Outcome.{Outcome}
 use Rattle.lane_journals.specs.declared.event.LaneEvent.{LaneEvent}
-use Rattle.lane_journals.specs.declared.event.LaneEvent.TheVariants.{Begun, Closed}
-use Rattle.lane_keeping.specs.Acting.{IsActing}
-use Rattle.lane_core.specs.LaneValues.{LaneValue, IsLaneValue, drawn, under_way_of}
+use Rattle.lane_journals.specs.declared.event.LaneEvent.TheVariants.{Closed}
+use Rattle.lane_core.specs.LaneValues.{LaneValue, IsLaneValue, under_way_of}
 use Rattle.lane_wants.specs.Wants.{IsRun}
 use Rattle.lane_core.specs.declared.job.UnderWay.{UnderWay}
 use Rattle.lane_core.specs.declared.job.Progress.TheVariants.{Runs}
-use Rattle.session_lanes.specs.Lives.{RunsTo}
-
--- the distributor owns the lane under the state that it holds
-abbrev pub IsOwned : LaneValue → ℕ → Type 0
-IsOwned v d = (state : ClusterState) × IsActing v.lane v.journal d state
+use Rattle.session_lanes.specs.Lives.{FeedLine, RunsTo, begun_at, IsCarriedOut, outcome_in}
 
 -- the lane once an operation is closed
 abbrev pub closed_with : LaneValue → ℕ → Outcome → List LaneEvent → LaneValue → LaneValue
@@ -49,11 +43,15 @@ abbrev pub left_in : Option UnderWay → ℕ
 left_in None = 0
 left_in (Some u) = u.left
 
--- the operation of a line was begun at the owner, went on to its end, and was closed
-pub record IsOperated (line : ℕ) (o : Operation) (d : ℕ) (old new : LaneValue) (outcome : Outcome) : Type 0 where
-  pub state : ClusterState
-  pub acting : IsActing old.lane old.journal d state
-  pub run : List LaneEvent
-  pub runs : RunsTo old.lane old.rules line o (Begun line d state.version o.id (drawn o.kind state.version old.journal) ∷ old.journal) run outcome
-  pub after : new ≡ closed_with old line outcome run new
+-- the lane once the line's operation was begun at a distributor under a state, from this journal on
+abbrev pub begun_with : LaneValue → FeedLine → ℕ → ClusterState → List LaneEvent → LaneValue
+begun_with old line d state J = record old { journal = begun_at line d state J; under_way = Some (under_way_of line.number line.operation d Runs 65) }
+
+-- the line was carried out, and this is its outcome
+pub record IsLineRun (line : FeedLine) (old new : LaneValue) (outcome : Outcome) : Type 0 where
+  pub done : IsCarriedOut old.lane old.rules line line.via old.journal new.journal
+  pub outcome_is : outcome_in line.number new.journal ≡ Some outcome
+  -- nothing else changed
+  pub after : new ≡ record old { journal = new.journal; given = new.given }
+  -- its journal is legal, and each message had the events of its fate
   pub holds : IsLaneValue new

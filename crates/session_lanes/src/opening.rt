@@ -4,6 +4,7 @@ ghost use Rattle.session_lanes.specs.Serving.{IsServing};
 
 use carriers::Carriers;
 use lane_core::Lane;
+use node_sets::NodeSet;
 use session_settings::Setting;
 use std::alloc::Global;
 use value_lists::NoMemory;
@@ -24,10 +25,7 @@ pub fn open_lane<C: Carriers>(
     let carrier = carriers.make(alloc, lane)?;
     let mut made = Lane::new(alloc, lane, setting.bits, setting.rules, carrier);
     made.room()?;
-    made.publish(&setting.initial);
-    for distributor in 0..32 {
-        made.hear(distributor)?;
-    }
+    made.announce(&setting.initial, NodeSet::none());
     // that its journal is legal is known once it is read
     let _journal = made.journal();
     Ok(made)

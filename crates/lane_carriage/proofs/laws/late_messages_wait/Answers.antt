@@ -1,4 +1,4 @@
-use Rattle.lane_carriage.proofs.Waitings.{sent-before, waiting, taken_are_due, carried, further, delivered-further}
+use Rattle.lane_carriage.proofs.Waitings.{sent-before, waiting, taken_are_due, carried, further, delivered-further, passed-over}
 use Rattle.lane_carriage.proofs.laws.late_messages_wait.Goals as goal
 
 pub returns-clause-sent_before : goal.returns-clause-sent_before
@@ -9,6 +9,9 @@ returns-clause-further c = further
 
 pub returns-clause-delivered : goal.returns-clause-delivered
 returns-clause-delivered c = delivered-further
+
+pub returns-clause-passed_over : goal.returns-clause-passed_over
+returns-clause-passed_over c = passed-over
 
 pub returns-clause-waiting : goal.returns-clause-waiting
 returns-clause-waiting c = waiting

@@ -15,6 +15,8 @@ returns c = record {
   returned = λ given J h. (says given J h).returns;
   lost = message.lost;
   arrived = message.arrived;
+  cut_off = message.cut_off;
   late = message.late;
+  late_cut_off = message.late_cut_off;
   not_yet = message.not_yet;
 }

@@ -1,4 +1,4 @@
-use Rattle.lane_carriage.proofs.Wrong.{delivered-early, delivered-twice, number-skipped, reply-returned}
+use Rattle.lane_carriage.proofs.Wrong.{delivered-early, delivered-twice, number-skipped, reply-returned, delivered-to-stopped, late-to-stopped, lost-though-started, late-lost-though-started}
 use Rattle.lane_carriage.proofs.laws.wrong_carriage_is_refused.Goals as goal
 
 pub returns : goal.returns
@@ -7,4 +7,8 @@ returns c = record {
   delivered_twice = delivered-twice;
   number_skipped = number-skipped;
   lost_reply_returned = reply-returned;
+  delivered_to_stopped = delivered-to-stopped;
+  late_to_stopped = late-to-stopped;
+  lost_though_started = lost-though-started;
+  late_lost_though_started = late-lost-though-started;
 }

@@ -8,6 +8,7 @@ returns c s is lane v legal carried =
       decided = c.undisturbed_operations_are_decided.ensures;
       well = c.undisturbed_writes_end_well.ensures;
       since = c.answered_lines_are_undisturbed.ensures.since;
+      running = c.answered_lines_are_undisturbed.ensures.running;
       numbers = messages.numbers;
       was_sent = messages.sent;
       unsent = messages.unsent;

@@ -1,8 +1,6 @@
-use Rattle.session_lanes.proofs.FirstEvents.{is_published, hear_next}
+use Rattle.session_lanes.proofs.FirstEvents.{opened_serves}
 use Rattle.session_lanes.proofs.opening.open_lane.Goals as goal
 
-pub hear-requires-clause-published : goal.hear-requires-clause-published
-hear-requires-clause-published g c = is_published c.args.setting.now.initial c.loop-distributor.distributor c.publish.new.self c.loop-distributor.made c.loop-distributor.invariant
-
-pub loop-distributor-preserved : goal.loop-distributor-preserved
-loop-distributor-preserved g c = hear_next c.args.setting.now.initial c.loop-distributor.distributor c.publish.new.self c.loop-distributor.made c.hear.new.self c.loop-distributor.invariant c.in_ok-hear.ensures.heard
+pub returns-clause-new : goal.returns-clause-new
+returns-clause-new g c =
+    opened_serves c.args.setting.now _ _ _ c.args.lane _ _ _ _ c.in_ok-carrier.ensures.planned c.new-made.ensures c.in_ok-room.ensures.ok c.none.ensures c.announce.ensures c.journal-journal.ensures.lane

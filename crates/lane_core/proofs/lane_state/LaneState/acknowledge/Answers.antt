@@ -47,7 +47,7 @@ returns-clause-keeps c =
     (kept_more c.requires.keeps (c.marks_are_kept.ensures.acked _ _ _ _ _ _ _ c.requires.keeps.keeps (slice_set x.parts.items d c.closed.new.self) d m.state
     c.args.line c.args.key c.args.answered m.id c.args.stamp m.acting
     (closed-part x.lane x.rules x.parts.items d p c.closed.new.self c.args.key c.args.answered within is c.closed.ensures)
-    (part-others x.lane x.rules x.parts.items d c.closed.new.self) m.begun m.key_is m.answers m.legal))
+    (part-others x.lane x.rules x.parts.items d c.closed.new.self) m.begun m.key_is m.answers m.legal) tt)
 
 pub returns-clause-resting : goal.returns-clause-resting
 returns-clause-resting c =

@@ -39,7 +39,7 @@ returns-clause-went g c =
       journal = c.send.ensures.grows ∙ ap (λ (i : ℕ). sending (i + 1) c.args.message ∷ journal_of a) al ∙ ap (λ J. sending (x.last + 1) c.args.message ∷ J) aj;
       late = ap (λ (z : LaneState). z.late.late) c.send.ensures.after ∙ c.in_ok-room_for_message.ensures.late;
     } in
-    went-by c.fate-fate.result x b d e c.args.message _ _ c.fate-fate.ensures.given sent c.deal_ask-short.ensures.dealt c.deal_ask-short.ensures.late
+    went-by c.fate-fate.result c.met-met.result x b d e c.args.message _ _ c.fate-fate.ensures.given sent c.met-met.ensures.fate c.deal_ask-short.ensures.dealt c.deal_ask-short.ensures.late
     (ap (λ (z : LaneState). z.last) c.deal_ask-short.ensures.after) c.deliver_due.ensures.due c.deliver_due.ensures.none_left (ap (λ (z : LaneState). z.last) c.deliver_due.ensures.after)
 
 pub returns-clause-carried : goal.returns-clause-carried
@@ -56,7 +56,7 @@ returns-clause-carried g c =
       journal = c.send.ensures.grows ∙ ap (λ (i : ℕ). sending (i + 1) c.args.message ∷ journal_of a) al ∙ ap (λ J. sending (x.last + 1) c.args.message ∷ J) aj;
       late = ap (λ (z : LaneState). z.late.late) c.send.ensures.after ∙ c.in_ok-room_for_message.ensures.late;
     } in
-    let w = went-by c.fate-fate.result x b d e c.args.message _ _ c.fate-fate.ensures.given sent c.deal_ask-short.ensures.dealt c.deal_ask-short.ensures.late
+    let w = went-by c.fate-fate.result c.met-met.result x b d e c.args.message _ _ c.fate-fate.ensures.given sent c.met-met.ensures.fate c.deal_ask-short.ensures.dealt c.deal_ask-short.ensures.late
     (ap (λ (z : LaneState). z.last) c.deal_ask-short.ensures.after) c.deliver_due.ensures.due c.deliver_due.ensures.none_left (ap (λ (z : LaneState). z.last) c.deliver_due.ensures.after) in
     went-carried c.late_messages_wait.ensures.waiting c.late_messages_wait.ensures.taken x e c.args.message _ _ w c.requires.carried
 

@@ -92,7 +92,7 @@ returns-clause-keeps c =
     rw (c.push_within.ensures.past, c.version.ensures.value, c.from.ensures)
     (kept_more c.requires.keeps (c.parts_are_told.ensures.alike _ _ _ _ _ _ _ keep1 d (slice_set x.parts.items d q) p.asked p.awaited (Running c.in-Some-begin_step.ensures.some.at plan.receivers)
     (alike-at x.lane x.rules x.parts.items d p q here is p.asked p.awaited (Running c.in-Some-begin_step.ensures.some.at plan.receivers) c.in-Some-begin_step.ensures.some.after)
-    (part-others x.lane x.rules x.parts.items d q)))
+    (part-others x.lane x.rules x.parts.items d q)) tt)
 
 pub returns-clause-begins : goal.returns-clause-begins
 returns-clause-begins c =

@@ -6,7 +6,7 @@ use Rattle.node_journals.specs.NodeKeeping.{NodeKeeps}
 use Rattle.lane_keeping.specs.LaneKeeping.{node_in, part_in}
 use Rattle.lane_keeping.specs.Asking.{IsTakenBy}
 use Rattle.lane_core.specs.LaneStates.{journal_of}
-use Rattle.lane_core.proofs.Kept.{kept_back}
+use Rattle.lane_core.proofs.Kept.{kept_back, kept_runs}
 use Rattle.lane_core.proofs.LaneSteps.{past-length, has-room, node-at, taken-at}
 use Rattle.lane_core.proofs.Places.{part-at}
 use Rattle.lane_core.proofs.Settled.{settled-back}
@@ -46,7 +46,7 @@ returns-clause-keeps c =
     (rw c.from.ensures at c.index_mut.ensures.value) c.take-taken.ensures.takes in
     rw (c.push_within-2.ensures.past, c.push_within.ensures.past, c.tell-reply.ensures.noted_is, c.from.ensures, c.from-2.ensures)
     (kept_back c.requires.keeps (search rules) (c.asks_are_kept.ensures.returned _ _ _ _ _ _ _ c.requires.keeps.keeps c.args.number m r
-    (slice_set x.nodes.items m.receiver c.take-taken.new.self) d (slice_set x.parts.items d q) c.requires.just
+    (slice_set x.nodes.items m.receiver c.take-taken.new.self) d (slice_set x.parts.items d q) c.requires.just (kept_runs c.requires.keeps m.receiver c.requires.receives)
     (taken-told x.nodes.items (slice_set x.nodes.items m.receiver c.take-taken.new.self) m c.take-taken.result.reply r (λ y z. c.nodes_refuse_for_memory.ensures.asks y z m c.take-taken.result.reply c.requires.asks.body_is) c.tell-reply.ensures.is taken)
     c.requires.asks
     (told-to x.lane x.rules x.parts.items d p q m.receiver r here is (c.parts_are_told.ensures.told p q m.receiver r c.tell-reply.ensures.after))))

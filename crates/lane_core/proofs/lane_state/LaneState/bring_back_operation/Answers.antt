@@ -4,7 +4,7 @@ use Rattle.node_journals.specs.Replaying.{delivered}
 use Rattle.lane_journals.specs.declared.event.LaneEvent.TheVariants.{Returned}
 use Rattle.lane_core.specs.declared.lane_state.LaneState.{LaneState}
 use Rattle.lane_core.specs.LaneStates.{journal_of}
-use Rattle.lane_core.proofs.Kept.{kept_more}
+use Rattle.lane_core.proofs.Kept.{kept_more, kept_runs}
 use Rattle.lane_core.proofs.RunningSteps.{next-asked, next-no-ask, hears-by, now-replied}
 use Rattle.lane_core.proofs.Standing.{standing-back}
 use Rattle.lane_core.proofs.lane_state.LaneState.bring_back_operation.Goals as goal
@@ -19,7 +19,7 @@ returns-clause-keeps c =
     rw c.push_within.ensures.past
     (kept_more c.deliver-reply.ensures.keeps (c.events_are_kept.ensures.returned b.lane b.rules (journal_of b) b.newest b.last b.nodes.items b.parts.items c.deliver-reply.ensures.keeps.keeps c.args.number c.args.message.now
     (rw c.deliver-reply.ensures.grows (c.messages_fly.ensures.stays _ _ _ _ just.flight)) (next-no-ask c.args.machine.now c.args.message.now c.requires.next)
-    (rw c.deliver-reply.ensures.grows (now-replied _ _ _ _ just)) (rw c.deliver-reply.ensures.grows just.unreturned)).keeps)
+    (rw c.deliver-reply.ensures.grows (now-replied _ _ _ _ just)) (rw c.deliver-reply.ensures.grows just.unreturned)).keeps tt)
 
 pub returns-clause-dealt : goal.returns-clause-dealt
 returns-clause-dealt c = (_, c.push_within.ensures.past ∙ ap (λ J. Returned c.args.number ∷ J) c.deliver-reply.ensures.grows)
@@ -41,7 +41,7 @@ returns-clause-stands c =
     (ap (λ (y : LaneState). y.lane) c.deliver-reply.ensures.after) (ap (λ (y : LaneState). y.rules) c.deliver-reply.ensures.after)
     (c.push_within.ensures.past ∙ ap (λ J. Returned c.args.number ∷ J) c.deliver-reply.ensures.grows)
     (λ line row written w. standing-back x.lane x.rules (journal_of x) line row written t z c.args.number m c.deliver-reply.result w told.plan
-    (c.operations_hear.ensures.told _ _ _ _ _ _ _ c.requires.keeps.keeps _ _ _ _ _ _ _ _ w.asked b.nodes.items c.deliver-reply.result z c.requires.just c.deliver-reply.ensures.taken told)))
+    (c.operations_hear.ensures.told _ _ _ _ _ _ _ c.requires.keeps.keeps _ _ _ _ _ _ _ _ w.asked b.nodes.items c.deliver-reply.result z c.requires.just (kept_runs c.requires.keeps m.receiver c.requires.receives) c.deliver-reply.ensures.taken told)))
     c.answer.ensures.told
 
 pub returns-clause-told : goal.returns-clause-told

@@ -4,7 +4,7 @@ use Rattle.node_journals.specs.NodeKeeping.{NodeKeeps}
 use Rattle.lane_keeping.specs.LaneKeeping.{node_in}
 use Rattle.lane_keeping.specs.Asking.{IsTakenBy}
 use Rattle.lane_core.specs.LaneStates.{journal_of}
-use Rattle.lane_core.proofs.Kept.{kept_back}
+use Rattle.lane_core.proofs.Kept.{kept_back, kept_runs}
 use Rattle.lane_core.proofs.LaneSteps.{past-length, has-room, node-at, taken-at}
 use Rattle.lane_core.proofs.Running.{no-ask, taken-as, knows-as, runs-back, goes-back, reply-told, reply-left}
 use Rattle.lane_core.proofs.lane_state.LaneState.bring_back_round.Goals as goal
@@ -33,7 +33,7 @@ returns-clause-keeps c =
     (rw c.from.ensures at c.index_mut.ensures.value) c.take-taken.ensures.takes in
     rw (c.push_within-2.ensures.past, c.push_within.ensures.past, told.told.noted_is, c.from.ensures)
     (kept_back c.requires.keeps (search rules) (c.events_are_kept.ensures.answered _ _ _ _ _ _ _ keep c.args.number m told.told.reply
-    (slice_set x.nodes.items m.receiver c.take-taken.new.self) c.requires.awaited.just (no-ask c.args.run.now.round m c.requires.awaited.is)
+    (slice_set x.nodes.items m.receiver c.take-taken.new.self) c.requires.awaited.just (kept_runs c.requires.keeps m.receiver c.requires.receives) (no-ask c.args.run.now.round m c.requires.awaited.is)
     (taken-as keep c.args.run.now c.tell_run-reply.new.run c.requires.runs c.args.number m c.take-taken.result.reply c.tell_run-reply.result (slice_set x.nodes.items m.receiver c.take-taken.new.self) c.requires.awaited taken told
     (λ y u b h. c.nodes_refuse_for_memory.ensures.reads y u m c.take-taken.result.reply b h))))
 
@@ -47,14 +47,15 @@ returns-clause-runs c =
     let now = slice_set x.nodes.items m.receiver c.take-taken.new.self in
     let taken : IsTakenBy x.nodes.items now m c.take-taken.result.reply = taken-at x.nodes.items m c.index_mut.result.now c.take-taken.new.self c.take-taken.result.reply within
     (rw c.from.ensures at c.index_mut.ensures.value) c.take-taken.ensures.takes in
+    let runs = kept_runs c.requires.keeps m.receiver c.requires.receives in
     let taken2 : IsTakenBy x.nodes.items now m told.told.reply = taken-as keep c.args.run.now c.tell_run-reply.new.run c.requires.runs c.args.number m c.take-taken.result.reply c.tell_run-reply.result now c.requires.awaited taken told
     (λ y u b h. c.nodes_refuse_for_memory.ensures.reads y u m c.take-taken.result.reply b h) in
     rw (c.push_within-2.ensures.past, c.push_within.ensures.past)
     (runs-back keep c.args.run.now c.tell_run-reply.new.run c.requires.runs c.args.number m c.take-taken.result.reply c.tell_run-reply.result now c.requires.awaited taken told
-    (c.events_are_kept.ensures.taken _ _ _ _ _ _ _ keep c.args.number m told.told.reply now c.requires.awaited.just.flight taken2).legal
+    (c.events_are_kept.ensures.taken _ _ _ _ _ _ _ keep c.args.number m told.told.reply now c.requires.awaited.just.flight runs taken2).legal
     (knows-as keep c.args.run.now c.tell_run-reply.new.run c.requires.runs c.args.number m c.take-taken.result.reply c.tell_run-reply.result now c.requires.awaited taken told
-    (λ zero. c.rounds_hear.ensures.read _ _ _ _ _ _ _ keep _ _ _ c.requires.runs.acting c.requires.runs.knows c.args.number m told.told.reply now c.requires.awaited taken2 zero)
-    (λ after more h. c.rounds_hear.ensures.applied _ _ _ _ _ _ _ keep _ _ _ c.requires.runs.acting c.requires.runs.knows c.args.number m told.told.reply now after c.requires.awaited taken2 more h)))
+    (λ zero. c.rounds_hear.ensures.read _ _ _ _ _ _ _ keep _ _ _ c.requires.runs.acting c.requires.runs.knows c.args.number m told.told.reply now c.requires.awaited runs taken2 zero)
+    (λ after more h. c.rounds_hear.ensures.applied _ _ _ _ _ _ _ keep _ _ _ c.requires.runs.acting c.requires.runs.knows c.args.number m told.told.reply now after c.requires.awaited runs taken2 more h)))
 
 pub returns-clause-told : goal.returns-clause-told
 returns-clause-told c = reply-told _ _ _ _ c.tell_run-reply.ensures.told.after

@@ -3,12 +3,12 @@ use Rattle.service_layer.specs.Nodes.{Node}
 use Rattle.node_journals.specs.NodeKeeping.{NodeKeeps}
 use Rattle.lane_keeping.specs.LaneKeeping.{node_in}
 use Rattle.lane_core.specs.LaneStates.{journal_of}
-use Rattle.lane_core.proofs.Kept.{kept_taken}
+use Rattle.lane_core.proofs.Kept.{kept_taken, kept_runs}
 use Rattle.lane_core.proofs.LaneSteps.{past-length, has-room, node-at, taken-at}
 use Rattle.lane_core.proofs.lane_state.LaneState.deliver.Goals as goal
 
-pub take-taken-requires-clause-room : goal.take-taken-requires-clause-room
-take-taken-requires-clause-room c =
+pub take_at-taken-requires-clause-room : goal.take_at-taken-requires-clause-room
+take_at-taken-requires-clause-room c =
     let x = c.args.self.now in
     let n = c.args.message.now.receiver in
     let within : n < length x.nodes.items = search rules in
@@ -20,15 +20,15 @@ take-taken-requires-clause-room c =
 pub returns-clause-keeps : goal.returns-clause-keeps
 returns-clause-keeps c =
     let within : c.args.message.now.receiver < length c.args.self.now.nodes.items = search rules in
-    rw (c.push_within.ensures.past, c.take-taken.ensures.noted, c.from.ensures)
-    (kept_taken c.requires.keeps (search rules) (c.events_are_kept.ensures.taken _ _ _ _ _ _ _ c.requires.keeps.keeps c.args.number c.args.message.now c.take-taken.result.reply
-    (slice_set c.args.self.now.nodes.items c.args.message.now.receiver c.take-taken.new.self) c.requires.flight
-    (taken-at c.args.self.now.nodes.items c.args.message.now c.index_mut.result.now c.take-taken.new.self c.take-taken.result.reply within
-    (rw c.from.ensures at c.index_mut.ensures.value) c.take-taken.ensures.takes)))
+    rw (c.push_within.ensures.past, c.take_at-taken.ensures.noted, c.from.ensures)
+    (kept_taken c.requires.keeps (search rules) (c.events_are_kept.ensures.taken _ _ _ _ _ _ _ c.requires.keeps.keeps c.args.number c.args.message.now c.take_at-taken.result.reply
+    (slice_set c.args.self.now.nodes.items c.args.message.now.receiver c.take_at-taken.new.self) c.requires.flight (kept_runs c.requires.keeps c.args.message.now.receiver c.requires.receives)
+    (taken-at c.args.self.now.nodes.items c.args.message.now c.index_mut.result.now c.take_at-taken.new.self c.take_at-taken.result.reply within
+    (rw c.from.ensures at c.index_mut.ensures.value) c.take_at-taken.ensures.takes)))
 
 pub returns-clause-taken : goal.returns-clause-taken
 returns-clause-taken c =
     let within : c.args.message.now.receiver < length c.args.self.now.nodes.items = search rules in
     rw (c.from.ensures)
-    (taken-at c.args.self.now.nodes.items c.args.message.now c.index_mut.result.now c.take-taken.new.self c.take-taken.result.reply within
-    (rw c.from.ensures at c.index_mut.ensures.value) c.take-taken.ensures.takes)
+    (taken-at c.args.self.now.nodes.items c.args.message.now c.index_mut.result.now c.take_at-taken.new.self c.take_at-taken.result.reply within
+    (rw c.from.ensures at c.index_mut.ensures.value) c.take_at-taken.ensures.takes)

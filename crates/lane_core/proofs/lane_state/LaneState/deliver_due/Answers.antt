@@ -15,6 +15,6 @@ loop-preserved c =
           (subst (λ (n : ℕ). DeliversOne n x.late.late y.late.late (journal_of x) (journal_of y)) (ap (λ (z : LaneState). z.last) c.loop.invariant.after) (c.deliver_first.ensures.some c.loop-test.true));
       after = c.deliver_first.ensures.after ∙ ap (λ (z : LaneState). record z { journal = y.journal; nodes = y.nodes; late = y.late }) c.loop.invariant.after;
       nodes = c.deliver_first.ensures.nodes ∙ c.loop.invariant.nodes;
-      len = c.deliver_first.ensures.len ∙ c.loop.invariant.len;
+      len = (let a = c.loop.invariant.len in let b = c.deliver_first.ensures.len in omega (arith, a, b));
       capacity = (let a = c.loop.invariant.capacity in let b = c.deliver_first.ensures.capacity in omega (arith, a, b));
     }

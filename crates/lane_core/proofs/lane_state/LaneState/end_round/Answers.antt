@@ -134,7 +134,7 @@ returns-clause-keeps c =
     let keep3 = c.parts_are_told.ensures.alike _ _ _ _ _ _ _ keep2 d parts3 0 None Before
     (part-own x.lane x.rules x.parts.items d q here ∙ ends.after ∙ ap (λ (z : Part). record z { asked = 0; awaited = None; stage = Before }) (sym (part-own x.lane x.rules x.parts.items d ends.ended here)))
     (others-then x.lane x.rules x.parts.items d ends.ended q) in
-    rw (c.push_within.ensures.past, c.version.ensures.value, c.row.ensures, c.holders.ensures, c.from.ensures) (kept_more c.requires.keeps keep3)
+    rw (c.push_within.ensures.past, c.version.ensures.value, c.row.ensures, c.holders.ensures, c.from.ensures) (kept_more c.requires.keeps keep3 tt)
 
 pub returns-clause-grows : goal.returns-clause-grows
 returns-clause-grows c =

@@ -17,4 +17,4 @@ returns-clause-keeps c =
     (kept_more c.requires.keeps (c.states_are_kept.ensures.heard _ _ _ _ _ _ _ c.requires.keeps.keeps (slice_set x.parts.items d c.hear.new.self) c.args.state.now d
     c.requires.newest c.requires.idle (older-below _ _ c.requires.older)
     (heard-part x.lane x.rules (journal_of x) x.parts.items d p c.hear.new.self c.args.state.now within is (c.requires.keeps.keeps.parts_are d) c.hear.ensures)
-    (part-others x.lane x.rules x.parts.items d c.hear.new.self)))
+    (part-others x.lane x.rules x.parts.items d c.hear.new.self)) tt)

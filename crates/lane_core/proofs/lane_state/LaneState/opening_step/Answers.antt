@@ -63,7 +63,7 @@ returns-in-Open-clause-keeps c =
     let v : c.version-version.result ≡ (a.state).version = c.version-version.ensures ∙ ap (λ (z : Part). version_of z.state) same ∙ version-opened x.lane x.rules x.parts.items d p q here is c.in-Open.rows a in
     rw (c.push_within.ensures.past, c.from.ensures, c.in_ok-reserve.ensures.items, v)
     (kept_more c.requires.keeps (c.openings_are_kept.ensures _ _ _ _ _ _ _ c.requires.keeps.keeps (slice_set x.parts.items d q) d c.in-Open.rows (opens-at x.lane x.rules x.parts.items d p q here is c.in-Open.rows a)
-    (owner-at x.lane x.rules x.parts.items d p q here is (journal_of x) a.state (c.requires.keeps.keeps.parts_are d) c.requires.opening.owns (a.unopened).heard) (part-others x.lane x.rules x.parts.items d q)))
+    (owner-at x.lane x.rules x.parts.items d p q here is (journal_of x) a.state (c.requires.keeps.keeps.parts_are d) c.requires.opening.owns (a.unopened).heard) (part-others x.lane x.rules x.parts.items d q)) tt)
 
 pub returns-in-Open-clause-next : goal.returns-in-Open-clause-next
 returns-in-Open-clause-next c =

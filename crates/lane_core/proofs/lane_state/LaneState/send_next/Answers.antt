@@ -6,6 +6,7 @@ use Rattle.lane_core.specs.declared.lane_state.LaneState.{LaneState}
 use Rattle.lane_core.specs.LaneStates.{journal_of}
 use Rattle.lane_wants.specs.Wants.{Same}
 use Rattle.lane_core.specs.Steps.{SendsIn, SentIn, IsTold}
+use Rattle.lane_core.proofs.MessageKeys.{message-key}
 use Rattle.lane_core.proofs.RunningSteps.{asks-of, run-same, going-of, wrote-in, sent-in, quiet-on, quiet-same}
 use Rattle.lane_core.specs.Written.{place_of}
 use Rattle.lane_core.proofs.Entries.{finds-grown}
@@ -55,6 +56,9 @@ returns-in_err-room_for_message-clause-going g c =
 pub send_operation-requires-clause-next : goal.send_operation-requires-clause-next
 send_operation-requires-clause-next g c = subst (λ (s : Standing). next_at s ≡ Asks c.in-Some.message) (sym c.in_ok-message.ensures.kept)
     (asks-of (next_at c.args.machine.now) c.in-Some.message (sym c.in-Some.is ∙ c.in_ok-message.ensures.message))
+
+pub send_operation-requires-clause-key : goal.send_operation-requires-clause-key
+send_operation-requires-clause-key g c = message-key c.args.machine.now c.in-Some.message c.args.key (asks-of (next_at c.args.machine.now) c.in-Some.message (sym c.in-Some.is ∙ c.in_ok-message.ensures.message)) c.requires.key
 
 pub send_operation-requires-clause-sends : goal.send_operation-requires-clause-sends
 send_operation-requires-clause-sends g c =

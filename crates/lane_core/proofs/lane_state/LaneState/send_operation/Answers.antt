@@ -6,6 +6,7 @@ use Rattle.lane_carriage.specs.Waits.{numbers}
 use Rattle.lane_core.specs.declared.lane_state.LaneState.{LaneState}
 use Rattle.lane_core.specs.LaneStates.{journal_of}
 use Rattle.lane_wants.specs.Wants.{Same, More}
+use Rattle.lane_core.specs.Growing.{met_at}
 use Rattle.lane_core.specs.Steps.{GoesIn}
 use Rattle.lane_core.proofs.Going.{IsSentIn, went-by, went-carried}
 use Rattle.lane_core.proofs.Standing.{awaiting-sent}
@@ -44,7 +45,7 @@ returns-clause-carried g c =
     let d = c.deal_operation-told.new.self in
     let e = c.deliver_due.new.self in
     let sent : IsSentIn x b c.args.message = record { last = ap (λ (z : LaneState). z.last) c.send_message.ensures.after; journal = c.send_message.ensures.grows; late = ap (λ (z : LaneState). z.late.late) c.send_message.ensures.after } in
-    let w = went-by c.fate-fate.result x b d e c.args.message _ _ c.fate-fate.ensures.given sent c.deal_operation-told.ensures.dealt c.deal_operation-told.ensures.late
+    let w = went-by c.fate-fate.result c.met-met.result x b d e c.args.message _ _ c.fate-fate.ensures.given sent c.met-met.ensures.fate c.deal_operation-told.ensures.dealt c.deal_operation-told.ensures.late
     (ap (λ (z : LaneState). z.last) c.deal_operation-told.ensures.after) c.deliver_due.ensures.due c.deliver_due.ensures.none_left (ap (λ (z : LaneState). z.last) c.deliver_due.ensures.after) in
     went-carried c.late_messages_wait.ensures.waiting c.late_messages_wait.ensures.taken x e c.args.message _ _ w c.requires.carried
 
@@ -56,10 +57,10 @@ returns-clause-quiet g c =
     let e = c.deliver_due.new.self in
     let m = c.args.message in
     let sent : IsSentIn x b m = record { last = ap (λ (z : LaneState). z.last) c.send_message.ensures.after; journal = c.send_message.ensures.grows; late = ap (λ (z : LaneState). z.late.late) c.send_message.ensures.after } in
-    let w = went-by c.fate-fate.result x b d e m _ _ c.fate-fate.ensures.given sent c.deal_operation-told.ensures.dealt c.deal_operation-told.ensures.late
+    let w = went-by c.fate-fate.result c.met-met.result x b d e m _ _ c.fate-fate.ensures.given sent c.met-met.ensures.fate c.deal_operation-told.ensures.dealt c.deal_operation-told.ensures.late
     (ap (λ (z : LaneState). z.last) c.deal_operation-told.ensures.after) c.deliver_due.ensures.due c.deliver_due.ensures.none_left (ap (λ (z : LaneState). z.last) c.deliver_due.ensures.after) in
     quiet-late (journal_of x) (numbers w.late.taken) w.between (journal_of e) w.late.delivered
-    (quiet-dealt (journal_of x) w.fate (x.last + 1) (sending (x.last + 1) m ∷ journal_of x) w.between w.dealt (quiet-sent (journal_of x) (x.last + 1) m))
+    (quiet-dealt (journal_of x) (met_at (journal_of x) m w.fate) (x.last + 1) (sending (x.last + 1) m ∷ journal_of x) w.between w.dealt (quiet-sent (journal_of x) (x.last + 1) m))
 
 pub returns-clause-runs : goal.returns-clause-runs
 returns-clause-runs g c =
@@ -70,16 +71,16 @@ returns-clause-runs g c =
     let m = c.args.message in
     let t = c.args.machine.now in
     let sent : IsSentIn x b m = record { last = ap (λ (z : LaneState). z.last) c.send_message.ensures.after; journal = c.send_message.ensures.grows; late = ap (λ (z : LaneState). z.late.late) c.send_message.ensures.after } in
-    let w = went-by c.fate-fate.result x b d e m _ _ c.fate-fate.ensures.given sent c.deal_operation-told.ensures.dealt c.deal_operation-told.ensures.late
+    let w = went-by c.fate-fate.result c.met-met.result x b d e m _ _ c.fate-fate.ensures.given sent c.met-met.ensures.fate c.deal_operation-told.ensures.dealt c.deal_operation-told.ensures.late
     (ap (λ (z : LaneState). z.last) c.deal_operation-told.ensures.after) c.deliver_due.ensures.due c.deliver_due.ensures.none_left (ap (λ (z : LaneState). z.last) c.deliver_due.ensures.after) in
     let lane : e.lane ≡ x.lane = ap (λ (z : LaneState). z.lane) c.deliver_due.ensures.after ∙ ap (λ (z : LaneState). z.lane) c.deal_operation-told.ensures.after ∙ ap (λ (z : LaneState). z.lane) c.send_message.ensures.after in
     λ line row written ready st. (
       run-delivered x.lane x.rules line t.plan.operation (numbers w.late.taken) (journal_of x) w.between (journal_of e) w.late.delivered
-          (run-dealt x.lane x.rules line t.plan.operation w.fate (x.last + 1) (journal_of x) (sending (x.last + 1) m ∷ journal_of x) w.between w.dealt
+          (run-dealt x.lane x.rules line t.plan.operation (met_at (journal_of x) m w.fate) (x.last + 1) (journal_of x) (sending (x.last + 1) m ∷ journal_of x) w.between w.dealt
           (More (sending (x.last + 1) m) (journal_of x) Same (wants-sent x.lane x.rules (journal_of x) line row written t m st c.requires.next (x.last + 1) (has-written x.lane x.rules (journal_of x) line row written t m st c.requires.next ready)))),
       subst (λ (l : Low). GoesIn (record e { lane = l }) line t.plan) (sym lane)
           (going-late x.lane line t.plan (numbers w.late.taken) w.between (journal_of e) w.late.delivered
-          (going-dealt x.lane line t.plan w.fate (x.last + 1) (sending (x.last + 1) m ∷ journal_of x) w.between w.dealt
+          (going-dealt x.lane line t.plan (met_at (journal_of x) m w.fate) (x.last + 1) (sending (x.last + 1) m ∷ journal_of x) w.between w.dealt
           (going-sent x.lane line t.plan (journal_of x) (x.last + 1) m (going-of x.lane x.rules (journal_of x) line row written t st)))),
     )
 
@@ -110,6 +111,6 @@ returns-clause-entries g c =
     let e = c.deliver_due.new.self in
     let m = c.args.message in
     let sent : IsSentIn x b m = record { last = ap (λ (z : LaneState). z.last) c.send_message.ensures.after; journal = c.send_message.ensures.grows; late = ap (λ (z : LaneState). z.late.late) c.send_message.ensures.after } in
-    let w = went-by c.fate-fate.result x b d e m _ _ c.fate-fate.ensures.given sent c.deal_operation-told.ensures.dealt c.deal_operation-told.ensures.late
+    let w = went-by c.fate-fate.result c.met-met.result x b d e m _ _ c.fate-fate.ensures.given sent c.met-met.ensures.fate c.deal_operation-told.ensures.dealt c.deal_operation-told.ensures.late
     (ap (λ (z : LaneState). z.last) c.deal_operation-told.ensures.after) c.deliver_due.ensures.due c.deliver_due.ensures.none_left (ap (λ (z : LaneState). z.last) c.deliver_due.ensures.after) in
     adds-went x e m _ _ w

@@ -83,5 +83,5 @@ returns-clause-on g c =
       late = ap (λ (z : LaneState). z.late.late) c.send_message.ensures.after;
     } in
     runs-once x.lane c.args.run.now.distributor c.args.run.now.state x e c.args.message _ _ z.round z.runs.knows z.next
-    (went-by c.fate-fate.result x b d e c.args.message _ _ c.fate-fate.ensures.given sent c.deal_round.ensures.dealt c.deal_round.ensures.late
+    (went-by c.fate-fate.result c.met-met.result x b d e c.args.message _ _ c.fate-fate.ensures.given sent c.met-met.ensures.fate c.deal_round.ensures.dealt c.deal_round.ensures.late
     (ap (λ (z : LaneState). z.last) c.deal_round.ensures.after) c.deliver_due.ensures.due c.deliver_due.ensures.none_left (ap (λ (z : LaneState). z.last) c.deliver_due.ensures.after))

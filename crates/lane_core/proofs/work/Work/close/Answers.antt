@@ -30,7 +30,7 @@ returns-clause-keeps c =
     let closed : AllClosed (history (Closed e.line e.outcome ∷ journal_of x.state))
     = rw c.end_of-line.ensures.line_is (c.operations_end.ensures.closed _ _ _ _ _ _ _ c.requires.keeps.kept.keeps _ _ _ _ _ k.under_way e.outcome) in
     work-closed x c.note_end.new.self c.take.new.self j e.line e.outcome c.requires.keeps is c.in-Some.ensures.after
-    (ap (λ (z : LaneState). z.lane) after) (ap (λ (z : LaneState). z.rules) after) (ap (λ (z : LaneState). z.newest) after) (ap (λ (z : LaneState). z.spare) after)
+    (ap (λ (z : LaneState). z.lane) after) (ap (λ (z : LaneState). z.rules) after) (ap (λ (z : LaneState). z.newest) after) (ap (λ (z : LaneState). z.spare) after) c.note_end.ensures.parts
     c.note_end.ensures.keeps (c.note_end.ensures.resting c.requires.keeps.resting) c.note_end.ensures.grows c.note_end.ensures.len c.note_end.ensures.capacity closed
 
 pub returns-clause-outcome : goal.returns-clause-outcome

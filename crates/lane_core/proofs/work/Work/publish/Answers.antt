@@ -11,6 +11,7 @@ returns-clause-keeps c = record {
   kept = search rules;
   room = search rules;
   spare_is = search rules;
+  parted = search rules;
   resting = search rules;
   newest_is = search rules;
   counts_are = search rules;

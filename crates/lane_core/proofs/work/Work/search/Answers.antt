@@ -42,7 +42,7 @@ returns-clause-keeps g c =
     let j : Job = c.in-Some.job in
     let is : x.job ≡ Some j = c.in-Some.is in
     let f = c.find_row in
-    let on = onward-rested x.state f.new.self j.distributor f.ensures.after f.ensures.quiet f.ensures.resting f.ensures.others in
+    let on = onward-rested x.state f.new.self j.distributor f.ensures.after f.ensures.quiet f.ensures.resting f.ensures.others f.ensures.parts in
     rw c.spend.ensures (keeps-searched x j c.requires.keeps is c.requires.begun f.new.self f.result f.ensures.goes_on f.ensures.cut on f.ensures.keeps f.ensures.spare f.ensures.entries)
 
 pub returns-clause-searches : goal.returns-clause-searches
@@ -51,7 +51,7 @@ returns-clause-searches g c =
     let j : Job = c.in-Some.job in
     let is : x.job ≡ Some j = c.in-Some.is in
     let f = c.find_row in
-    let on = onward-rested x.state f.new.self j.distributor f.ensures.after f.ensures.quiet f.ensures.resting f.ensures.others in
+    let on = onward-rested x.state f.new.self j.distributor f.ensures.after f.ensures.quiet f.ensures.resting f.ensures.others f.ensures.parts in
     if_ok f.result (λ end h. λ planned takes. rw c.spend.ensures (went-searched x j c.requires.keeps is c.requires.begun f.new.self f.result f.ensures.goes_on f.ensures.cut on _ _ planned takes h)) f.ensures.goes_on
 
 pub returns-clause-comes : goal.returns-clause-comes
@@ -60,7 +60,7 @@ returns-clause-comes g c =
     let j : Job = c.in-Some.job in
     let is : x.job ≡ Some j = c.in-Some.is in
     let f = c.find_row in
-    let on = onward-rested x.state f.new.self j.distributor f.ensures.after f.ensures.quiet f.ensures.resting f.ensures.others in
+    let on = onward-rested x.state f.new.self j.distributor f.ensures.after f.ensures.quiet f.ensures.resting f.ensures.others f.ensures.parts in
     if_ok f.result (λ end h. rw c.spend.ensures (comes-searched x j c.requires.keeps is c.requires.begun f.new.self f.result f.ensures.goes_on f.ensures.cut on end h)) f.ensures.finds
 
 pub returns-clause-cut : goal.returns-clause-cut
@@ -69,5 +69,5 @@ returns-clause-cut g c =
     let j : Job = c.in-Some.job in
     let is : x.job ≡ Some j = c.in-Some.is in
     let f = c.find_row in
-    let on = onward-rested x.state f.new.self j.distributor f.ensures.after f.ensures.quiet f.ensures.resting f.ensures.others in
+    let on = onward-rested x.state f.new.self j.distributor f.ensures.after f.ensures.quiet f.ensures.resting f.ensures.others f.ensures.parts in
     on_err f.result (λ h. λ planned takes. rw c.spend.ensures (cut-searched x j c.requires.keeps is c.requires.begun f.new.self f.result f.ensures.goes_on f.ensures.cut on _ _ planned takes h)) f.ensures.cut

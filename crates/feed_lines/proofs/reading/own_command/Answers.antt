@@ -1,0 +1,15 @@
+use Rattle.serde_json.specs.View.{view}
+use Rattle.feed_lines.proofs.SettingLaws.{state_is, stop_is, start_is, net_is}
+use Rattle.feed_lines.proofs.reading.own_command.Goals as goal
+
+pub returns-in-State : goal.returns-in-State
+returns-in-State c = rw c.in-State.is (rw (state_is c.args.schema.now c.args.bits (view c.args.line.now)) at c.state_command.ensures)
+
+pub returns-in-Stop : goal.returns-in-Stop
+returns-in-Stop c = rw c.in-Stop.is (rw (stop_is c.args.schema.now c.args.bits (view c.args.line.now)) at c.stop_command.ensures)
+
+pub returns-in-Start : goal.returns-in-Start
+returns-in-Start c = rw c.in-Start.is (rw (start_is c.args.schema.now c.args.bits (view c.args.line.now)) at c.start_command.ensures)
+
+pub returns-in-Net : goal.returns-in-Net
+returns-in-Net c = rw c.in-Net.is (rw (net_is c.args.schema.now c.args.bits (view c.args.line.now)) at c.net_command.ensures)

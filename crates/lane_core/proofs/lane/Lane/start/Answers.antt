@@ -1,0 +1,4 @@
+use Rattle.lane_core.proofs.lane.Lane.start.Goals as goal
+
+pub returns : goal.returns
+returns g c = rw (← c.self.view_is) (c.start.ensures.after (g.C.Carrier.given c.self.inside.carrier) (g.C.Carrier.planned c.self.inside.carrier) (g.C.Carrier.takes_plans c.self.inside.carrier))

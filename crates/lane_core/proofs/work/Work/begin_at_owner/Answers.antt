@@ -1,0 +1,47 @@
+use Rattle.std.proofs.Common.{◌≡◌, ◌∙◌, List, Some, refl, sym, ap, subst}
+use Rattle.bucket_ids.specs.Buckets.{Low}
+use Rattle.ideal_nodes.specs.Placement.{IsOwner}
+use Rattle.lane_journals.specs.KeptJournals.{past}
+use Rattle.lane_journals.specs.declared.event.LaneEvent.{LaneEvent}
+use Rattle.lane_keeping.specs.Acting.{IsActing}
+use Rattle.lane_core.specs.declared.work.Work.{Work}
+use Rattle.lane_core.specs.Growing.{heard_next}
+use Rattle.lane_core.specs.LaneStates.{journal_of}
+use Rattle.lane_core.specs.LaneValues.{LaneValue}
+use Rattle.lane_core.specs.Works.{begun_by}
+use Rattle.lane_core.proofs.Idling.{fresh-heard}
+use Rattle.lane_core.proofs.work.Work.begin_at_owner.Goals as goal
+
+pub note_begun-requires-clause-fresh : goal.note_begun-requires-clause-fresh
+note_begun-requires-clause-fresh c =
+    let J : List LaneEvent = journal_of c.args.self.now.state in
+    let d = c.owner_by-owner.result in
+    let s = c.in-Some.state in
+    let same : journal_of c.need_part.new.self.state ≡ J = ap (λ (w : Work). journal_of w.state) c.need_part.ensures.after ∙ ap past c.room_to_begin.ensures.items in
+    rw (c.hear_within.ensures.grows ∙ ap (λ (K : List LaneEvent). heard_next d (Some s) K) same) (fresh-heard J d s c.args.line c.requires.fresh)
+
+pub note_begun-requires-clause-room : goal.note_begun-requires-clause-room
+note_begun-requires-clause-room c = c.hear_within.ensures.room 2 (rw c.need_part.ensures.after c.in_ok-room_to_begin.ensures.room)
+
+pub returns-clause-ok : goal.returns-clause-ok
+returns-clause-ok c = λ given planned takes.
+    let x = c.args.self.now in
+    let J : List LaneEvent = journal_of x.state in
+    let d = c.owner_by-owner.result in
+    let s = c.in-Some.state in
+    let o = c.args.operation.now in
+    let same : journal_of c.need_part.new.self.state ≡ J = ap (λ (w : Work). journal_of w.state) c.need_part.ensures.after ∙ ap past c.room_to_begin.ensures.items in
+    let grows : journal_of c.hear_within.new.self.state ≡ heard_next d (Some s) J = c.hear_within.ensures.grows ∙ ap (λ (K : List LaneEvent). heard_next d (Some s) K) same in
+    let lane : c.need_part.new.self.state.lane ≡ x.state.lane = ap (λ (w : Work). w.state.lane) c.need_part.ensures.after ∙ ap (λ (w : Work). w.state.lane) c.room_to_begin.ensures.after in
+    record {
+      owner = d;
+      state = s;
+      newest = sym c.requires.keeps.newest_is ∙ c.in-Some.is;
+      heard = heard_next d (Some s) J;
+      heard_is = refl;
+      acting = subst (λ (K : List LaneEvent). IsActing x.state.lane K d s) grows
+          (subst (λ (b : Low). IsActing b (journal_of c.hear_within.new.self.state) d s) lane (c.hear_within.ensures.acting (subst (λ (b : Low). IsOwner b s d) (sym lane) c.owner_by-owner.ensures)));
+      after = (rw c.in_ok-copy.ensures at (c.note_begun.ensures.begun given planned takes))
+          ∙ ap (λ (v : LaneValue). begun_by c.args.line o d s.version v) (c.hear_within.ensures.heard given planned takes)
+          ∙ ap (λ (v : LaneValue). begun_by c.args.line o d s.version (record v { journal = heard_next d (Some s) v.journal })) (c.need_part.ensures.same given planned takes ∙ c.room_to_begin.ensures.same given planned takes);
+    }

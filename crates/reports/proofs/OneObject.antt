@@ -1,0 +1,168 @@
+-- A report is one object with rising keys.
+use Rattle.std.proofs.Common.{◌≡◌, ℕ, ◌+◌, ◌<◌, ◌≤◌, ◌^◌, ℤ, pos, negsuc, Bool, true, false, List, [], ◌∷◌, ◌++◌, codes, Option, Some, None, refl, sym, ap, ◌∙◌, arith, decimal, max, map, suc}
+use Rattle.std.specs.FinMap as fin
+use Rattle.std.specs.List.{AllByRecursion}
+use Rattle.json.specs.Json as json
+use Rattle.json.specs.Tree.{depth, items_depth, members_depth, HasNumbers, ItemsHaveNumbers, MembersHaveNumbers, json_tokens}
+use Rattle.json.specs.Print.{print}
+use Rattle.json.proofs.Printed.Decimals.{IsNumber-decimal, IsNumber-signed_decimal}
+use Rattle.json.proofs.Printed.Trees.{document-print}
+use Rattle.serde_json.specs.Data.{Data, object, string, Members, no_members, member}
+use Rattle.serde_json.specs.Written.{compact_text, outline, items_outline, members_outline}
+use Rattle.serde_json.specs.View.{items_of}
+use Rattle.serde_json.proofs.Texts.{print-outline}
+use Rattle.stamps.specs.declared.stamp.Stamp.{Stamp}
+use Rattle.doc_types.specs.SchemaCodes.{Types}
+use Rattle.doc_types.specs.declared.values.FieldValue.{FieldValue}
+use Rattle.doc_types.specs.declared.values.FieldValue.TheVariants.{Int, Text, Ints, Texts}
+use Rattle.documents.specs.Json.{number_json, value_json, members_json}
+use Rattle.doc_updates.specs.declared.fault.UpdateFault.{UpdateFault}
+use Rattle.doc_updates.specs.declared.fault.UpdateFault.TheVariants as fault
+use Rattle.reports.specs.ReportText.{line_text, acked_members, found_members, seen_of, missing_members, condition_failed_members, nothing_members, field_fault_members, size_fault_members, result_members, bad_update_members, too_few_members, owned_elsewhere_members, bad_line_members, published_members, not_newer_members, too_few_up_members, too_many_out_members, count_members, planned_members, members_of, report_text}
+use Rattle.reports.specs.Telling.{are_rising, IsOneObject, IsCount, IsInt, HasInts, CanBe}
+use Rattle.reports.specs.declared.answer.Answer.{Answer}
+use Rattle.reports.specs.declared.answer.Answer.TheVariants as answer
+
+-- ---- the values of a document
+
+int_text : (z : ℤ) → IsInt z → HasNumbers (outline (number_json z))
+int_text (pos n) h = IsNumber-decimal n (omega arith)
+int_text (negsuc n) h = IsNumber-signed_decimal (negsuc n) h
+
+ints_text : (zs : List ℤ) → AllByRecursion IsInt zs → ItemsHaveNumbers (items_outline (items_of (map number_json zs)))
+ints_text [] h = tt
+ints_text (z ∷ zs) h = (int_text z h.0, ints_text zs h.1)
+
+texts_text : (ts : List (List ℕ)) → ItemsHaveNumbers (items_outline (items_of (map string ts)))
+texts_text [] = tt
+texts_text (t ∷ ts) = (tt, texts_text ts)
+
+value_text : (v : FieldValue) → HasInts v → HasNumbers (outline (value_json v))
+value_text (Int z) h = int_text z h
+value_text (Text t) h = tt
+value_text (Ints zs) h = ints_text zs h
+value_text (Texts ts) h = texts_text ts
+
+pub fields_text : (es : List (List ℕ × FieldValue)) → AllByRecursion (λ e. HasInts e.1) es → MembersHaveNumbers (members_outline (members_json es))
+fields_text [] h = tt
+fields_text (e ∷ es) h = (value_text e.1 h.0, fields_text es h.1)
+
+flat_ints : (zs : List ℤ) → items_depth (items_outline (items_of (map number_json zs))) ≡ 0
+flat_ints [] = refl
+flat_ints (z ∷ zs) = omega (arith, flat_ints zs)
+
+flat_texts : (ts : List (List ℕ)) → items_depth (items_outline (items_of (map string ts))) ≡ 0
+flat_texts [] = refl
+flat_texts (t ∷ ts) = omega (arith, flat_texts ts)
+
+value_depth : (v : FieldValue) → depth (outline (value_json v)) ≤ 1
+value_depth (Int z) = omega arith
+value_depth (Text t) = omega arith
+value_depth (Ints zs) = omega (arith, flat_ints zs)
+value_depth (Texts ts) = omega (arith, flat_texts ts)
+
+pub fields_depth : (es : List (List ℕ × FieldValue)) → members_depth (members_outline (members_json es)) ≤ 1
+fields_depth [] = omega arith
+fields_depth (e ∷ es) = omega (arith, value_depth e.1, fields_depth es)
+
+-- ---- the numbers of a report
+
+seen_text : (seen : Option Stamp) → HasNumbers (outline (seen_of seen))
+seen_text None = tt
+seen_text (Some stamp) = tt
+
+pub have_numbers : (types : Types) (line : ℕ) (a : Answer) → IsCount line → CanBe types a → MembersHaveNumbers (members_outline (members_of line a))
+unfolding acked_members found_members missing_members condition_failed_members nothing_members field_fault_members size_fault_members result_members too_few_members owned_elsewhere_members bad_line_members published_members not_newer_members too_few_up_members too_many_out_members count_members planned_members
+have_numbers types line (answer.Acked stamp) l h = (IsNumber-decimal line l, (tt, (tt, tt)))
+have_numbers types line (answer.Found id document stamp) l h = (fields_text (fin.entries document.fields) h.0.ints, (tt, (IsNumber-decimal line l, (tt, (tt, tt)))))
+have_numbers types line (answer.Missing seen) l h = (IsNumber-decimal line l, (tt, (seen_text seen, tt)))
+have_numbers types line answer.Nothing l h = (tt, (IsNumber-decimal line l, (tt, tt)))
+have_numbers types line (answer.ConditionFailed seen) l h = (IsNumber-decimal line l, (tt, (seen_text seen, tt)))
+have_numbers types line (answer.BadUpdate (fault.ZeroDivisor field)) l h = (tt, (tt, (IsNumber-decimal line l, (tt, tt))))
+have_numbers types line (answer.BadUpdate (fault.Overflow field)) l h = (tt, (tt, (IsNumber-decimal line l, (tt, tt))))
+have_numbers types line (answer.BadUpdate (fault.TooMany field)) l h = (tt, (tt, (IsNumber-decimal line l, (tt, tt))))
+have_numbers types line (answer.BadUpdate (fault.TooLarge size)) l h = (tt, (IsNumber-decimal line l, (tt, (IsNumber-decimal size h, tt))))
+have_numbers types line (answer.BadUpdate fault.NoMemory) l h = absurd h
+have_numbers types line (answer.TooFew answered needed absent) l h = (IsNumber-decimal absent h.2, (IsNumber-decimal answered h.0, (IsNumber-decimal line l, (IsNumber-decimal needed h.1, (tt, tt)))))
+have_numbers types line (answer.OwnedElsewhere owner version) l h = (IsNumber-decimal line l, (IsNumber-decimal owner h.0, (tt, (IsNumber-decimal version h.1, tt))))
+have_numbers types line answer.NoMemory l h = (IsNumber-decimal line l, (tt, tt))
+have_numbers types line (answer.BadLine why) l h = (tt, (IsNumber-decimal line l, (tt, tt)))
+have_numbers types line answer.TooLong l h = (IsNumber-decimal line l, (tt, tt))
+have_numbers types line (answer.Published version) l h = (IsNumber-decimal line l, (tt, (IsNumber-decimal version h, tt)))
+have_numbers types line (answer.BadState offset) l h = (IsNumber-decimal line l, (IsNumber-decimal offset h, (tt, tt)))
+have_numbers types line (answer.NotNewer have) l h = (IsNumber-decimal have h, (IsNumber-decimal line l, (tt, tt)))
+have_numbers types line answer.NoDistributor l h = (IsNumber-decimal line l, (tt, tt))
+have_numbers types line (answer.TooFewUp up acks) l h = (IsNumber-decimal acks h.1, (IsNumber-decimal line l, (tt, (IsNumber-decimal up h.0, tt))))
+have_numbers types line (answer.TooManyOut out acks) l h = (IsNumber-decimal acks h.1, (IsNumber-decimal line l, (IsNumber-decimal out h.0, (tt, tt))))
+have_numbers types line (answer.Stopped node) l h = (IsNumber-decimal line l, (IsNumber-decimal node h, (tt, tt)))
+have_numbers types line (answer.Started node) l h = (IsNumber-decimal line l, (IsNumber-decimal node h, (tt, tt)))
+have_numbers types line (answer.Planned taken) l h = (IsNumber-decimal line l, (tt, (tt, tt)))
+
+seen_depth : (seen : Option Stamp) → depth (outline (seen_of seen)) ≡ 0
+seen_depth None = refl
+seen_depth (Some stamp) = refl
+
+pub is_shallow : (line : ℕ) (a : Answer) → members_depth (members_outline (members_of line a)) ≤ 2
+unfolding acked_members found_members missing_members condition_failed_members nothing_members field_fault_members size_fault_members result_members too_few_members owned_elsewhere_members bad_line_members published_members not_newer_members too_few_up_members too_many_out_members count_members planned_members
+is_shallow line (answer.Acked stamp) = omega arith
+is_shallow line (answer.Found id document stamp) = omega (arith, fields_depth (fin.entries document.fields))
+is_shallow line (answer.Missing seen) = omega (arith, seen_depth seen)
+is_shallow line answer.Nothing = omega arith
+is_shallow line (answer.ConditionFailed seen) = omega (arith, seen_depth seen)
+is_shallow line (answer.BadUpdate (fault.ZeroDivisor field)) = omega arith
+is_shallow line (answer.BadUpdate (fault.Overflow field)) = omega arith
+is_shallow line (answer.BadUpdate (fault.TooMany field)) = omega arith
+is_shallow line (answer.BadUpdate (fault.TooLarge size)) = omega arith
+is_shallow line (answer.BadUpdate fault.NoMemory) = omega arith
+is_shallow line (answer.TooFew answered needed absent) = omega arith
+is_shallow line (answer.OwnedElsewhere owner version) = omega arith
+is_shallow line answer.NoMemory = omega arith
+is_shallow line (answer.BadLine why) = omega arith
+is_shallow line answer.TooLong = omega arith
+is_shallow line (answer.Published version) = omega arith
+is_shallow line (answer.BadState offset) = omega arith
+is_shallow line (answer.NotNewer have) = omega arith
+is_shallow line answer.NoDistributor = omega arith
+is_shallow line (answer.TooFewUp up acks) = omega arith
+is_shallow line (answer.TooManyOut out acks) = omega arith
+is_shallow line (answer.Stopped node) = omega arith
+is_shallow line (answer.Started node) = omega arith
+is_shallow line (answer.Planned taken) = omega arith
+
+pub is_rising : (line : ℕ) (a : Answer) → are_rising (members_of line a) ≡ true
+unfolding acked_members found_members missing_members condition_failed_members nothing_members field_fault_members size_fault_members result_members too_few_members owned_elsewhere_members bad_line_members published_members not_newer_members too_few_up_members too_many_out_members count_members planned_members
+is_rising line (answer.Acked stamp) = refl
+is_rising line (answer.Found id document stamp) = refl
+is_rising line (answer.Missing seen) = refl
+is_rising line answer.Nothing = refl
+is_rising line (answer.ConditionFailed seen) = refl
+is_rising line (answer.BadUpdate (fault.ZeroDivisor field)) = refl
+is_rising line (answer.BadUpdate (fault.Overflow field)) = refl
+is_rising line (answer.BadUpdate (fault.TooMany field)) = refl
+is_rising line (answer.BadUpdate (fault.TooLarge size)) = refl
+is_rising line (answer.BadUpdate fault.NoMemory) = refl
+is_rising line (answer.TooFew answered needed absent) = refl
+is_rising line (answer.OwnedElsewhere owner version) = refl
+is_rising line answer.NoMemory = refl
+is_rising line (answer.BadLine why) = refl
+is_rising line answer.TooLong = refl
+is_rising line (answer.Published version) = refl
+is_rising line (answer.BadState offset) = refl
+is_rising line (answer.NotNewer have) = refl
+is_rising line answer.NoDistributor = refl
+is_rising line (answer.TooFewUp up acks) = refl
+is_rising line (answer.TooManyOut out acks) = refl
+is_rising line (answer.Stopped node) = refl
+is_rising line (answer.Started node) = refl
+is_rising line (answer.Planned taken) = refl
+
+-- ---- the bytes
+
+pub object_read : (types : Types) (line : ℕ) (a : Answer) → IsCount line → CanBe types a → json.document (compact_text (object (members_of line a))) ≡ Some (json.object (members_outline (members_of line a)))
+object_read types line a l h =
+    ap json.document (sym (print-outline (object (members_of line a))))
+    ∙ document-print (json.object (members_outline (members_of line a))) (have_numbers types line a l h) (omega (arith, is_shallow line a))
+
+pub one_object : (types : Types) (line : ℕ) (a : Answer) → IsCount line → CanBe types a → IsOneObject (report_text line a) (members_of line a)
+unfolding line_text
+one_object types line a l h = record { text = compact_text (object (members_of line a)); line = refl; object = object_read types line a l h; rising = is_rising line a }
