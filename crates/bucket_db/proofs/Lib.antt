@@ -1,5 +1,6 @@
 pub mod Coarsest
 pub mod Counts
+pub mod Deletes
 pub mod Inside
 pub mod Moves
 pub mod RowLaws

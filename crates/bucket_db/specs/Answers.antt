@@ -30,4 +30,4 @@ pub record IsCoarsest (lane : Low) (answers rows : List Low) : Type 0 where
 
 -- a row without marks, active node and Delete
 abbrev pub new_row : Low → Row
-new_row b = record { bucket = b; complete = 0; active = None; deleting = None }
+new_row b = record { bucket = b; complete = 0; active = None; accepted = false; deleting = None }

@@ -1,10 +1,11 @@
 -- What the calls make of the rows.
-use Rattle.std.specs.Prelude.{◌≡◌, ◌⊎◌, ℕ, zero, suc, ◌<◌, ◌&&◌, not, nat_lt, List, [], ◌∷◌, Option, Some, None, slice_get, IfSome, if◌then◌else◌}
+use Rattle.std.specs.Prelude.{◌≡◌, ◌⊎◌, ◌==◌, ℕ, zero, suc, ◌<◌, Bool, ◌&&◌, not, nat_lt, List, [], ◌∷◌, Option, Some, None, slice_get, IfSome, if◌then◌else◌}
 use Rattle.std.specs.List.{Contains, filter, remove}
 use Rattle.bucket_ids.specs.Buckets.{Low, covers, first_child, second_child, parent_of, sibling_of}
 use Rattle.bucket_ids.specs.Printed.{number_of}
 use Rattle.node_sets.specs.Members.{has_node}
 use Rattle.bucket_db.specs.Rows.{Rows}
+use Rattle.bucket_db.specs.declared.row.Deleting.{Deleting}
 use Rattle.bucket_db.specs.declared.row.Row.{Row}
 
 -- x comes before the first of a greater or equal number
@@ -32,12 +33,14 @@ with_halves (Some r) rest = with_row (second_half r) (with_row (first_half r) re
 abbrev pub split_at : ℕ → List Row → List Row
 split_at at rows = with_halves (slice_get rows at) (remove rows at)
 
--- the row that two siblings make: the common marks, the active node of both, and the Delete of either
+-- the row that two siblings make: the common marks, the active node of both, which accepted where it did so in
+-- both, and the Delete of either
 pub record IsJoined (row other joined : Row) : Type 0 where
   pub bucket : joined.bucket ≡ parent_of row.bucket
   pub complete : (node : ℕ)
       → has_node joined.complete node ≡ (has_node row.complete node && has_node other.complete node)
   pub active : joined.active ≡ row.active
+  pub accepted : joined.accepted ≡ (row.accepted && other.accepted)
   pub own_delete : other.deleting ≡ None → joined.deleting ≡ row.deleting
   pub other_delete : row.deleting ≡ None → joined.deleting ≡ other.deleting
 
@@ -67,6 +70,18 @@ abbrev pub at_row : ℕ → (Row → Row) → List Row → List Row
 at_row at change [] = []
 at_row zero change (r ∷ rows) = change r ∷ rows
 at_row (suc at) change (r ∷ rows) = r ∷ at_row at change rows
+
+-- the Delete is for the bucket and to the node
+abbrev pub is_delete : Low → ℕ → Deleting → Bool
+is_delete bucket node d = (d.bucket.bits == bucket.bits && d.bucket.low == bucket.low) && d.node == node
+
+-- such a Delete has its answer, any other hasn't
+abbrev pub after_delete : Low → ℕ → Option Deleting → Option Deleting
+after_delete bucket node None = None
+after_delete bucket node (Some d) = if is_delete bucket node d then None else Some d
+
+abbrev pub without_delete : Low → ℕ → Row → Row
+without_delete bucket node r = record r { deleting = after_delete bucket node r.deleting }
 
 -- the lane with other rows
 abbrev pub with_rows : Rows → List Row → Rows

@@ -1,8 +1,8 @@
 -- The rows of a lane: a partition of its keys into buckets, in rising number.
-use Rattle.std.specs.Prelude.{◌≡◌, ℕ, ◌^◌, ◌<◌, List, Option, map, refl, if◌then◌else◌}
+use Rattle.std.specs.Prelude.{◌≡◌, ℕ, Bool, ◌^◌, ◌<◌, List, Option, map, refl, if◌then◌else◌}
 use Rattle.std.specs.List.{AllByRecursion, count_by}
 use Rattle.std.specs.List.Sorted.{IsStrictlyIncreasing}
-use Rattle.std.specs.Coded.{Coded, code_by, coded×, coded_ℕ, coded_list, coded_option}
+use Rattle.std.specs.Coded.{Coded, code_by, coded×, coded_ℕ, coded_bool, coded_list, coded_option}
 use Rattle.bucket_ids.specs.Buckets.{Low, IsBucket, has_key}
 use Rattle.bucket_ids.specs.Printed.{number_of}
 use Rattle.bucket_db.specs.declared.row.Deleting.{Deleting}
@@ -23,10 +23,10 @@ deleting_code = code_by (Low × (ℕ × ℕ)) (coded× low_code (coded× coded_�
     (λ p. record { bucket = p.0; node = p.1.0; serial = p.1.1 }) (λ _. refl)
 
 abbrev pub row_code : Coded Row
-row_code = code_by (Low × (ℕ × (Option ℕ × Option Deleting)))
-    (coded× low_code (coded× coded_ℕ (coded× (coded_option coded_ℕ) (coded_option deleting_code))))
-    (λ r. (r.bucket, (r.complete, (r.active, r.deleting))))
-    (λ p. record { bucket = p.0; complete = p.1.0; active = p.1.1.0; deleting = p.1.1.1 }) (λ _. refl)
+row_code = code_by (Low × (ℕ × (Option ℕ × (Bool × Option Deleting))))
+    (coded× low_code (coded× coded_ℕ (coded× (coded_option coded_ℕ) (coded× coded_bool (coded_option deleting_code)))))
+    (λ r. (r.bucket, (r.complete, (r.active, (r.accepted, r.deleting)))))
+    (λ p. record { bucket = p.0; complete = p.1.0; active = p.1.1.0; accepted = p.1.1.1.0; deleting = p.1.1.1.1 }) (λ _. refl)
 
 abbrev pub rows_code : Coded Rows
 rows_code = code_by (Low × List Row) (coded× low_code (coded_list row_code)) (λ d. (d.lane, d.rows))

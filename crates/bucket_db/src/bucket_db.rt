@@ -1,8 +1,8 @@
-ghost use Rattle.std.specs.Prelude.{◌≡◌, ℕ, ◌<◌, length, true, map, slice_get, Some, IsTrue, ◌↔◌, IfSome, IfOk, OnOk, OnErr};
+ghost use Rattle.std.specs.Prelude.{◌≡◌, ℕ, ◌<◌, length, true, false, map, slice_get, Some, IsTrue, ◌↔◌, IfSome, IfOk, OnOk, OnErr};
 ghost use Rattle.bucket_ids.specs.Buckets.{has_key, IsIn};
 ghost use Rattle.bucket_db.specs.Rows.{AreRows, buckets_of};
 ghost use Rattle.bucket_db.specs.Answers.{IsCoarsest, new_row};
-ghost use Rattle.bucket_db.specs.Changes.{split_at, with_rows, with_joined, IsJoinable, IsJoined, CanJoin, at_row};
+ghost use Rattle.bucket_db.specs.Changes.{split_at, with_rows, with_joined, IsJoinable, IsJoined, CanJoin, at_row, without_delete};
 ghost use Rattle.bucket_db.specs.declared.row.Row.{Row};
 
 use crate::row::{Deleting, Row, new_rows};
@@ -92,21 +92,19 @@ impl BucketDb {
     }
 
     /// Joins a row with its sibling, where that is a row too: common marks stay, and the Delete of
-    /// either.
+    /// either. Takes no memory.
     #[tactic(auto, using(crate::proofs::RowLists::rises_of_rising))]
-    pub fn join_rows(&mut self, at: usize) -> Result<(), NoMemory>
+    pub fn join_rows(&mut self, at: usize)
         requires place { at < length self.old.rows }
         requires joinable { CanJoin self.old at }
-        ensures ok { (row other : Row) → slice_get self.old.rows at ≡ Some row
+        ensures { (row other : Row) → slice_get self.old.rows at ≡ Some row
             → IsJoinable self.old.lane self.old.rows row other
-            → OnOk result ((joined : Row) × IsJoined row other joined
-            × (self.new ≡ with_rows self.old (with_joined joined self.old.rows))) }
-        ensures err { OnErr result (self.new ≡ self.old) }
+            → (joined : Row) × IsJoined row other joined
+            × (self.new ≡ with_rows self.old (with_joined joined self.old.rows)) }
     {
         let sibling = self.rows[at].bucket.sibling();
         let other = search::place_of(&self.rows, sibling.low());
         changes::join_at(&mut self.rows, at, other);
-        Ok(())
     }
 
     /// Says which nodes are complete members of a row.
@@ -118,13 +116,24 @@ impl BucketDb {
         self.rows[at].complete = complete;
     }
 
-    /// Says that a node is a row's active one.
+    /// Says that a node is a row's active one; it hasn't accepted that yet.
     pub fn set_active(&mut self, at: usize, node: u8)
         requires { at < length self.old.rows }
         ensures { self.new ≡ with_rows self.old
-            (at_row at (λ row. record row { active = Some node }) self.old.rows) }
+            (at_row at (λ row. record row { active = Some node; accepted = false }) self.old.rows) }
     {
-        self.rows[at].active = Some(node);
+        let row = &mut self.rows[at];
+        row.active = Some(node);
+        row.accepted = false;
+    }
+
+    /// Says that a row's active node accepted its activation.
+    pub fn set_accepted(&mut self, at: usize)
+        requires { at < length self.old.rows }
+        ensures { self.new ≡ with_rows self.old
+            (at_row at (λ row. record row { accepted = true }) self.old.rows) }
+    {
+        self.rows[at].accepted = true;
     }
 
     /// Says which Delete of a row has no answer.
@@ -134,5 +143,12 @@ impl BucketDb {
             (at_row at (λ row. record row { deleting = deleting }) self.old.rows) }
     {
         self.rows[at].deleting = deleting;
+    }
+
+    /// The Delete of a bucket to a node has its answer: no row has it any more.
+    pub fn end_deletes(&mut self, bucket: Bucket, node: u8)
+        ensures { self.new ≡ with_rows self.old (map (without_delete bucket node) self.old.rows) }
+    {
+        changes::end_deletes(&mut self.rows, bucket, node);
     }
 }

@@ -1,8 +1,8 @@
-ghost use Rattle.std.specs.Prelude.{◌≡◌, ◌⊎◌, ◌+◌, ◌<◌, ◌≤◌, length, Some, None, IsTrue, ◌↔◌, OnOk, OnErr, IfSome, slice_get, vec_len, vec_capacity};
+ghost use Rattle.std.specs.Prelude.{◌≡◌, ◌⊎◌, ◌+◌, ◌<◌, ◌≤◌, length, map, Some, None, IsTrue, ◌↔◌, OnOk, OnErr, IfSome, slice_get, vec_len, vec_capacity};
 ghost use Rattle.std.specs.List.{insert, remove};
 ghost use Rattle.bucket_db.specs.Order.{AreHalves, RisesFrom};
 ghost use Rattle.bucket_db.specs.Rows.{buckets_of};
-ghost use Rattle.bucket_db.specs.Changes.{with_row, split_at, with_joined, IsJoined, MayJoin};
+ghost use Rattle.bucket_db.specs.Changes.{with_row, split_at, with_joined, IsJoined, MayJoin, is_delete, after_delete, without_delete};
 ghost use Rattle.bucket_db.specs.declared.row.Row.{Row};
 
 use crate::row::{Deleting, Row, number_of};
@@ -132,6 +132,7 @@ fn joined(row: &Row, other: &Row) -> Row
         bucket: row.bucket.parent(),
         complete: row.complete.intersection(other.complete),
         active: row.active,
+        accepted: row.accepted && other.accepted,
         deleting: either(row.deleting, other.deleting),
     }
 }
@@ -168,6 +169,33 @@ pub fn may_join(row: &Row, sibling: Bucket, other: &Row) -> bool
         return false;
     }
     same_active(row.active, other.active)
+}
+
+/// Whether a Delete is for the bucket and to the node.
+fn is_delete(bucket: Bucket, node: u8, deleting: &Deleting) -> bool
+    ensures { result ≡ is_delete bucket node deleting.now }
+{
+    let same = deleting.bucket.bits() == bucket.bits() && deleting.bucket.low() == bucket.low();
+    same && deleting.node == node
+}
+
+/// What stays unanswered once the Delete of the bucket to the node has its answer.
+fn after_delete(bucket: Bucket, node: u8, deleting: Option<Deleting>) -> Option<Deleting>
+    ensures { result ≡ after_delete bucket node deleting }
+{
+    match deleting {
+        Some(deleting) if is_delete(bucket, node, &deleting) => None,
+        _ => deleting,
+    }
+}
+
+/// The Delete of the bucket to the node has its answer, in each row that has it.
+pub fn end_deletes(rows: &mut [Row], bucket: Bucket, node: u8)
+    ensures { rows.new ≡ map (without_delete bucket node) rows.old }
+{
+    for row in rows.iter_mut() {
+        row.deleting = after_delete(bucket, node, row.deleting);
+    }
 }
 
 /// Two places, the lesser first.

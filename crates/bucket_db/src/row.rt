@@ -24,6 +24,8 @@ pub struct Row {
     pub complete: NodeSet,
     /// The active node, where it is decided.
     pub active: Option<u8>,
+    /// Whether the active node accepted its activation.
+    pub accepted: bool,
     /// The unanswered Delete.
     pub deleting: Option<Deleting>,
 }
@@ -36,6 +38,7 @@ pub fn new_row(bucket: Bucket) -> Row
         bucket,
         complete: NodeSet::of(0),
         active: None,
+        accepted: false,
         deleting: None,
     }
 }

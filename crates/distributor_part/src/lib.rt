@@ -7,7 +7,9 @@
 //! (`specs/Steps.antt`) says which step comes next and what it leaves; the other words there say what an
 //! answer, a round that is over and an acknowledged close make of the part.
 //!
-//! Upkeep isn't built yet: a step has the condition that the job is `Prepare`.
+//! For upkeep a lane asks no steps, and so a step has the condition that the job is `Prepare`: it says itself
+//! what it does to the rows, by calls that begin a round, split, join, activate and delete (`specs/Upkeep.antt`),
+//! and asks where the replicas of a row are to be and which nodes are to be ready.
 //!
 //! ```text
 //! let mut part = DistributorPart::new(alloc, 0, lane, rules);
@@ -24,6 +26,8 @@
 //!         Step::Finished { missing } => break,
 //!     }
 //! }
+//! let receivers = part.begin_round(at);       // upkeep: a round of the row of a place
+//! part.split_row(at)?;                        // and what is decided of it
 //! ```
 #![tactic(auto)]
 
@@ -32,6 +36,7 @@ pub mod part;
 pub mod rules;
 pub mod stage;
 mod targets;
+pub mod upkeep;
 
 pub use part::DistributorPart;
 pub use rules::Rules;

@@ -27,14 +27,14 @@ use value_lists::NoMemory;
 pub struct DistributorPart {
     number: u8,
     lane: Bucket,
-    rules: Rules,
-    state: Option<ClusterState>,
+    pub(crate) rules: Rules,
+    pub(crate) state: Option<ClusterState>,
     answered: NodeSet,
     shown: Vec<Bucket>,
     asked: NodeSet,
     awaited: Option<u8>,
-    rows: Option<BucketDb>,
-    stage: Stage,
+    pub(crate) rows: Option<BucketDb>,
+    pub(crate) stage: Stage,
 }
 
 impl Model for DistributorPart {

@@ -1,9 +1,10 @@
-ghost use Rattle.std.specs.Prelude.{◌≡◌, ◌↔◌, ◌⊎◌, ℕ, ◌<◌, true, take, Some, IfSome};
+ghost use Rattle.std.specs.Prelude.{◌≡◌, ◌↔◌, ◌⊎◌, ℕ, ◌<◌, true, false, take, Some, None, IfSome, IfNone, codes};
 ghost use Rattle.node_sets.specs.Members.{has_node};
-ghost use Rattle.ideal_nodes.specs.Scores.{Has};
-ghost use Rattle.distributor_part.specs.Targets.{AreTargets, AreSmall};
+ghost use Rattle.ideal_nodes.specs.Scores.{Has, IsRanked, score_of};
+ghost use Rattle.distributor_part.specs.Targets.{AreTargets, AreSmall, IsFirstMember, IsFirstComplete, IsToBeActive, LacksComplete, AreToBeReady};
 
 use bucket_db::Row;
+use bucket_ids::Bucket;
 use cluster_states::ClusterState;
 use ideal_nodes::laws::lists_are_their_nodes;
 use ideal_nodes::{NodeList, ideal};
@@ -41,4 +42,52 @@ pub fn targets_of(redundancy: u8, state: &ClusterState, row: &Row) -> NodeSet
     lists_are_their_nodes();
     let list = ideal(row.bucket, state);
     with_active(first_nodes(&list, redundancy), row.active)
+}
+
+/// The first node of a bucket's ideal list that is a member.
+fn first_member(bucket: Bucket, list: &NodeList, members: NodeSet) -> Option<u8>
+    requires { IsRanked (score_of (codes "ideal") bucket) list.now }
+    ensures some { IfSome result (IsFirstMember bucket list.now members) }
+    ensures none { IfNone result ((node : ℕ) → Has node list.now → has_node members node ≡ false) }
+{
+    for place in 0..list.len() {
+        let node = list.at(place);
+        if members.has(node) {
+            return Some(node);
+        }
+    }
+    None
+}
+
+/// The first complete member of a row in its ideal order.
+fn first_complete(state: &ClusterState, row: &Row) -> Option<u8>
+    ensures some { IfSome result (IsFirstComplete state.now row.now.bucket row.now.complete) }
+    ensures none { IfNone result (LacksComplete state.now row.now.bucket row.now.complete) }
+{
+    lists_are_their_nodes();
+    let list = ideal(row.bucket, state);
+    first_member(row.bucket, &list, row.complete)
+}
+
+/// The active node of a row, or else the one that is to be active, if one can be.
+pub fn to_be_active(state: &ClusterState, row: &Row) -> Option<u8>
+    ensures some { IfSome result (IsToBeActive state.now row.now.bucket row.now.complete row.now.active) }
+    ensures inactive { IfNone result (row.now.active ≡ None) }
+    ensures lacks { IfNone result (LacksComplete state.now row.now.bucket row.now.complete) }
+{
+    match row.active {
+        Some(node) => Some(node),
+        None => first_complete(state, row),
+    }
+}
+
+/// The nodes of a row that are to be ready.
+pub fn to_be_ready(searchable: u8, state: &ClusterState, row: &Row) -> NodeSet
+    requires { IfSome row.now.active (λ node. node < 32) }
+    ensures { AreToBeReady searchable state.now row.now.bucket row.now.complete row.now.active result }
+{
+    let _version = state.version();
+    lists_are_their_nodes();
+    let list = ideal(row.bucket, state);
+    with_active(first_nodes(&list, searchable), to_be_active(state, row))
 }

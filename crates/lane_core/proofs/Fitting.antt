@@ -1,6 +1,6 @@
 -- How an operation is prepared in the row of its key.
-use Rattle.std.proofs.Common.{◌≡◌, ◌+◌, ◌≤◌, ℕ, true, false, List, ◌∷◌, Option, None, Some, inl, inr, refl, sym, ap, subst, ◌∙◌, is_some, vec_len, vec_capacity, arith}
-use Rattle.bucket_ids.specs.Buckets.{Low, IsIn}
+use Rattle.std.proofs.Common.{◌≡◌, ◌+◌, ◌≤◌, ℕ, true, false, ◌∷◌, Option, None, Some, inl, inr, refl, sym, ap, subst, ◌∙◌, is_some, vec_len, vec_capacity, arith}
+use Rattle.bucket_ids.specs.Buckets.{IsIn}
 use Rattle.cluster_states.specs.declared.cluster_state.ClusterState.{ClusterState}
 use Rattle.bucket_db.specs.Rows.{Rows}
 use Rattle.bucket_db.specs.declared.row.Row.{Row}
@@ -11,32 +11,24 @@ use Rattle.op_machine.specs.Plans.{IsPlan, IsMember, plan_of}
 use Rattle.op_machine.specs.Standings.{IsBegun}
 use Rattle.lane_journals.specs.Buckets.{contains, key_of}
 use Rattle.lane_journals.specs.Meanings.{history}
-use Rattle.lane_journals.specs.Places.{state_in}
-use Rattle.lane_journals.specs.declared.event.LaneEvent.{LaneEvent}
 use Rattle.lane_journals.specs.declared.event.LaneEvent.TheVariants.{Prepared}
 use Rattle.lane_durability.specs.Laws.{ActiveIsComplete}
-use Rattle.lane_keeping.specs.Acting.{IsActing, IsKnownRow}
+use Rattle.lane_keeping.specs.Acting.{IsKnownRow}
 use Rattle.lane_operations.specs.OperationKeeping.{IsUnderWay, KnowsPreparing, KnowsOperation}
 use Rattle.lane_operations.specs.Left.{messages_left}
 use Rattle.lane_wants.specs.Wants.{Wants, Adds}
 use Rattle.lane_core.specs.declared.job.Job.{Job}
 use Rattle.lane_core.specs.declared.job.Phase.TheVariants as phase
-use Rattle.lane_core.specs.declared.lane_state.LaneState.{LaneState}
+use Rattle.lane_states.specs.declared.lane_state.LaneState.{LaneState}
 use Rattle.lane_core.specs.declared.work.Work.{Work}
-use Rattle.lane_core.specs.LaneStates.{journal_of, part_of, IsKept}
+use Rattle.lane_states.specs.LaneStates.{journal_of, part_of, IsKept}
 use Rattle.lane_core.specs.Works.{IsWork, IsJob, one_if}
-use Rattle.lane_core.specs.Preparations.{HasRowWith, IsReadyFor}
-use Rattle.lane_core.specs.Written.{place_of}
-use Rattle.lane_core.proofs.Entries.{finds-noted}
+use Rattle.lane_states.specs.Readying.{HasRowWith}
+use Rattle.lane_core.specs.Preparations.{IsReadyFor}
+use Rattle.lane_states.specs.Written.{place_of}
+use Rattle.lane_states.proofs.Entries.{finds-noted}
 use Rattle.lane_core.proofs.Working.{same-key, work-by}
-
-pub some-same : {A : Type 0} (a b : A) → Some a ≡ Some b → a ≡ b
-some-same a b e = cc
-
-pub same-state : (lane : Low) (J : List LaneEvent) (d : ℕ) (s t : ClusterState) → IsActing lane J d s → IsActing lane J d t → s ≡ t
-same-state lane J d s t a b =
-    let v : s.version ≡ t.version = some-same s.version t.version (sym a.holds ∙ b.holds) in
-    some-same s t (sym a.published ∙ ap (λ (n : ℕ). state_in n J) v ∙ b.published)
+use Rattle.lane_states.proofs.SameStates.{same-state}
 
 module _ (x : Work) (j : Job) (k : IsWork x) (is : x.job ≡ Some j) (r : IsReadyFor x.state j) where
   pub job-of : IsJob x.state.lane x.state.rules (journal_of x.state) j

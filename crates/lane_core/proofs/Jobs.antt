@@ -27,18 +27,19 @@ use Rattle.lane_operations.specs.OperationKeeping.{IsUnderWay, KnowsOperation}
 use Rattle.lane_operations.specs.Laws.{OfOperation, IsAckedAs}
 use Rattle.lane_operations.specs.Left.{messages_left}
 use Rattle.lane_wants.specs.Wants.{Ends, IsRun, IsEnd, NextGives}
-use Rattle.lane_core.specs.declared.lane_state.LaneState.{LaneState}
+use Rattle.lane_states.specs.declared.lane_state.LaneState.{LaneState}
 use Rattle.lane_core.specs.declared.job.Job.{Job}
 use Rattle.lane_core.specs.declared.job.Phase.{Phase}
 use Rattle.lane_core.specs.declared.job.Phase.TheVariants as phase
 use Rattle.lane_core.specs.declared.answers.Advance.{Advance}
 use Rattle.lane_core.specs.declared.answers.Advance.TheVariants as advance
 use Rattle.lane_core.specs.declared.work.Work.{Work}
-use Rattle.lane_core.specs.LaneStates.{journal_of, IsKept, HasRoom, AreResting}
+use Rattle.lane_states.specs.LaneStates.{journal_of, IsKept, HasRoom, AreResting}
 use Rattle.lane_core.specs.LaneValues.{with_run, under_way_of, WentOn, IsAdvance}
-use Rattle.lane_core.specs.Written.{place_of, FindsEntries}
+use Rattle.lane_states.specs.Written.{place_of, FindsEntries}
 use Rattle.lane_core.specs.Works.{value_of, under_way_in, progress_of, one_if, room_for, IsAnswered, MayMark, IsPrepared, PhaseKeeps, IsJob, JobKeeps, PhaseLasts, JobLasts, IsWork}
-use Rattle.lane_core.specs.Steps.{sender_of, GoesIn, IsQuiet, WantsMore, WantsEnd, ComesTo}
+use Rattle.lane_states.specs.Steps.{sender_of, GoesIn, IsQuiet}
+use Rattle.lane_core.specs.Phases.{WantsMore, WantsEnd, ComesTo}
 
 -- ---- whose it is
 

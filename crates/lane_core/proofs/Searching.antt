@@ -17,26 +17,27 @@ use Rattle.lane_journals.specs.declared.event.LaneEvent.TheVariants.{Prepared}
 use Rattle.lane_keeping.specs.Asking.{OthersStay}
 use Rattle.lane_keeping.specs.LaneKeeping.{part_in}
 use Rattle.lane_wants.specs.Wants.{More, IsEnd}
-use Rattle.lane_core.specs.declared.lane_state.LaneState.{LaneState}
+use Rattle.lane_states.specs.declared.lane_state.LaneState.{LaneState}
 use Rattle.lane_core.specs.declared.job.Job.{Job}
 use Rattle.lane_core.specs.declared.job.Phase.{Phase}
 use Rattle.lane_core.specs.declared.job.Phase.TheVariants as phase
 use Rattle.lane_core.specs.declared.job.Progress.TheVariants as progress
 use Rattle.lane_core.specs.declared.job.UnderWay.{UnderWay}
 use Rattle.lane_core.specs.declared.answers.Advance.TheVariants as advance
-use Rattle.lane_core.specs.declared.readying.Shortage.{Shortage}
-use Rattle.lane_core.specs.declared.readying.Shortage.TheVariants as shortage
+use Rattle.lane_states.specs.declared.readying.Shortage.{Shortage}
+use Rattle.lane_states.specs.declared.readying.Shortage.TheVariants as shortage
 use Rattle.lane_core.specs.declared.work.Work.{Work}
-use Rattle.lane_core.specs.LaneStates.{journal_of, IsKept, HasRoom, part_of, IsResting, AreResting}
+use Rattle.lane_states.specs.LaneStates.{journal_of, IsKept, HasRoom, part_of, IsResting, AreResting}
 use Rattle.lane_core.specs.LaneValues.{LaneValue, IsAt, with_run, under_way_of, WentOn, WasCut, IsAdvance}
 use Rattle.lane_core.specs.Works.{value_of, under_way_in, progress_of, IsUntouched, PhaseKeeps, PhaseLasts, IsJob, JobKeeps, JobLasts, IsWork}
-use Rattle.lane_core.specs.Steps.{IsQuiet, IsAtMessages, IsToStep}
+use Rattle.lane_states.specs.Steps.{IsQuiet}
+use Rattle.lane_core.specs.Phases.{IsAtMessages, IsToStep}
 use Rattle.lane_core.specs.Preparations.{PreparesOf, PreparesBy, PreparesNext, MayFallShort, is_over}
-use Rattle.lane_core.specs.Readying.{outcome_of, IsToPrepare, AskedNobody, BeganNoRound, IsForNewLine, OfUnprepared, GoesOnWith, IsCutOffWith, FindsOr}
+use Rattle.lane_states.specs.Readying.{outcome_of, IsToPrepare, AskedNobody, BeganNoRound, IsForNewLine, OfUnprepared, GoesOnWith, IsCutOffWith, FindsOr}
 use Rattle.lane_core.specs.Searching.{is_begun, just_begun, HasCall, spent, WentAs, ComesToRow, EndsIn}
 use Rattle.lane_core.proofs.Working.{same-key}
-use Rattle.lane_core.specs.Written.{place_of, AddsNoEntry}
-use Rattle.lane_core.proofs.Entries.{finds-grown}
+use Rattle.lane_states.specs.Written.{place_of, AddsNoEntry}
+use Rattle.lane_states.proofs.Entries.{finds-grown}
 use Rattle.lane_core.proofs.Jobs.{IsOnward, work-on}
 
 begun-so : (p : Phase) → is_begun p ≡ true → p ≡ phase.Begun

@@ -8,11 +8,11 @@ use Rattle.lane_journals.specs.Meanings.{is_acked}
 use Rattle.lane_core.specs.declared.job.Job.{Job}
 use Rattle.lane_core.specs.declared.job.Phase.TheVariants.{Over}
 use Rattle.lane_core.specs.declared.work.Work.{Work}
-use Rattle.lane_core.specs.LaneStates.{journal_of}
+use Rattle.lane_states.specs.LaneStates.{journal_of}
 use Rattle.lane_core.specs.Works.{IsWork, JobKeeps, MayMark, under_way_in, one_if}
 use Rattle.lane_core.specs.Preparations.{MayFallShort, with_phase, is_over}
-use Rattle.lane_core.specs.Written.{place_of}
-use Rattle.lane_core.proofs.Entries.{finds-still}
+use Rattle.lane_states.specs.Written.{place_of}
+use Rattle.lane_states.proofs.Entries.{finds-still}
 use Rattle.lane_core.proofs.Working.{work-by}
 
 no-marks : (H : Journal) (j : Job) (s : ClusterState) (n : ℕ) (o : Outcome) → is_acked o ≡ false → MayMark H j s n o

@@ -30,11 +30,12 @@ use Rattle.lane_keeping.proofs.Acting.{one-owner}
 use Rattle.lane_operations.specs.OperationKeeping.{AllClosed, KnowsPreparing, IsPlainGet}
 use Rattle.lane_core.specs.declared.job.Job.{Job}
 use Rattle.lane_core.specs.declared.work.Work.{Work}
-use Rattle.lane_core.specs.LaneStates.{journal_of, IsKept, HasRoom, AreResting}
-use Rattle.lane_core.specs.LaneValues.{IsSetUp, last_state, drawn}
-use Rattle.lane_core.specs.declared.lane_state.LaneState.{LaneState}
-use Rattle.lane_core.specs.Written.{place_of, FindsEntries}
-use Rattle.lane_core.proofs.Entries.{past-past, finds-none, finds-noted}
+use Rattle.lane_states.specs.LaneStates.{journal_of, IsKept, HasRoom, AreResting, IsSetUp}
+use Rattle.lane_core.specs.LaneValues.{drawn}
+use Rattle.lane_states.specs.Growing.{last_state}
+use Rattle.lane_states.specs.declared.lane_state.LaneState.{LaneState}
+use Rattle.lane_states.specs.Written.{place_of, FindsEntries}
+use Rattle.lane_states.proofs.Entries.{past-past, finds-none, finds-noted}
 use Rattle.lane_core.specs.Works.{value_of, under_way_in, new_job, count_of, count_after, one_if, room_for, IsUntouched, IsJob, JobKeeps, JobLasts, IsWork}
 
 -- ---- keys

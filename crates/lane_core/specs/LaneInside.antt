@@ -2,7 +2,7 @@
 use Rattle.std.specs.Prelude.{List}
 use Rattle.carriers.specs.declared.fate.Fate.{Fate}
 use Rattle.lane_core.specs.declared.work.Work.{Work}
-use Rattle.lane_core.specs.LaneStates.{IsCarriedBy}
+use Rattle.lane_states.specs.LaneStates.{IsCarriedBy}
 use Rattle.lane_core.specs.Works.{IsWork}
 
 pub record IsLane (w : Work) (given : List Fate) : Type 0 where

@@ -1,39 +1,32 @@
 -- What a lane is to its callers: its bucket and its rules, its journal, the fates that its carrier gave and planned,
 -- and the operation under way; and what its calls make of that.
-use Rattle.std.specs.Prelude.{◌≡◌, ◌⊎◌, ℕ, ◌+◌, ◌≤◌, ◌<◌, ◌^◌, Bool, true, false, List, [], ◌∷◌, Option, None, Some, refl, if◌then◌else◌}
+use Rattle.std.specs.Prelude.{◌≡◌, ◌⊎◌, ℕ, ◌+◌, ◌<◌, Bool, true, false, List, [], ◌∷◌, Option, None, Some, refl, if◌then◌else◌}
 use Rattle.std.specs.Coded.{Coded, code_by, coded×, coded_ℕ, coded_bool, coded_list, coded_option}
-use Rattle.std.specs.FinMap as fin
 use Rattle.bucket_ids.specs.Buckets.{Low}
 use Rattle.stamps.specs.declared.stamp.Stamp.{Stamp}
 use Rattle.cluster_states.specs.declared.cluster_state.ClusterState.{ClusterState}
 use Rattle.ideal_nodes.specs.Placement.{IsOwner}
 use Rattle.carriers.specs.declared.fate.Fate.{Fate}
 use Rattle.carriers.specs.contracts.fate.Fate as fates
-use Rattle.entry_maps.specs.EntryCodes.{Entries}
 use Rattle.messages.specs.declared.operation.OpKind.{OpKind}
 use Rattle.messages.specs.declared.operation.Operation.{Operation}
 use Rattle.messages.specs.declared.outcome.Outcome.{Outcome}
 use Rattle.messages.specs.declared.outcome.Outcome.TheVariants.{OwnedElsewhere, NoMemory}
-use Rattle.bucket_db.specs.declared.row.Row.{Row}
 use Rattle.distributor_part.specs.declared.rules.Rules.{Rules}
 use Rattle.distributor_part.specs.contracts.rules.Rules as rules
-use Rattle.distributor_part.specs.Parts.{Part, rows_of}
 use Rattle.op_machine.specs.Plans.{is_get}
-use Rattle.service_layer.specs.Nodes.{Node, new_node}
-use Rattle.lane_journals.specs.Buckets.{Id}
-use Rattle.lane_journals.specs.Readers.{Journal, Beginning, held, began, closed, stamps_of, store}
+use Rattle.lane_journals.specs.Readers.{Journal, Beginning, held, began, closed, stamps_of}
 use Rattle.lane_journals.specs.Meanings.{history}
 use Rattle.lane_journals.specs.Places.{state_in}
 use Rattle.lane_journals.specs.KeptJournals.{IsLegal}
 use Rattle.lane_journals.specs.declared.event.LaneEvent.{LaneEvent}
 use Rattle.lane_journals.specs.contracts.event.LaneEvent as events
-use Rattle.lane_journals.specs.declared.event.LaneEvent.TheVariants.{Published, Begun, Refused, Closed}
-use Rattle.node_journals.specs.NodeKeeping.{stamp_of}
-use Rattle.lane_keeping.specs.LaneKeeping.{setting_of, PartKeeps}
+use Rattle.lane_journals.specs.declared.event.LaneEvent.TheVariants.{Begun, Refused, Closed}
+use Rattle.lane_keeping.specs.LaneKeeping.{setting_of}
 use Rattle.lane_keeping.specs.Acting.{IsActing}
 use Rattle.lane_carriage.specs.Carriage.{IsCarried}
 use Rattle.lane_operations.specs.OperationKeeping.{AllClosed}
-use Rattle.lane_core.specs.Growing.{heard_next}
+use Rattle.lane_states.specs.Growing.{heard_next, last_state}
 use Rattle.lane_core.specs.declared.job.UnderWay.{UnderWay}
 use Rattle.lane_core.specs.contracts.job.UnderWay as under
 use Rattle.lane_core.specs.declared.job.Progress.{Progress}
@@ -86,25 +79,6 @@ new_value lane rules given planned takes_plans = record {
   has_room = false;
   under_way = None;
 }
-
--- ---- states
-
--- the state that was published last
-abbrev pub last_state : List LaneEvent → Option ClusterState
-last_state [] = None
-last_state (Published s ∷ J) = Some s
-last_state (_ ∷ J) = last_state J
-
--- ---- rules
-
--- what a lane is set up with lies within the limits
-pub record IsSetUp (lane : Low) (rules : Rules) : Type 0 where
-  pub some : 1 ≤ lane.bits
-  pub most : lane.bits ≤ 6
-  pub fits : lane.low < 2 ^ lane.bits
-  pub acked : 1 ≤ rules.acks
-  pub enough : rules.acks ≤ rules.redundancy
-  pub few : rules.redundancy ≤ 8
 
 -- ---- begin
 
@@ -211,23 +185,7 @@ line_of (Some u) = u.line
 abbrev pub closed_by : Outcome → LaneValue → LaneValue
 closed_by outcome old = record old { journal = Closed (line_of old.under_way) outcome ∷ old.journal; under_way = None }
 
--- ---- what a lane shows
-
-abbrev pub node_or_new : Option Node → Node
-node_or_new None = new_node
-node_or_new (Some x) = x
-
--- the entries are those that the journal says that the node holds
-pub record HasEntries (J : List LaneEvent) (n many : ℕ) : Type 0 where
-  pub entries : Entries
-  pub are_held : (id : Id) → stamp_of (fin.get entries id) ≡ store n id (history J)
-  pub so_many : many ≡ fin.len entries
-
--- the rows are those of the distributor's part, which is what the journal says
-pub record HasRows (lane : Low) (rules : Rules) (J : List LaneEvent) (d : ℕ) (rows : List Row) : Type 0 where
-  pub part : Part
-  pub keeps : PartKeeps lane rules J d part
-  pub are : rows ≡ rows_of part.rows
+-- ---- what holds of each lane
 
 -- each line that was begun is closed, but for the one under way
 abbrev pub OthersClosed : Journal → ℕ → Type 0

@@ -1,10 +1,8 @@
 -- What prepares an operation in the row of its key.
-use Rattle.std.specs.Prelude.{◌≡◌, ◌≤◌, ℕ, true, false, not, ◌∷◌, Option, None, Some, is_some}
+use Rattle.std.specs.Prelude.{◌≡◌, ◌≤◌, true, false, not, ◌∷◌, Option, None, Some, is_some}
 use Rattle.node_sets.specs.Members.{size_of}
 use Rattle.cluster_states.specs.declared.cluster_state.ClusterState.{ClusterState}
-use Rattle.bucket_db.specs.Rows.{Rows}
 use Rattle.bucket_db.specs.declared.row.Row.{Row}
-use Rattle.distributor_part.specs.Steps.{IsRowOf}
 use Rattle.op_machine.specs.Plans.{is_get}
 use Rattle.lane_journals.specs.Buckets.{contains, key_of}
 use Rattle.lane_journals.specs.Readers.{prepared, wrote, opened}
@@ -19,14 +17,9 @@ use Rattle.lane_core.specs.declared.job.Job.{Job}
 use Rattle.lane_core.specs.declared.job.Phase.{Phase}
 use Rattle.lane_core.specs.declared.job.Progress.TheVariants.{Runs, Over}
 use Rattle.lane_core.specs.declared.job.UnderWay.{UnderWay}
-use Rattle.lane_core.specs.declared.lane_state.LaneState.{LaneState}
-use Rattle.lane_core.specs.LaneStates.{journal_of}
+use Rattle.lane_states.specs.declared.lane_state.LaneState.{LaneState}
+use Rattle.lane_states.specs.LaneStates.{journal_of}
 use Rattle.lane_core.specs.LaneValues.{LaneValue, under_way_of}
-
--- the row is one of these and has the key
-abbrev pub HasRowWith : Option Rows → ℕ → Row → Type 0
-HasRowWith None key row = ⊥
-HasRowWith (Some d) key row = (at : ℕ) × IsRowOf d key at row
 
 abbrev pub with_phase : Phase → Option Job → Option Job
 with_phase p None = None

@@ -10,12 +10,12 @@ use Rattle.lane_core.specs.declared.job.Phase.TheVariants as phase
 use Rattle.lane_core.specs.declared.job.Progress.{Progress}
 use Rattle.lane_core.specs.declared.job.Progress.TheVariants as progress
 use Rattle.lane_core.specs.declared.job.UnderWay.{UnderWay}
-use Rattle.lane_core.specs.declared.readying.Shortage.{Shortage}
+use Rattle.lane_states.specs.declared.readying.Shortage.{Shortage}
 use Rattle.lane_core.specs.declared.work.Work.{Work}
 use Rattle.lane_core.specs.LaneValues.{LaneValue, WentOn, IsAdvance}
 use Rattle.lane_core.specs.Works.{under_way_in, value_of, OfValues}
 use Rattle.lane_core.specs.Preparations.{IsReady, MayFallShort}
-use Rattle.lane_core.specs.Readying.{outcome_of}
+use Rattle.lane_states.specs.Readying.{outcome_of}
 
 -- nothing was done for it since it was begun
 abbrev pub is_begun : Phase → Bool

@@ -35,12 +35,12 @@ use Rattle.lane_core.specs.declared.job.Phase.TheVariants.{Begun, Prepared, Over
 use Rattle.lane_core.specs.declared.job.Progress.{Progress}
 use Rattle.lane_core.specs.declared.job.Progress.TheVariants as progress
 use Rattle.lane_core.specs.declared.job.UnderWay.{UnderWay}
-use Rattle.lane_core.specs.declared.lane_state.LaneState.{LaneState}
 use Rattle.lane_core.specs.declared.work.Work.{Work}
-use Rattle.lane_core.specs.LaneStates.{journal_of, IsKept, HasRoom, AreResting, IsCarriedBy}
-use Rattle.lane_core.specs.Written.{place_of, FindsEntries}
+use Rattle.lane_states.specs.LaneStates.{journal_of, IsKept, HasRoom, AreResting, IsSetUp}
+use Rattle.lane_states.specs.Written.{place_of, FindsEntries}
 use Rattle.lane_wants.specs.Wants.{Stands, IsEnd, WasAskedIn}
-use Rattle.lane_core.specs.LaneValues.{LaneValue, IsSetUp, last_state, drawn, under_way_of}
+use Rattle.lane_core.specs.LaneValues.{LaneValue, drawn, under_way_of}
+use Rattle.lane_states.specs.Growing.{last_state}
 
 -- ---- the value
 
@@ -169,10 +169,6 @@ pub record IsEndedBy (j : Job) (line d key : ℕ) (outcome told : Outcome) (answ
   pub ends : PhaseEnds j.phase outcome told answered
 
 -- ---- the lane
-
--- each message still had just the events of its fate
-abbrev pub StaysCarried : LaneState → LaneState → Type 0
-StaysCarried old new = (given : List Fate) → IsCarriedBy old given → IsCarriedBy new given
 
 abbrev pub count_of : BTreeMap ℕ ℕ → ℕ → ℕ
 count_of counts v = count_at (tree.get nat_cmp counts) v

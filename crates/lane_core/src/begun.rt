@@ -1,16 +1,16 @@
 ghost use Rattle.std.specs.Prelude.{◌≡◌, true, IfOk, OnErr};
 ghost use Rattle.lane_core.specs.declared.answers.Advance.TheVariants as advance;
-ghost use Rattle.lane_core.specs.LaneStates.{IsCarriedBy};
-ghost use Rattle.lane_core.specs.Works.{IsWork, StaysCarried};
-ghost use Rattle.lane_core.specs.Steps.{AdvancesBy};
+ghost use Rattle.lane_states.specs.LaneStates.{IsCarriedBy, StaysCarried};
+ghost use Rattle.lane_core.specs.Works.{IsWork};
+ghost use Rattle.lane_core.specs.Phases.{AdvancesBy};
 ghost use Rattle.lane_core.specs.Searching.{just_begun, is_begun, HasCall, spent, SearchesBy, ComesToRow, AdvancesFrom};
 
 use crate::answers::Advance;
 use crate::job::{Job, Phase};
-use crate::readying::Shortage;
 use crate::work::Work;
 use carriers::Carrier;
 use lane_keeping::laws::owners_act;
+use lane_states::readying::Shortage;
 use value_lists::NoMemory;
 
 /// Whether nothing was done of an operation since it was begun.

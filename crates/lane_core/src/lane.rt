@@ -15,14 +15,14 @@ ghost use Rattle.lane_journals.specs.declared.event.LaneEvent.TheVariants as eve
 ghost use Rattle.node_journals.specs.NodeKeeping.{NodeKeeps};
 ghost use Rattle.lane_keeping.specs.LaneKeeping.{setting_of};
 ghost use Rattle.lane_operations.specs.OperationKeeping.{IsFresh, IsPlainGet};
-ghost use Rattle.lane_core.specs.Growing.{heard_next, announced, stopped_next, started_next};
-ghost use Rattle.lane_core.specs.LaneValues.{LaneValue, IsSetUp, new_value, IsLaneValue, last_state, IsBeginning, BeginsAtOwner, IsAdvance, IsAt, MayClose, IsOutcome, closed_by, node_or_new, HasEntries, HasRows};
+ghost use Rattle.lane_states.specs.Growing.{heard_next, announced, stopped_next, started_next, last_state};
+ghost use Rattle.lane_core.specs.LaneValues.{LaneValue, new_value, IsLaneValue, IsBeginning, BeginsAtOwner, IsAdvance, IsAt, MayClose, IsOutcome, closed_by};
+ghost use Rattle.lane_states.specs.LaneStates.{IsSetUp};
+ghost use Rattle.lane_states.specs.Shown.{node_or_new, HasEntries, HasRows};
 ghost use Rattle.lane_core.specs.declared.job.Progress.TheVariants as progress;
 
 use crate::answers::{Advance, Begin};
-use crate::known_owner::KnownOwner;
 use crate::work::Work;
-use crate::written::entry_in;
 use bucket_db::Row;
 use bucket_ids::Bucket;
 use carriers::{Carrier, Fate};
@@ -30,6 +30,8 @@ use cluster_states::ClusterState;
 use distributor_part::Rules;
 use entry_maps::Entry;
 use lane_journals::LaneEvent;
+use lane_states::known_owner::KnownOwner;
+use lane_states::written::entry_in;
 use messages::{Operation, Outcome};
 use node_sets::NodeSet;
 use service_layer::NodePart;

@@ -1,57 +1,31 @@
-//! One lane: its journal, and what it says; calls append events one by one.
-//!
-//! A `LaneState` has a journal, the state that was published last, the number of its last message, its nodes
-//! and its distributors' parts. `IsKept` in `specs/LaneStates.antt` says that they are what the journal says
-//! (`lane_keeping`), that late messages are on their way, that the numbers of messages find room, which nodes are
-//! stopped, and that the lane's bucket is one. A node or a part that isn't there yet counts as a new one.
-//!
-//! Each call says by which events the journal grows. A distributor hears the newest state (`parts`). Nodes stop and
-//! start (`stopping`); a message to a stopped node is not delivered. A message is delivered, or kept and delivered
-//! when it falls due (`carriage`). An owner opens its state: it asks node
-//! after node, deals with each Ask by the fate that the carrier gives, and is told what came back (`opening`);
-//! so is each message of a round (`rounds`) and of an operation that is prepared (`steps`).
+//! One lane: what it keeps (`lane_states`), the operation under way, and the carrier of its messages.
 //!
 //! A `Work` is a `LaneState` with the operation under way: it begins one at the owner of the lane, or refuses
 //! it, and closes it. `lane_wants` says what the operation of a line wants next. A `Lane` is a `Work` with
 //! the carrier of its messages; `specs/LaneValues.antt` says what it is to its callers.
 //!
 //! ```text
-//! let mut lane = LaneState::new(alloc, bucket, rules);
+//! let mut lane = Lane::new(alloc, bucket, rules, carrier);
 //! lane.room()?;
 //! lane.publish(&state);                   // Published { .. }
-//! lane.hear(distributor)?;                // Heard { .. }
-//! lane.open_state(distributor, key, &mut carrier)?;    // Sent { .. }, Delivered { .. }, Returned { .. }, .., Opened { .. }
+//! lane.begin_at_owner(line, operation)?;  // Heard { .. }, Begun { .. }
+//! lane.advance();                         // Sent { .. }, Delivered { .. }, Returned { .. }
+//! lane.close();                           // Closed { .. }
 //! ```
 #![tactic(auto)]
 
 pub mod answers;
 pub mod beginning;
 pub mod begun;
-pub mod carriage;
-pub mod filled_rows;
 pub mod job;
-pub mod known_owner;
 pub mod lane;
-pub mod lane_state;
-pub mod opened_lines;
-pub mod opening;
-pub mod operations;
-pub mod parts;
+pub mod phases;
 pub mod preparing;
-pub mod readying;
-pub mod rounds;
 pub mod shortfall;
-pub mod shown;
 pub mod states;
-pub mod steps;
-pub mod stopping;
 pub mod work;
-pub mod written;
 
 pub use answers::{Advance, Begin};
 pub use job::{Progress, UnderWay};
 pub use lane::Lane;
-pub use lane_state::LaneState;
-pub use readying::Shortage;
-pub use rounds::{RoundEnd, RoundRun};
 pub use work::Work;

@@ -1,14 +1,12 @@
-ghost use Rattle.std.specs.Prelude.{◌≡◌, ◌≤◌, ◌+◌, ℕ, IsSome, IfOk, OnOk, OnErr};
-ghost use Rattle.bucket_ids.specs.Buckets.{IsIn};
+ghost use Rattle.std.specs.Prelude.{◌≡◌, ◌+◌, IsSome, IfOk, OnOk, OnErr};
 ghost use Rattle.global_ids.specs.Keys.{key_of};
 ghost use Rattle.op_machine.specs.Plans.{IsPlan, plan_of};
 ghost use Rattle.op_machine.specs.Standings.{IsBegun};
-ghost use Rattle.lane_core.specs.LaneStates.{IsKept, part_of};
-ghost use Rattle.lane_core.specs.Works.{IsWork, StaysCarried, OfValues, SameValue};
-ghost use Rattle.lane_core.specs.Preparations.{HasRowWith, with_phase, IsReady, PreparesNext};
+ghost use Rattle.lane_states.specs.LaneStates.{StaysCarried};
+ghost use Rattle.lane_core.specs.Works.{IsWork, OfValues, SameValue};
+ghost use Rattle.lane_core.specs.Preparations.{with_phase, IsReady, PreparesNext};
 
 use crate::job::{Job, Phase};
-use crate::lane_state::LaneState;
 use crate::work::Work;
 use bucket_db::Row;
 use lane_durability::laws::one_active_copy;
@@ -20,21 +18,6 @@ use messages::Origin;
 use op_machine::OpMachine;
 use std::alloc::Global;
 use value_lists::{NoMemory, TryCopy};
-
-impl LaneState {
-    /// The row of a key, as a distributor that opened its state has it.
-    pub fn row_with(&self, distributor: u8, key: u64) -> Row
-        requires keeps { IsKept self.now }
-        requires opened { IsSome (part_of self.now distributor).rows }
-        requires key { IsIn self.now.lane key }
-        ensures { HasRowWith (part_of self.now distributor).rows key result }
-    {
-        let Some(part) = self.parts.get(usize::from(distributor)) else {
-            unreachable!();
-        };
-        part.rows()[part.row_of(key)]
-    }
-}
 
 /// The machine of an operation that is prepared in a row. The only error is want of memory.
 fn machine_of(

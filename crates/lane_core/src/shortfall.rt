@@ -1,5 +1,6 @@
 ghost use Rattle.std.specs.Prelude.{◌≡◌};
-ghost use Rattle.lane_core.specs.Works.{IsWork, StaysCarried, OfValues};
+ghost use Rattle.lane_core.specs.Works.{IsWork, OfValues};
+ghost use Rattle.lane_states.specs.LaneStates.{StaysCarried};
 ghost use Rattle.lane_core.specs.Preparations.{MayFallShort, is_over};
 
 use crate::job::Phase;

@@ -7,18 +7,18 @@ ghost use Rattle.lane_journals.specs.declared.event.LaneEvent.TheVariants as eve
 ghost use Rattle.ideal_nodes.specs.Placement.{IsOwner};
 ghost use Rattle.lane_keeping.specs.LaneKeeping.{setting_of};
 ghost use Rattle.lane_keeping.specs.Acting.{IsActing};
-ghost use Rattle.lane_core.specs.Growing.{heard_next, announced, stopped_next, started_next};
-ghost use Rattle.lane_core.specs.LaneStates.{journal_of, IsCarriedBy, HasRoom};
-ghost use Rattle.lane_core.specs.LaneValues.{LaneValue, IsSetUp, last_state, new_value};
-ghost use Rattle.lane_core.specs.Works.{value_of, OfValues, SameValue, IsWork, StaysCarried};
+ghost use Rattle.lane_states.specs.Growing.{heard_next, announced, stopped_next, started_next, last_state};
+ghost use Rattle.lane_states.specs.LaneStates.{journal_of, IsCarriedBy, HasRoom, StaysCarried, IsSetUp};
+ghost use Rattle.lane_core.specs.LaneValues.{LaneValue, new_value};
+ghost use Rattle.lane_core.specs.Works.{value_of, OfValues, SameValue, IsWork};
 
-use crate::lane_state::LaneState;
 use crate::work::Work;
 use bucket_ids::Bucket;
 use cluster_states::ClusterState;
 use distributor_part::Rules;
 use lane_carriage::laws::late_messages_wait;
 use lane_journals::laws::kept_journals_mean_legal_ones;
+use lane_states::lane_state::LaneState;
 use node_sets::NodeSet;
 use std::alloc::Global;
 use std::collections::BTreeMap;

@@ -1,10 +1,11 @@
 ghost use Rattle.std.specs.Prelude.{◌≡◌, Some};
 ghost use Rattle.lane_core.specs.LaneValues.{IsOutcome, closed_by};
-ghost use Rattle.lane_core.specs.Works.{IsWork, StaysCarried, OfValues, IsToClosePhase, IsToClose, IsEndedBy};
+ghost use Rattle.lane_core.specs.Works.{IsWork, OfValues, IsToClosePhase, IsToClose, IsEndedBy};
+ghost use Rattle.lane_states.specs.LaneStates.{StaysCarried};
 
 use crate::job::{Job, Phase};
-use crate::lane_state::LaneState;
 use lane_operations::laws::operations_end;
+use lane_states::lane_state::LaneState;
 use messages::Outcome;
 use node_sets::NodeSet;
 use stamps::Stamp;

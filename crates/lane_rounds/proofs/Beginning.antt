@@ -33,6 +33,7 @@ use Rattle.lane_journals.specs.declared.event.LaneEvent.TheVariants as event
 use Rattle.lane_journals.proofs.BucketLaws.{same_bucket-refl, same_bucket-true, own-low}
 use Rattle.lane_journals.proofs.Basics.{sent-member}
 use Rattle.lane_journals.proofs.Rows.{running-row}
+use Rattle.lane_journals.proofs.Walking.{contains-none}
 use Rattle.lane_journals.proofs.Meant.{meant-legal, state-serves}
 use Rattle.lane_durability.proofs.Marks.{active-complete, complete-took}
 use Rattle.node_journals.proofs.Uniting.{union-begins}
@@ -93,7 +94,7 @@ module _ (S : Setting) (J : List LaneEvent) (l : IsLegal S J) (s : ClusterState)
 -- ---- the round
 
 module _ (lane : Low) (rules : Rules) (J : List LaneEvent) (newest : Option ClusterState) (last : ℕ) (nodes : List Node) (parts : List Part) (keep : Keeps lane rules J newest last nodes parts)
-    (d : ℕ) (s : ClusterState) (q : Part) (key : ℕ) (bucket : Low) (receivers : ℕ) (b : IsBegun lane rules J parts d s q key bucket receivers) where
+    (d : ℕ) (s : ClusterState) (q : Part) (at : ℕ) (bucket : Low) (receivers : ℕ) (b : IsBegun lane rules J parts d s q at bucket receivers) where
   abbrev S : Setting
   S = setting_of lane rules
 
@@ -168,6 +169,7 @@ module _ (lane : Low) (rules : Rules) (J : List LaneEvent) (newest : Option Clus
       readers_are = are;
       receivers_are = rw (eq-eqb v v refl, same_bucket-refl bucket) refl;
       shown_are = λ n. sym (ap is_some (unread n));
+      pieces_are = λ x h. absurd (contains-none x h);
       reading = λ n h. absurd (true≢false (sym h));
       union_is = union-begins v number (history K);
       written = λ id e h. let none = get-empty id_cmp id in let both = sym none ∙ h in cc;

@@ -75,6 +75,7 @@ module _ (S : Setting) (J : List LaneEvent) (l : IsLegal S J) (d : ℕ) (s : Clu
       readers_are = a.readers_are;
       receivers_are = a.receivers_are;
       shown_are = a.shown_are;
+      pieces_are = a.pieces_are;
       reading = a.reading;
       union_is = union-stays v (round_of v r.row H) H (plain.Decided d v (plain.RoundEnded r.row (nodes complete))) _ r.union a.union_is;
       written = a.written;

@@ -1,9 +1,11 @@
 -- The reply to the message that is waited for is returned and told, or none is.
-use Rattle.std.proofs.Common.{◌≡◌, ◌||◌, ◌&&◌, ℕ, ◌<◌, Bool, true, false, cond, List, [], ◌∷◌, ◌++◌, Option, Some, None, is_some, inl, inr, ◌⊎◌, refl, sym, ap, ◌∙◌, subst, arith, eqb, eq-eqb}
+use Rattle.std.proofs.Common.{◌≡◌, ◌||◌, ◌&&◌, ℕ, zero, suc, ◌<◌, Bool, true, false, cond, List, [], ◌∷◌, ◌++◌, Option, Some, None, is_some, inl, inr, ◌⊎◌, refl, sym, ap, ◌∙◌, subst, arith, eqb, eq-eqb}
 use mathlib.Core.Bool.{true≢false}
 use Rattle.std.proofs.lemmas.Bool.{eqb-true}
 use Rattle.std.proofs.lemmas.Bool.Decides.{nat_tests}
+use Rattle.std.proofs.lemmas.List.Elements.{Contains-append_cases}
 use Rattle.std.proofs.lemmas.List.Folds.{list_any-append}
+use Rattle.std.specs.List.{Contains}
 use Rattle.bucket_ids.specs.Buckets.{Low}
 use Rattle.node_sets.specs.Members.{has_node}
 use Rattle.cluster_states.specs.declared.cluster_state.ClusterState.{ClusterState}
@@ -22,6 +24,7 @@ use Rattle.service_layer.specs.Nodes.{Node}
 use Rattle.distributor_part.specs.declared.rules.Rules.{Rules}
 use Rattle.distributor_part.specs.Parts.{Part}
 use Rattle.merge_rounds.specs.Rounds.{RoundState, did_show, is_answer, shown_by, after_read, IsAfterApply}
+use Rattle.lane_journals.specs.Buckets.{same_bucket}
 use Rattle.lane_journals.specs.Events as plain
 use Rattle.lane_journals.specs.Readers.{Journal, Message, Given, or_else, only_if, sent, first_reply, returned, stopped, given_by, answer, answer_of, is_read, round_of, running}
 use Rattle.lane_journals.specs.Facts.{AnsweredApply}
@@ -31,7 +34,9 @@ use Rattle.lane_journals.specs.Meanings.{history, entry_at, meaning_reply, conte
 use Rattle.lane_journals.specs.Places.{Setting}
 use Rattle.lane_journals.specs.declared.event.LaneEvent.{LaneEvent}
 use Rattle.lane_journals.specs.declared.event.LaneEvent.TheVariants as event
+use Rattle.lane_journals.proofs.BucketLaws.{same_bucket-refl}
 use Rattle.lane_journals.proofs.Meant.{meant-legal}
+use Rattle.lane_journals.proofs.Walking.{contains-none, contains-one}
 use Rattle.node_journals.specs.Flights.{meant, BringsBack}
 use Rattle.node_journals.specs.Replaying.{IsTaken, delivered}
 use Rattle.node_journals.specs.Unions.{IsUnion}
@@ -40,8 +45,8 @@ use Rattle.node_journals.proofs.Sending.{taken-back}
 use Rattle.node_journals.proofs.Uniting.{union-stays, union-joins, union-lies}
 use Rattle.lane_keeping.specs.LaneKeeping.{setting_of, node_in, Keeps}
 use Rattle.lane_keeping.specs.Asking.{IsTakenBy}
-use Rattle.lane_rounds.specs.RoundKeeping.{was_sent, is_apply, is_of, AreAnswers, IsReading, KnowsRoundOf, KnowsRound, body_of, IsAwaited}
-use Rattle.lane_rounds.proofs.Waiting.{answered-in, answered-stays, delivered-back, returned-back, NoApply, NoRead, answer-other}
+use Rattle.lane_rounds.specs.RoundKeeping.{was_sent, is_apply, is_of, IsNamed, AreAnswers, IsReading, KnowsRoundOf, KnowsRound, body_of, IsAwaited}
+use Rattle.lane_rounds.proofs.Waiting.{named-still, answered-in, answered-stays, delivered-back, returned-back, NoApply, NoRead, answer-other}
 
 -- ---- tests
 
@@ -86,6 +91,21 @@ means-answer J reply.NoBucket x ns h = cc
 means-answer J reply.Differs x ns h = cc
 means-answer J reply.NoMemory x ns h = cc
 
+-- pieces are named among themselves
+named-later : (q p : Piece) (ps : List Piece) → names ps p.bucket p.serial ≡ true → names (q ∷ ps) p.bucket p.serial ≡ true
+named-later q p ps h = by (same_bucket q.bucket p.bucket) (eqb q.serial p.serial)
+  where
+    by : (a b : Bool) → cond a (cond b true (names ps p.bucket p.serial)) (names ps p.bucket p.serial) ≡ true
+    by true true = refl
+    by true false = h
+    by false b = h
+
+own-names : (ps : List Piece) (p : Piece) → Contains ps p → names ps p.bucket p.serial ≡ true
+own-names [] p h = absurd (contains-none p h)
+own-names (q ∷ ps) p (zero, lt, is) =
+    rw (ap (λ (x : Piece). same_bucket x.bucket p.bucket) is ∙ same_bucket-refl p.bucket, ap (λ (x : Piece). eqb x.serial p.serial) is ∙ eq-eqb p.serial p.serial refl) refl
+own-names (q ∷ ps) p (suc k, lt, is) = named-later q p ps (own-names ps p (k, omega arith, is))
+
 -- ---- what is told
 
 -- other events sent nothing and began no round
@@ -114,6 +134,7 @@ unapplied lane J d s r after n w h = subst (λ (x : RoundState). KnowsRound lane
   readers_are = a.readers_are;
   receivers_are = a.receivers_are;
   shown_are = a.shown_are;
+  pieces_are = a.pieces_are;
   reading = a.reading;
   union_is = a.union_is;
   written = a.written;
@@ -222,6 +243,7 @@ module _ (lane : Low) (rules : Rules) (J : List LaneEvent) (newest : Option Clus
       readers_are = a.readers_are;
       receivers_are = a.receivers_are;
       shown_are = λ n. a.shown_are n ∙ ap is_some (sym (heard n None e ∙ or-none (answer v i n H) (eqb m.receiver n)));
+      pieces_are = λ p h. named-still (sym (heard p.node None e ∙ or-none (answer v i p.node H) (eqb m.receiver p.node))) (a.pieces_are p h);
       reading = a.reading;
       union_is = union-later _ a.union_is;
       written = a.written;
@@ -261,6 +283,18 @@ module _ (lane : Low) (rules : Rules) (J : List LaneEvent) (newest : Option Clus
         | inr new ↦ subst (λ (j : ℕ). has_node r.readers j ≡ true) (eqb-true m.receiver n new) asked.reader
       ]
 
+      -- an answer that was there stays the first one
+      named-before : (p : NodePieces) → IsNamed (answer v i p.node H) p.pieces → IsNamed (answer v i p.node (history K)) p.pieces
+      named-before p n = named-still (sym (heard p.node (Some g) given ∙ ap (λ (o : Option Given). or_else o (cond (eqb m.receiver p.node) (Some g) None)) n.given))
+          (record { answer = n.answer; given = refl; names = n.names })
+
+      named : (p : NodePieces) → Contains shown p → IsNamed (answer v i p.node (history K)) p.pieces
+      named p h = elim (Contains-append_cases r.shown (shown_by m.receiver ps es ∷ []) p h) [
+        | inl old ↦ named-before p ((know.answers).pieces_are p old)
+        | inr new ↦ subst (λ (q : NodePieces). IsNamed (answer v i q.node (history K)) q.pieces) (contains-one (shown_by m.receiver ps es) p new)
+            (record { answer = g; given = gave; names = own-names ps })
+      ]
+
       unites : IsUnion v i (history K) (λ n. did_show n shown) (joined r.union es)
       unites = union-at v i (history K) (λ n. eqb n m.receiver || did_show n r.shown) (λ n. did_show n shown) (joined r.union es) same
           (union-joins v i (history K) (λ n. did_show n r.shown) r.union m.receiver g es (union-later _ (know.answers).union_is) gave (λ id. content-is J es brings.0 id))
@@ -280,6 +314,7 @@ module _ (lane : Low) (rules : Rules) (J : List LaneEvent) (newest : Option Clus
         readers_are = a.readers_are;
         receivers_are = a.receivers_are;
         shown_are = λ n. shows n ∙ ap (λ (t : Bool). t || (eqb m.receiver n || false)) (a.shown_are n) ∙ sym (or-some (answer v i n H) (eqb m.receiver n) g) ∙ ap is_some (sym (heard n (Some g) given));
+        pieces_are = named;
         reading = reads;
         union_is = unites;
         written = written-apply (λ t. entry_at t J) r.union es brings.0 a.written;
@@ -355,6 +390,7 @@ module _ (lane : Low) (rules : Rules) (J : List LaneEvent) (newest : Option Clus
       readers_are = a.readers_are;
       receivers_are = a.receivers_are;
       shown_are = λ n. a.shown_are n ∙ ap is_some (sym (answer-other v i n taking number no-read));
+      pieces_are = λ p h. named-still (sym (answer-other v i p.node taking number no-read)) (a.pieces_are p h);
       reading = a.reading;
       union_is = union-later _ a.union_is;
       written = a.written;

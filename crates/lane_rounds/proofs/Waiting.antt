@@ -1,5 +1,5 @@
 -- What stays known of a round while other messages come.
-use Rattle.std.proofs.Common.{◌≡◌, ◌≢◌, ◌&&◌, ℕ, Bool, true, false, cond, List, ◌∷◌, Option, Some, None, is_some, refl, sym, ap, ◌∙◌, arith, eqb}
+use Rattle.std.proofs.Common.{◌≡◌, ◌≢◌, ◌&&◌, ℕ, Bool, true, false, cond, List, ◌∷◌, Option, Some, None, is_some, refl, sym, ap, ◌∙◌, arith, eqb, subst}
 use Rattle.std.proofs.lemmas.Bool.{eqb-true}
 use Rattle.std.proofs.lemmas.Bool.Decides.{nat_tests}
 use Rattle.bucket_ids.specs.Buckets.{Low}
@@ -8,6 +8,7 @@ use Rattle.messages.specs.declared.message.Message.{Message as Letter}
 use Rattle.messages.specs.declared.body.Body.{Body as LetterBody}
 use Rattle.messages.specs.declared.body.Body.TheVariants as body
 use Rattle.messages.specs.declared.noted.NotedReply.{NotedReply}
+use Rattle.pieces.specs.declared.piece.Piece.{Piece}
 use Rattle.messages.specs.Noting.{noted_body}
 use Rattle.merge_rounds.specs.Rounds.{RoundState}
 use Rattle.lane_journals.specs.Buckets.{Bucket}
@@ -27,7 +28,7 @@ use Rattle.lane_journals.proofs.Meant.{meant-legal}
 use Rattle.node_journals.specs.Replaying.{sending}
 use Rattle.node_journals.proofs.Flying.{flight-stays}
 use Rattle.node_journals.proofs.Uniting.{union-stays}
-use Rattle.lane_rounds.specs.RoundKeeping.{was_sent, is_apply, is_of, KnowsAnswersOf, KnowsRoundOf, IsAwaited}
+use Rattle.lane_rounds.specs.RoundKeeping.{was_sent, is_apply, is_of, IsNamed, KnowsAnswersOf, KnowsRoundOf, IsAwaited}
 use Rattle.lane_rounds.specs.Laws.{IsOfNoRound}
 
 -- ---- who answered the Apply
@@ -122,6 +123,10 @@ no-apply J (body.Activate b) h = refl
 unsent : (kind : Body → Bool) (v r n : ℕ) (H : Journal) (k w d to : ℕ) (x : Body) → kind x ≡ false → was_sent (is_of kind v r n) (Sent k w d to x ∷ H) ≡ was_sent (is_of kind v r n) H
 unsent kind v r n H k w d to x f = ap (λ (t : Bool). cond (((t && eqb w v) && eqb (round_in w x H) r) && eqb to n) true (was_sent (is_of kind v r n) H)) f
 
+-- the same answer names the same pieces
+pub named-still : {a b : Option Given} {ps : List Piece} → a ≡ b → IsNamed a ps → IsNamed b ps
+named-still {a} {b} {ps} e n = subst (λ (o : Option Given). IsNamed o ps) e n
+
 -- ---- what is known stays
 
 module _ (S : Setting) (J : List LaneEvent) (l : IsLegal S J) (s : ClusterState) (r : RoundState) (number : ℕ) where
@@ -130,6 +135,7 @@ module _ (S : Setting) (J : List LaneEvent) (l : IsLegal S J) (s : ClusterState)
     readers_are = a.readers_are;
     receivers_are = a.receivers_are;
     shown_are = a.shown_are;
+    pieces_are = a.pieces_are;
     reading = a.reading;
     union_is = union-stays s.version number (history J) (Delivered k (meaning_reply J y)) _ r.union a.union_is;
     written = a.written;
@@ -145,6 +151,7 @@ module _ (S : Setting) (J : List LaneEvent) (l : IsLegal S J) (s : ClusterState)
     readers_are = a.readers_are;
     receivers_are = a.receivers_are;
     shown_are = λ n. a.shown_are n ∙ ap is_some (sym (answer-other s.version number n (history J) k no_read));
+    pieces_are = λ x h. named-still (sym (answer-other s.version number x.node (history J) k no_read)) (a.pieces_are x h);
     reading = a.reading;
     union_is = union-stays s.version number (history J) (Returned k) _ r.union a.union_is;
     written = a.written;
@@ -160,6 +167,7 @@ module _ (S : Setting) (J : List LaneEvent) (l : IsLegal S J) (s : ClusterState)
     readers_are = a.readers_are;
     receivers_are = a.receivers_are;
     shown_are = a.shown_are;
+    pieces_are = a.pieces_are;
     reading = a.reading;
     union_is = union-stays s.version number (history J) (Sent k m.version m.sender m.receiver x) _ r.union a.union_is;
     written = a.written;

@@ -10,7 +10,7 @@ use Rattle.service_layer.specs.Nodes.{Node}
 use Rattle.bucket_db.specs.declared.row.Row.{Row}
 use Rattle.distributor_part.specs.declared.rules.Rules.{Rules}
 use Rattle.distributor_part.specs.Parts.{Part}
-use Rattle.distributor_part.specs.Steps.{BeginsRound}
+use Rattle.distributor_part.specs.Upkeep.{BeginsRoundAt}
 use Rattle.merge_rounds.specs.Rounds.{RoundState, did_show}
 use Rattle.lane_journals.specs.Buckets.{contains}
 use Rattle.lane_journals.specs.Readers.{Message, sent, round_of}
@@ -32,19 +32,19 @@ abbrev pub OfAnswers : (Low → Rules → List LaneEvent → ClusterState → Ro
 OfAnswers L = OfKept (λ lane rules J newest last nodes parts. (d : ℕ) (s : ClusterState) (r : RoundState)
     → IsActing lane J d s → KnowsAnswers J s r → L lane rules J s r)
 
--- the owner's part begins a round in a row that it knows, where nothing is under way
-pub record IsBegun (lane : Low) (rules : Rules) (J : List LaneEvent) (parts : List Part) (d : ℕ) (s : ClusterState) (q : Part) (key : ℕ) (bucket : Low) (receivers : ℕ) : Type 0 where
+-- the owner's part begins a round in the row of a place, which it knows, where nothing is under way
+pub record IsBegun (lane : Low) (rules : Rules) (J : List LaneEvent) (parts : List Part) (d : ℕ) (s : ClusterState) (q : Part) (at : ℕ) (bucket : Low) (receivers : ℕ) : Type 0 where
   pub acting : IsActing lane J d s
   pub valid : IsBucket bucket
-  pub begins : BeginsRound (part_in lane rules parts d) q key bucket receivers
+  pub begins : BeginsRoundAt (part_in lane rules parts d) q at bucket receivers
   pub known : IsKnownRow s.version (history J) begins.row
   pub idle : Idle s.version bucket (history J)
   pub no_round : NoRound J s
 
 -- a law of each round that begins
 abbrev pub OfBegun : (Low → Rules → List LaneEvent → ℕ → ClusterState → Low → ℕ → Type 0) → Type 0
-OfBegun L = OfKept (λ lane rules J newest last nodes parts. (d : ℕ) (s : ClusterState) (q : Part) (key : ℕ) (bucket : Low) (receivers : ℕ)
-    → IsBegun lane rules J parts d s q key bucket receivers → L lane rules J d s bucket receivers)
+OfBegun L = OfKept (λ lane rules J newest last nodes parts. (d : ℕ) (s : ClusterState) (q : Part) (at : ℕ) (bucket : Low) (receivers : ℕ)
+    → IsBegun lane rules J parts d s q at bucket receivers → L lane rules J d s bucket receivers)
 
 -- neither the Read of a whole row nor an Apply
 abbrev pub IsOfNoRound : Body → Type 0

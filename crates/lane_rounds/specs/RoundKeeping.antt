@@ -1,9 +1,11 @@
 -- What is known of the round that is under way: what was sent and answered in it, as the journal says.
-use Rattle.std.specs.Prelude.{◌≡◌, ◌↔◌, ◌==◌, ◌&&◌, ◌<◌, ◌≤◌, ℕ, Bool, true, false, nat_lt, List, [], ◌∷◌, None, Some, is_some, if◌then◌else◌}
+use Rattle.std.specs.Prelude.{◌≡◌, ◌↔◌, ◌==◌, ◌&&◌, ◌<◌, ◌≤◌, ℕ, Bool, true, false, nat_lt, List, [], ◌∷◌, Option, None, Some, is_some, if◌then◌else◌}
+use Rattle.std.specs.List.{Contains}
 use Rattle.bucket_ids.specs.Buckets.{Low, IsBucket}
 use Rattle.node_sets.specs.Members.{has_node, size_of, size_below}
 use Rattle.cluster_states.specs.declared.cluster_state.ClusterState.{ClusterState}
 use Rattle.cluster_states.specs.Publishing.{serves}
+use Rattle.pieces.specs.declared.piece.Piece.{Piece}
 use Rattle.messages.specs.Noting.{message_of}
 use Rattle.messages.specs.declared.message.Message.{Message as Letter}
 use Rattle.messages.specs.declared.message.Origin.{Origin}
@@ -14,7 +16,7 @@ use Rattle.entry_maps.specs.EntryCodes.{Entries}
 use Rattle.replica_store.specs.Replicas.{LieIn}
 use Rattle.merge_rounds.specs.Rounds.{RoundState, did_show}
 use Rattle.lane_journals.specs.Events.{Body, Apply, Sent}
-use Rattle.lane_journals.specs.Readers.{Journal, Message, sent, is_read, answer, round_in, round_of, running}
+use Rattle.lane_journals.specs.Readers.{Journal, Message, Given, sent, is_read, answer, round_in, round_of, running}
 use Rattle.lane_journals.specs.Facts.{AnsweredApply}
 use Rattle.lane_journals.specs.Meanings.{history, entry_at}
 use Rattle.lane_journals.specs.Places.{receivers_of}
@@ -45,12 +47,19 @@ is_among_first set many n = has_node set n && nat_lt (size_below set n) many
 
 -- ---- who answered
 
--- of the round with this number in the row each answer to a Read is one that was shown, and so are its entries;
--- whoever answered the Apply is a holder
+-- the pieces are such as the answer names
+pub record IsNamed (replied : Option Given) (pieces : List Piece) : Type 0 where
+  pub answer : Given
+  pub given : replied ≡ Some answer
+  pub names : (p : Piece) → Contains pieces p → answer.names p.bucket p.serial ≡ true
+
+-- of the round with this number in the row each answer to a Read is one that was shown, and so are its entries and
+-- the pieces that it names; whoever answered the Apply is a holder
 pub record AreAnswers (number : ℕ) (J : List LaneEvent) (s : ClusterState) (row : Low) (readers receivers : ℕ) (shown : List NodePieces) (union : Entries) (holders : ℕ) : Type 0 where
   pub readers_are : (n : ℕ) → has_node readers n ≡ serves s n
   pub receivers_are : receivers_of s.version row J ≡ Some receivers
   pub shown_are : (n : ℕ) → did_show n shown ≡ is_some (answer s.version number n (history J))
+  pub pieces_are : (x : NodePieces) → Contains shown x → IsNamed (answer s.version number x.node (history J)) x.pieces
   pub reading : (n : ℕ) → did_show n shown ≡ true → has_node readers n ≡ true
   pub union_is : IsUnion s.version number (history J) (λ n. did_show n shown) union
   pub written : AreWritten (λ t. entry_at t J) union

@@ -147,6 +147,20 @@ settled_writes p reads stores x outcome over v e = record {
       ∙ sym (ap (λ o. outcome_in (read_next o p reads stores)) over ∙ ap (λ y. outcome_in (verdict_next y p stores)) (sym v));
 }
 
+-- where the entry that is to be stored is known, the Stores alone make the outcome
+pub due_ends : (p : Plan) (reads stores : Answers) (x : Entry) → due_entry p reads ≡ Some x → outcome_in (next_of p reads stores) ≡ stored_outcome (first_node (waits p stores)) p stores x.stamp
+due_ends p reads stores x due = by_reader (reader p reads) due
+  where
+    by_verdict : (v : Verdict) → entry_in v ≡ Some x → outcome_in (verdict_next v p stores) ≡ stored_outcome (first_node (waits p stores)) p stores x.stamp
+    by_verdict (Ends y) e = absurd (cc)
+    by_verdict (Writes w) e =
+        let same : w ≡ x = cc in
+        sym (outcome_stored p stores w (first_node (waits p stores))) ∙ ap (λ (z : Entry). stored_outcome (first_node (waits p stores)) p stores z.stamp) same
+
+    by_reader : (o : Option ℕ) → due_by o p reads ≡ Some x → outcome_in (read_next o p reads stores) ≡ stored_outcome (first_node (waits p stores)) p stores x.stamp
+    by_reader (Some n) e = absurd (cc)
+    by_reader None e = by_verdict (verdict p reads) e
+
 -- ---- who may answer
 
 asked_by : (next : Next) (m : Message) → message_in next ≡ Some m → IsTo m.receiver next

@@ -1,14 +1,15 @@
-ghost use Rattle.std.specs.Prelude.{◌≡◌, ◌<◌, None, IfOk, OnOk, OnErr};
+ghost use Rattle.std.specs.Prelude.{◌≡◌, ◌<◌, None, IfSome, IfOk, OnOk, OnErr};
 ghost use Rattle.std.specs.Option.{option_copied};
 ghost use Rattle.global_ids.specs.Keys.{key_of};
-ghost use Rattle.op_machine.specs.Outcomes.{answers_of, reader, message_in, outcome_in};
+ghost use Rattle.op_machine.specs.Outcomes.{answers_of, reader, message_in, next_of, outcome_in};
 ghost use Rattle.op_machine.specs.Plans.{IsPlan, plan_of};
 ghost use Rattle.op_machine.specs.Telling.{IsTold};
-ghost use Rattle.op_machine.specs.Standings.{next_at, IsBegun, IsAsked, MayAnswer, IsAnswered};
+ghost use Rattle.op_machine.specs.Standings.{next_at, IsBegun, IsDue, IsAsked, MayAnswer, IsAnswered};
 
 use crate::plan::Plan;
 use crate::settling::Settled;
 use crate::tally::Tally;
+use entry_maps::Entry;
 use global_ids::key_of;
 use messages::{Message, Operation, Origin, Outcome, Reply};
 use node_sets::NodeSet;
@@ -25,6 +26,28 @@ pub struct Standing {
     pub reads: Tally,
     /// Of its Stores.
     pub stores: Tally,
+}
+
+impl Standing {
+    /// What is known of the outcome once these are its Stores, where the entry that is to be stored is known; takes
+    /// no memory.
+    fn outcome_with(&self, stores: &Tally, known: Option<&Entry>) -> Option<Option<Outcome>>
+        requires { IsDue self.now.plan (answers_of self.now.reads) (option_copied known) }
+        ensures { IfSome result (λ outcome. outcome
+            ≡ outcome_in (next_of self.now.plan (answers_of self.now.reads) (answers_of stores.now))) }
+    {
+        match known {
+            Some(entry) => Some(self.plan.stored_outcome(stores, entry.stamp)),
+            None => None,
+        }
+    }
+}
+
+/// Puts an outcome into its place.
+fn put_outcome(place: &mut Option<Outcome>, outcome: Option<Outcome>)
+    ensures { place.new ≡ outcome }
+{
+    *place = outcome;
 }
 
 /// The machine of one operation. Each message that `send` gave is followed by one `answer` of its
@@ -220,9 +243,20 @@ impl OpMachine {
             stores,
         } = &self.standing;
         let stores = stores.with(alloc, self.key, &plan.operation.id, node, reply)?;
-        let settled = plan.settle(alloc, reads, &stores, self.settled.entry.as_ref())?;
-        self.standing.stores = stores;
-        self.settled = settled;
+        match self
+            .standing
+            .outcome_with(&stores, self.settled.entry.as_ref())
+        {
+            Some(outcome) => {
+                self.standing.stores = stores;
+                put_outcome(&mut self.settled.outcome, outcome);
+            }
+            None => {
+                let settled = plan.settle(alloc, reads, &stores, None)?;
+                self.standing.stores = stores;
+                self.settled = settled;
+            }
+        }
         Ok(())
     }
 }

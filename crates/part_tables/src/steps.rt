@@ -216,6 +216,24 @@ fn open(alloc: Global, part: &mut DistributorPart) -> Result<String> {
     log_of(alloc, part, &script)
 }
 
+/// The part once its state is opened.
+pub fn opened(alloc: Global, redundancy: u8, acks: u8) -> Result<DistributorPart> {
+    let mut part = part_of(alloc, redundancy, acks)?;
+    let _opening = open(alloc, &mut part)?;
+    Ok(part)
+}
+
+/// The round under way is over, both nodes take its union, and its end is decided.
+pub fn closed_round(alloc: Global, part: &mut DistributorPart) -> Result<()> {
+    let script = [
+        Act::Whole { complete: 0b11 },
+        Act::Next { key: 0 },
+        Act::Next { key: 0 },
+    ];
+    let _log = log_of(alloc, part, &script)?;
+    Ok(())
+}
+
 /// Two rounds, the first with one lost Apply, then a close that one node didn't answer, a round that isn't
 /// whole, and a job that is given up.
 pub fn rounds(alloc: Global) -> Result<String> {

@@ -21,6 +21,13 @@ fn mark(db: &mut BucketDb, at: usize, complete: u32, active: Option<u8>, deletes
     }
 }
 
+/// The active node of a row that is there accepts.
+fn accept(db: &mut BucketDb, at: usize) {
+    if at < db.rows().len() {
+        db.set_accepted(at);
+    }
+}
+
 /// A lane of two rows without marks.
 fn two_rows(alloc: Global) -> Result<BucketDb> {
     let answers = [Bucket::new(5, 16)];
@@ -44,6 +51,7 @@ fn halves_inherit(rt: HostRuntime) -> Result<()> {
     let mut db = two_rows(rt.alloc())?;
     mark(&mut db, 0, 0b110, Some(2), true);
     mark(&mut db, 1, 0b1, None, false);
+    accept(&mut db, 0);
     assert_eq!(rt; db.rows().len(), 2);
     assert!(rt; db.rows()[0].bucket.bits() < 58);
     db.split_row(0)?;
@@ -51,18 +59,21 @@ fn halves_inherit(rt: HostRuntime) -> Result<()> {
         bucket: Bucket::new(5, 16),
         complete: NodeSet::of(0b1),
         active: None,
+        accepted: false,
         deleting: None,
     };
     let half = Row {
         bucket: Bucket::new(6, 0),
         complete: NodeSet::of(0b110),
         active: Some(2),
+        accepted: true,
         deleting: delete_if(true),
     };
     let other = Row {
         bucket: Bucket::new(6, 32),
         complete: NodeSet::of(0b110),
         active: Some(2),
+        accepted: true,
         deleting: delete_if(true),
     };
     assert_eq!(rt; db.rows(), [row, half, other].as_slice());
@@ -71,22 +82,27 @@ fn halves_inherit(rt: HostRuntime) -> Result<()> {
 
 #[test]
 fn a_join_keeps_what_both_have(rt: HostRuntime) -> Result<()> {
-    for (at, own, other) in [
-        (0usize, false, true),
-        (1, false, true),
-        (0, true, false),
-        (0, false, false),
+    for (at, own, other, both) in [
+        (0usize, false, true, true),
+        (1, false, true, false),
+        (0, true, false, false),
+        (0, false, false, true),
     ] {
         let mut db = two_rows(rt.alloc())?;
         mark(&mut db, 0, 0b110, Some(2), own);
         mark(&mut db, 1, 0b1010, Some(2), other);
+        accept(&mut db, 0);
+        if both {
+            accept(&mut db, 1);
+        }
         assert!(rt; at < db.rows().len());
         assert!(rt; db.can_join(at));
-        db.join_rows(at)?;
+        db.join_rows(at);
         let joined = Row {
             bucket: Bucket::new(4, 0),
             complete: NodeSet::of(0b10),
             active: Some(2),
+            accepted: both,
             deleting: delete_if(own || other),
         };
         assert_eq!(rt; db.rows(), [joined].as_slice());

@@ -1,4 +1,4 @@
-use Rattle.lane_core.proofs.Results.{on_ok, on_err}
+use Rattle.lane_states.proofs.Results.{on_ok, on_err}
 use Rattle.lane_core.proofs.lane.Lane.begin_at_owner.Goals as goal
 
 pub returns-clause-ok : goal.returns-clause-ok

@@ -1,4 +1,4 @@
-use Rattle.lane_core.proofs.Results.{on_ok, on_err}
+use Rattle.lane_states.proofs.Results.{on_ok, on_err}
 use Rattle.lane_core.proofs.lane.Lane.hear.Goals as goal
 
 pub returns-clause-heard : goal.returns-clause-heard

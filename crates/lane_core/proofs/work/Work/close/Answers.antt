@@ -3,11 +3,11 @@ use Rattle.lane_journals.specs.Meanings.{history}
 use Rattle.lane_journals.specs.declared.event.LaneEvent.TheVariants.{Closed}
 use Rattle.lane_operations.specs.OperationKeeping.{AllClosed}
 use Rattle.lane_core.specs.declared.job.Job.{Job}
-use Rattle.lane_core.specs.declared.lane_state.LaneState.{LaneState}
-use Rattle.lane_core.specs.LaneStates.{journal_of}
+use Rattle.lane_states.specs.declared.lane_state.LaneState.{LaneState}
+use Rattle.lane_states.specs.LaneStates.{journal_of}
 use Rattle.lane_core.specs.Works.{IsJob}
-use Rattle.lane_core.proofs.Ending.{may-close, ends-so}
-use Rattle.lane_core.proofs.Carrying.{carried-more}
+use Rattle.lane_core.proofs.JobEnds.{may-close, ends-so}
+use Rattle.lane_states.proofs.Carrying.{carried-more}
 use Rattle.lane_core.proofs.Working.{value-by, work-closed}
 use Rattle.lane_core.proofs.work.Work.close.Goals as goal
 

@@ -1,7 +1,7 @@
 use Rattle.std.proofs.Common.{rules, ◌≡◌, ◌<◌, Some, length}
 use Rattle.lane_core.specs.declared.job.Job.{Job}
-use Rattle.lane_core.proofs.Results.{if_ok, on_err}
-use Rattle.lane_core.proofs.Owners.{part-there}
+use Rattle.lane_states.proofs.Results.{if_ok, on_err}
+use Rattle.lane_states.proofs.Owners.{part-there}
 use Rattle.lane_core.proofs.Searching.{onward-rested, was-job, has-call, for-new, keeps-searched, comes-searched, went-searched, cut-searched}
 use Rattle.lane_core.proofs.work.Work.search.Goals as goal
 

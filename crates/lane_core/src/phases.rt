@@ -1,0 +1,176 @@
+ghost use Rattle.std.specs.Prelude.{◌≡◌, ◌≤◌, ◌<◌, ◌-◌, None, IfOk};
+ghost use Rattle.global_ids.specs.Keys.{key_of};
+ghost use Rattle.lane_states.specs.LaneStates.{journal_of, IsKept, HasRoom, IsCarriedBy};
+ghost use Rattle.lane_states.specs.Steps.{GoesIn, RunsIn, StandsIn, IsQuiet};
+ghost use Rattle.lane_core.specs.Phases.{HasEnded, IsPhaseOf, OfPrepared, IsAtMessages, ComesTo, IsToStep, AdvancesBy};
+ghost use Rattle.lane_core.specs.Works.{IsWork};
+ghost use Rattle.lane_states.specs.Written.{place_of, FindsEntries};
+
+use crate::answers::Advance;
+use crate::job::{Job, Phase};
+use crate::work::Work;
+use carriers::Carrier;
+use lane_operations::laws::{operations_end, operations_shorten};
+use lane_states::lane_state::LaneState;
+use op_machine::OpMachine;
+use stamps::Stamp;
+use std::alloc::Global;
+use std::collections::BTreeMap;
+use value_lists::{NoMemory, TryCopy};
+
+/// The phase in which an operation is over, if its machine has an outcome. The only error is want of memory.
+fn ended(alloc: Global, machine: &OpMachine) -> Result<Option<Phase>, NoMemory>
+    ensures { IfOk result (HasEnded machine.now) }
+{
+    let Some(outcome) = machine.outcome() else {
+        return Ok(None);
+    };
+    Ok(Some(Phase::Over {
+        outcome: outcome.copy(alloc)?,
+        told: outcome.copy(alloc)?,
+        answered: machine.stored(),
+    }))
+}
+
+/// Puts a phase into its place.
+fn put_phase(place: &mut Phase, phase: Phase)
+    ensures { place.new ≡ phase }
+{
+    *place = phase;
+}
+
+/// Brings the phase of an operation that is prepared to what follows from what its machine was told: it is over
+/// where the machine has an outcome.
+fn bring_on(alloc: Global, phase: &mut Phase) -> Advance
+    requires { IsAtMessages phase.old }
+    ensures { OfPrepared (λ row written machine. IsPhaseOf row written machine phase.new result) phase.old }
+{
+    let Phase::Prepared { machine, .. } = phase else {
+        unreachable!();
+    };
+    match ended(alloc, machine) {
+        Ok(None) => Advance::More,
+        Ok(Some(over)) => {
+            put_phase(phase, over);
+            Advance::Done
+        }
+        Err(NoMemory) => {
+            put_phase(phase, Phase::Short);
+            Advance::NoMemory
+        }
+    }
+}
+
+/// Sends the next message of an operation that is prepared, if one is left, and brings its phase to what
+/// follows.
+fn step_phase<C: Carrier>(
+    state: &mut LaneState,
+    line: u32,
+    key: u64,
+    phase: &mut Phase,
+    places: &mut BTreeMap<Stamp, usize>,
+    carrier: &mut C,
+) -> Advance
+    requires keeps { IsKept state.old }
+    requires spare { HasRoom 0 state.old }
+    requires carried { IsCarriedBy state.old (C.given carrier.old) }
+    requires stands { OfPrepared (StandsIn state.old line) phase.old }
+    requires key { OfPrepared (λ row written machine. key ≡ key_of machine.plan.operation.id) phase.old }
+    requires finds { FindsEntries (place_of places.old) state.old.journal.items }
+    ensures keeps { IsKept state.new }
+    ensures spare { HasRoom 0 state.new }
+    ensures finds { FindsEntries (place_of places.new) state.new.journal.items }
+    ensures carried { IsCarriedBy state.new (C.given carrier.new) }
+    ensures planned { C.planned carrier.new ≡ C.planned carrier.old }
+    ensures kind { C.takes_plans carrier.new ≡ C.takes_plans carrier.old }
+    ensures quiet { IsQuiet (journal_of state.old) (journal_of state.new) }
+    ensures run { OfPrepared (λ row written machine. RunsIn state.old state.new line machine) phase.old }
+    ensures going { OfPrepared (λ row written machine. GoesIn state.new line machine.plan) phase.old }
+    ensures comes { OfPrepared (λ row written machine. ComesTo state.new line row machine phase.new result) phase.old }
+    ensures after { state.new ≡ record state.old {
+      journal = state.new.journal;
+      last = state.new.last;
+      nodes = state.new.nodes;
+      late = state.new.late;
+    } }
+{
+    operations_shorten();
+    let Phase::Prepared {
+        machine,
+        written,
+        ..
+    } = phase
+    else {
+        unreachable!();
+    };
+    match state.send_next(line, key, written, machine, places, carrier) {
+        Ok(_) => bring_on(state.alloc, phase),
+        Err(NoMemory) => {
+            put_phase(phase, Phase::Short);
+            Advance::NoMemory
+        }
+    }
+}
+
+/// One call of a job that is prepared: its next message is sent and dealt with, and its phase brought to what follows.
+fn step_job<C: Carrier>(
+    state: &mut LaneState,
+    job: &mut Job,
+    places: &mut BTreeMap<Stamp, usize>,
+    carrier: &mut C,
+) -> Advance
+    requires keeps { IsKept state.old }
+    requires spare { HasRoom 0 state.old }
+    requires carried { IsCarriedBy state.old (C.given carrier.old) }
+    requires stands { OfPrepared (StandsIn state.old job.old.line) job.old.phase }
+    requires key { OfPrepared (λ row written machine. job.old.key ≡ key_of machine.plan.operation.id) job.old.phase }
+    requires left { 1 ≤ job.old.left }
+    requires finds { FindsEntries (place_of places.old) state.old.journal.items }
+    ensures keeps { IsKept state.new }
+    ensures spare { HasRoom 0 state.new }
+    ensures finds { FindsEntries (place_of places.new) state.new.journal.items }
+    ensures carried { IsCarriedBy state.new (C.given carrier.new) }
+    ensures planned { C.planned carrier.new ≡ C.planned carrier.old }
+    ensures kind { C.takes_plans carrier.new ≡ C.takes_plans carrier.old }
+    ensures quiet { IsQuiet (journal_of state.old) (journal_of state.new) }
+    ensures run { OfPrepared (λ row written machine. RunsIn state.old state.new job.old.line machine) job.old.phase }
+    ensures going { OfPrepared (λ row written machine. GoesIn state.new job.old.line machine.plan) job.old.phase }
+    ensures comes { OfPrepared (λ row written machine. ComesTo state.new job.old.line row machine job.new.phase result)
+        job.old.phase }
+    ensures job { job.new ≡ record job.old { left = job.old.left - 1; phase = job.new.phase } }
+    ensures after { state.new ≡ record state.old {
+      journal = state.new.journal;
+      last = state.new.last;
+      nodes = state.new.nodes;
+      late = state.new.late;
+    } }
+{
+    job.left -= 1;
+    step_phase(state, job.line, job.key, &mut job.phase, places, carrier)
+}
+
+impl Work {
+    /// One call of an operation that is prepared: its next message is sent and dealt with. It takes memory.
+    pub fn step<C: Carrier>(&mut self, carrier: &mut C) -> Advance
+        requires keeps { IsWork self.old }
+        requires carried { IsCarriedBy self.old.state (C.given carrier.old) }
+        requires prepared { IsToStep self.old.job }
+        ensures keeps { IsWork self.new }
+        ensures carried { IsCarriedBy self.new.state (C.given carrier.new) }
+        ensures planned { C.planned carrier.new ≡ C.planned carrier.old }
+        ensures kind { C.takes_plans carrier.new ≡ C.takes_plans carrier.old }
+        ensures advances { AdvancesBy self.old self.new (C.given carrier.old) (C.given carrier.new) result }
+    {
+        operations_end();
+        let Some(job) = &self.job else {
+            unreachable!();
+        };
+        let Phase::Prepared { .. } = &job.phase else {
+            unreachable!();
+        };
+        let Some(job) = &mut self.job else {
+            unreachable!();
+        };
+        step_job(&mut self.state, job, &mut self.places, carrier)
+    }
+}

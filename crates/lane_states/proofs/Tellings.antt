@@ -1,0 +1,100 @@
+-- A message that says something of a row comes back, and that it did stays known.
+use Rattle.std.proofs.Common.{◌≡◌, ◌+◌, ℕ, Bool, true, false, cond, eqb, eq-eqb, List, ◌∷◌, Option, Some, None, IfSome, IfNone, refl, sym, ap, subst, ◌∙◌}
+use Rattle.carriers.specs.declared.fate.Fate.{Fate}
+use Rattle.messages.specs.Noting.{noted_reply}
+use Rattle.messages.specs.declared.body.Body.{Body}
+use Rattle.messages.specs.declared.body.Body.TheVariants as body
+use Rattle.messages.specs.declared.message.Message.{Message}
+use Rattle.messages.specs.declared.reply.Reply.{Reply}
+use Rattle.lane_journals.specs.Events as plain
+use Rattle.lane_journals.specs.Readers.{or_else, only_if, sent, first_reply, returned}
+use Rattle.lane_journals.specs.Meanings.{history, meaning, meaning_reply}
+use Rattle.lane_journals.specs.declared.event.LaneEvent.{LaneEvent}
+use Rattle.lane_journals.specs.declared.event.LaneEvent.TheVariants.{Delivered, Returned}
+use Rattle.lane_journals.proofs.Basics.{sent-stays, first_reply-stays, returned-stays}
+use Rattle.node_journals.specs.Replaying.{sending, delivered}
+use Rattle.lane_carriage.specs.Carriage.{AreDelivered}
+use Rattle.lane_carriage.specs.Waits.{numbers}
+use Rattle.lane_keeping.specs.Asking.{IsJustSent}
+use Rattle.lane_keeping.specs.Laws.{IsNoAsk}
+use Rattle.lane_states.specs.declared.lane_state.LaneState.{LaneState}
+use Rattle.lane_states.specs.Growing.{met_at}
+use Rattle.lane_states.specs.LaneStates.{journal_of, Went}
+use Rattle.lane_states.specs.Tellings.{IsRowBody, IsAnsweredBy}
+use Rattle.lane_states.proofs.GivenOut.{over-all}
+use Rattle.lane_states.proofs.Staying.{IsOfMessage, stays-delivered, stays-dealt}
+
+pub row-no-ask : (b : Body) → IsRowBody b → IsNoAsk b
+row-no-ask body.Ask h = absurd h
+row-no-ask (body.Read b only) h = absurd h
+row-no-ask (body.Store e) h = absurd h
+row-no-ask (body.Apply b es) h = absurd h
+row-no-ask (body.Delete b s) h = tt
+row-no-ask (body.Split b) h = tt
+row-no-ask (body.Join b) h = tt
+row-no-ask (body.Ready b) h = tt
+row-no-ask (body.Activate b) h = tt
+
+-- ---- it comes back
+
+pub came-back : (J K : List LaneEvent) (number : ℕ) (m : Message) (r : Reply) → IsJustSent J number m → K ≡ Returned number ∷ delivered number r ∷ J → IsAnsweredBy K m.version m.receiver m.body r
+came-back J K number m r just is = subst (λ (X : List LaneEvent). IsAnsweredBy X m.version m.receiver m.body r) (sym is) (record {
+  number = number;
+  message = (just.flight).sending;
+  was_sent = was;
+  version = (just.flight).version_is;
+  receiver = (just.flight).receiver_is;
+  body_is = (just.flight).body_is;
+  before = J;
+  replied = first;
+  back = back;
+})
+  where
+    was : sent number (history (Returned number ∷ delivered number r ∷ J)) ≡ Some (just.flight).sending
+    was = (just.flight).was_sent
+
+    back : returned number (history (Returned number ∷ delivered number r ∷ J)) ≡ true
+    back = ap (λ (t : Bool). cond t true (returned number (history J))) (eq-eqb number number refl)
+
+    first : first_reply number (history (Returned number ∷ delivered number r ∷ J)) ≡ Some (meaning_reply J (noted_reply r))
+    first = ap (λ (o : Option plain.Reply). or_else o (only_if (eqb number number) (meaning_reply J (noted_reply r)))) just.unreplied
+        ∙ ap (λ (t : Bool). only_if t (meaning_reply J (noted_reply r))) (eq-eqb number number refl)
+
+-- it stays known
+pub came-stays : (v node : ℕ) (b : Body) (r : Reply) (e : LaneEvent) (J : List LaneEvent) → IsAnsweredBy J v node b r → IsAnsweredBy (e ∷ J) v node b r
+came-stays v node b r e J h = record {
+  number = h.number;
+  message = h.message;
+  was_sent = sent-stays h.number (history J) h.message (meaning J e) h.was_sent;
+  version = h.version;
+  receiver = h.receiver;
+  body_is = h.body_is;
+  before = h.before;
+  replied = first_reply-stays h.number (history J) (meaning_reply h.before (noted_reply r)) (meaning J e) h.replied;
+  back = returned-stays h.number (history J) (meaning J e) h.back;
+}
+
+pub came-late : (v node : ℕ) (b : Body) (r : Reply) (ns : List ℕ) (J K : List LaneEvent) → AreDelivered ns J K → IsAnsweredBy J v node b r → IsAnsweredBy K v node b r
+came-late v node b r ns J K d h = over-all (λ (X : List LaneEvent). IsAnsweredBy X v node b r) (λ n y X x. came-stays v node b r (Delivered n y) X x) ns J K d h
+
+-- ---- it doesn't
+
+pub silent-late : (number : ℕ) (ns : List ℕ) (J K : List LaneEvent) → AreDelivered ns J K → returned number (history J) ≡ false → returned number (history K) ≡ false
+silent-late number ns J K d h = over-all (λ (X : List LaneEvent). returned number (history X) ≡ false) (λ n y X x. x) ns J K d h
+
+-- ---- what stays over the events of messages stays over all events of one
+
+pub stays-went : (P : List LaneEvent → Type 0) → ((e : LaneEvent) (J : List LaneEvent) → IsOfMessage e → P J → P (e ∷ J)) → (c e : LaneState) (m : Message) (given now : List Fate) → Went c e m given now → P (journal_of c) → P (journal_of e)
+stays-went P stays c e m given now w p =
+    stays-delivered P stays (numbers (w.late).taken) w.between (journal_of e) (w.late).delivered
+    (stays-dealt P stays (met_at (journal_of c) m w.fate) (c.last + 1) (sending (c.last + 1) m ∷ journal_of c) w.between w.dealt (stays (sending (c.last + 1) m) (journal_of c) tt p))
+
+-- ---- whether it did or not
+
+pub some-late : (v node : ℕ) (b : Body) (o : Option Reply) (ns : List ℕ) (J K : List LaneEvent) → AreDelivered ns J K → IfSome o (IsAnsweredBy J v node b) → IfSome o (IsAnsweredBy K v node b)
+some-late v node b None ns J K d h = tt
+some-late v node b (Some r) ns J K d h = came-late v node b r ns J K d h
+
+pub none-late : (o : Option Reply) (n k : ℕ) (ns : List ℕ) (J K : List LaneEvent) → n ≡ k → AreDelivered ns J K → IfNone o (returned n (history J) ≡ false) → IfNone o (returned k (history K) ≡ false)
+none-late None n k ns J K e d h = silent-late k ns J K d (subst (λ (i : ℕ). returned i (history J) ≡ false) e h)
+none-late (Some r) n k ns J K e d h = tt

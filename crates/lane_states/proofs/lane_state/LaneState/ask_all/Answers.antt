@@ -1,0 +1,75 @@
+use Rattle.std.proofs.Common.{◌∙◌, ap, refl, subst}
+use Rattle.lane_states.specs.declared.lane_state.LaneState.{LaneState}
+use Rattle.lane_states.specs.declared.opening.Asking.{Asking}
+use Rattle.lane_states.specs.LaneStates.{journal_of, part_of}
+use Rattle.lane_states.specs.Openings.{AsksOn, AsksOne, IsOpenedNow, IsLacking, Nobody, StopsAfter}
+use Rattle.lane_states.proofs.Askings.{moved, fewer-left, asked-more, others-more, opened-after, lacks-after, stops-after, on-err}
+use Rattle.lane_states.proofs.lane_state.LaneState.ask_all.Goals as goal
+
+pub asking-init : goal.asking-init
+asking-init g c = record {
+  keeps = c.requires.keeps;
+  spare = c.requires.spare;
+  carried = c.requires.carried;
+  planned = refl;
+  kind = refl;
+  opening = c.requires.opening;
+  asked = Nobody;
+  others = λ e off. refl;
+  after = refl;
+  parts = refl;
+}
+
+pub asking-smaller : goal.asking-smaller
+asking-smaller g c =
+    let y = c.asking.self in
+    let z = c.ask_next.new.self in
+    let d = c.args.distributor in
+    let one : AsksOne y z d c.in-Further.one = subst (λ (a : Asking). AsksOn y z d a) c.in-Further.is c.in_ok-one.ensures.asks in
+    fewer-left y z d c.in-Further.one one
+
+pub asking-preserved : goal.asking-preserved
+asking-preserved g c =
+    let x = c.args.self.now in
+    let y = c.asking.self in
+    let z = c.ask_next.new.self in
+    let d = c.args.distributor in
+    let i = c.asking.invariant in
+    let one : AsksOne y z d c.in-Further.one = subst (λ (a : Asking). AsksOn y z d a) c.in-Further.is c.in_ok-one.ensures.asks in
+    record {
+      keeps = c.in_ok-one.ensures.keeps;
+      spare = c.in_ok-one.ensures.spare;
+      carried = c.in_ok-one.ensures.carried;
+      planned = c.in_ok-one.ensures.planned ∙ i.planned;
+      kind = c.in_ok-one.ensures.kind ∙ i.kind;
+      opening = one.opening;
+      asked = rw c.either-short.ensures (asked-more x y z d c.asking.short i.keeps i.asked i.after c.in-Further.one one);
+      others = others-more x y z d c.asking.short i.keeps i.asked i.after i.others c.in_ok-one.ensures.others;
+      after = c.in_ok-one.ensures.after ∙ ap (λ (w : LaneState). moved w z) i.after;
+      parts = c.in_ok-one.ensures.parts ∙ i.parts;
+    }
+
+pub returns-in-Opened-clause-ends : goal.returns-in-Opened-clause-ends
+returns-in-Opened-clause-ends g c =
+    let y = c.asking.self in
+    let z = c.ask_next.new.self in
+    let i = c.asking.invariant in
+    let o : IsOpenedNow y z c.args.distributor = subst (λ (a : Asking). AsksOn y z c.args.distributor a) c.in-Opened.is c.in_ok-one.ensures.asks in
+    opened-after c.args.self.now y z c.args.distributor c.asking.short i.keeps i.asked i.after o
+
+pub returns-in-Lacks-clause-ends : goal.returns-in-Lacks-clause-ends
+returns-in-Lacks-clause-ends g c =
+    let y = c.asking.self in
+    let z = c.ask_next.new.self in
+    let i = c.asking.invariant in
+    let l : IsLacking y z c.args.distributor c.in-Lacks.missing = subst (λ (a : Asking). AsksOn y z c.args.distributor a) c.in-Lacks.is c.in_ok-one.ensures.asks in
+    lacks-after c.args.self.now y z c.args.distributor c.asking.short i.keeps i.asked i.after c.in-Lacks.missing l
+
+pub returns-in_err-one-clause-stops : goal.returns-in_err-one-clause-stops
+returns-in_err-one-clause-stops g c =
+    let x = c.args.self.now in
+    let y = c.asking.self in
+    let z = c.ask_next.new.self in
+    let d = c.args.distributor in
+    let i = c.asking.invariant in
+    on-err _ (StopsAfter x d (journal_of z) (part_of z d)) (stops-after x y z d c.asking.short i.keeps i.asked i.after i.opening c.in_err-one.ensures.stops)

@@ -1,0 +1,32 @@
+use Rattle.std.proofs.Common.{◌∙◌, List, false, ap, sym, subst}
+use Rattle.messages.specs.Noting.{noted_reply}
+use Rattle.lane_journals.specs.declared.event.LaneEvent.{LaneEvent}
+use Rattle.lane_states.specs.declared.lane_state.LaneState.{LaneState}
+use Rattle.lane_states.specs.LaneStates.{journal_of}
+use Rattle.lane_states.specs.Growing.{IsSettled}
+use Rattle.lane_states.proofs.Settled.{settled-none, settled-stays}
+use Rattle.lane_states.proofs.lane_state.LaneState.deal_ask.Goals as goal
+
+pub returns-in-LoseRequest-clause-settled : goal.returns-in-LoseRequest-clause-settled
+returns-in-LoseRequest-clause-settled c =
+    let x = c.args.self.now in
+    subst (λ (J : List LaneEvent). IsSettled x.last J false) (sym (ap (λ (w : LaneState). journal_of w) c.bring_none.ensures.after)) (settled-none x.last (journal_of x) c.requires.just.unreturned)
+
+pub returns-in-LoseReply-clause-settled : goal.returns-in-LoseReply-clause-settled
+returns-in-LoseReply-clause-settled c =
+    let x = c.args.self.now in
+    subst (λ (J : List LaneEvent). IsSettled x.last J false) (sym (ap (λ (w : LaneState). journal_of w) c.bring_none-in-LoseReply.ensures.after ∙ c.deliver.ensures.grows))
+    (settled-stays x.last x.last (journal_of x) (noted_reply c.deliver.result) false (settled-none x.last (journal_of x) c.requires.just.unreturned))
+
+pub returns-in-Twice-clause-settled : goal.returns-in-Twice-clause-settled
+returns-in-Twice-clause-settled c =
+    let x = c.args.self.now in
+    let y = c.bring_back-short.new.self in
+    subst (λ (J : List LaneEvent). IsSettled x.last J c.bring_back-short.result) (sym c.deliver-in-Twice.ensures.grows)
+    (settled-stays x.last x.last (journal_of y) (noted_reply c.deliver-in-Twice.result) c.bring_back-short.result c.bring_back-short.ensures.settled)
+
+pub returns-in-Late-clause-settled : goal.returns-in-Late-clause-settled
+returns-in-Late-clause-settled c =
+    let x = c.args.self.now in
+    subst (λ (J : List LaneEvent). IsSettled x.last J false) (sym (ap (λ (w : LaneState). journal_of w) c.keep_late.ensures.after ∙ ap (λ (w : LaneState). journal_of w) c.bring_none-in-Late.ensures.after))
+    (settled-none x.last (journal_of x) c.requires.just.unreturned)

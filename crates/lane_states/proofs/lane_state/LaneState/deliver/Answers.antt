@@ -1,0 +1,34 @@
+use Rattle.std.proofs.Common.{rules, ◌≡◌, ◌≤◌, ◌<◌, length, slice_set, subst, arith}
+use Rattle.service_layer.specs.Nodes.{Node}
+use Rattle.node_journals.specs.NodeKeeping.{NodeKeeps}
+use Rattle.lane_keeping.specs.LaneKeeping.{node_in}
+use Rattle.lane_states.specs.LaneStates.{journal_of}
+use Rattle.lane_states.proofs.Kept.{kept_taken, kept_runs}
+use Rattle.lane_states.proofs.LaneSteps.{past-length, has-room, node-at, taken-at}
+use Rattle.lane_states.proofs.lane_state.LaneState.deliver.Goals as goal
+
+pub take_at-taken-requires-clause-room : goal.take_at-taken-requires-clause-room
+take_at-taken-requires-clause-room c =
+    let x = c.args.self.now in
+    let n = c.args.message.now.receiver in
+    let within : n < length x.nodes.items = search rules in
+    let is : node_in x.nodes.items n ≡ c.index_mut.result.now = node-at x.nodes.items n c.index_mut.result.now within (rw c.from.ensures at c.index_mut.ensures.value) in
+    let few : c.index_mut.result.now.serial ≤ length (journal_of x) = c.nodes_hold.ensures.serials (journal_of x) n c.index_mut.result.now (subst (λ (y : Node). NodeKeeps (journal_of x) n y) is (c.requires.keeps.keeps.nodes_are n)) in
+    let same : length (journal_of x) ≡ length x.journal.items = past-length x.journal.items in
+    has-room c.args.message.now.body c.index_mut.result.now.serial (omega (arith, few, same, x.journal.ok.0, x.journal.small))
+
+pub returns-clause-keeps : goal.returns-clause-keeps
+returns-clause-keeps c =
+    let within : c.args.message.now.receiver < length c.args.self.now.nodes.items = search rules in
+    rw (c.push_within.ensures.past, c.take_at-taken.ensures.noted, c.from.ensures)
+    (kept_taken c.requires.keeps (search rules) (c.events_are_kept.ensures.taken _ _ _ _ _ _ _ c.requires.keeps.keeps c.args.number c.args.message.now c.take_at-taken.result.reply
+    (slice_set c.args.self.now.nodes.items c.args.message.now.receiver c.take_at-taken.new.self) c.requires.flight (kept_runs c.requires.keeps c.args.message.now.receiver c.requires.receives)
+    (taken-at c.args.self.now.nodes.items c.args.message.now c.index_mut.result.now c.take_at-taken.new.self c.take_at-taken.result.reply within
+    (rw c.from.ensures at c.index_mut.ensures.value) c.take_at-taken.ensures.takes)))
+
+pub returns-clause-taken : goal.returns-clause-taken
+returns-clause-taken c =
+    let within : c.args.message.now.receiver < length c.args.self.now.nodes.items = search rules in
+    rw (c.from.ensures)
+    (taken-at c.args.self.now.nodes.items c.args.message.now c.index_mut.result.now c.take_at-taken.new.self c.take_at-taken.result.reply within
+    (rw c.from.ensures at c.index_mut.ensures.value) c.take_at-taken.ensures.takes)

@@ -1,0 +1,18 @@
+use Rattle.std.proofs.Common.{◌≡◌, ◌≤◌, ◌+◌, length, vec_len, vec_capacity}
+use Rattle.lane_states.specs.LaneStates.{journal_of, IsKept}
+use Rattle.lane_states.specs.Growing.{DeliversSome}
+use Rattle.lane_states.proofs.lane_state.LaneState.deliver_due.Given as goal
+
+-- some of those that are due are given out, and there is room for all that are left
+abbrev pub invariant-loop : goal.invariant-loop
+invariant-loop l = record {
+  keeps : IsKept l.self;
+  due : DeliversSome l.fn.self.last l.fn.self.late.late l.self.late.late (journal_of l.fn.self) (journal_of l.self);
+  after : l.self ≡ record l.fn.self { journal = l.self.journal; nodes = l.self.nodes; late = l.self.late };
+  nodes : vec_len l.self.nodes ≡ vec_len l.fn.self.nodes;
+  len : vec_len l.self.journal + length l.self.late.late ≤ vec_len l.fn.self.journal + length l.fn.self.late.late;
+  capacity : vec_capacity l.fn.self.journal ≤ vec_capacity l.self.journal;
+}
+
+abbrev pub decreases-loop : goal.decreases-loop
+decreases-loop l = length l.self.late.late

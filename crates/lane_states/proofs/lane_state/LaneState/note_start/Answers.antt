@@ -1,0 +1,14 @@
+use Rattle.lane_journals.specs.declared.event.LaneEvent.TheVariants as event
+use Rattle.lane_keeping.specs.LaneKeeping.{setting_of}
+use Rattle.lane_states.specs.LaneStates.{journal_of}
+use Rattle.lane_states.proofs.Kept.{kept_stop}
+use Rattle.lane_states.proofs.Stops.{start-step, stops-without}
+use Rattle.lane_states.proofs.lane_state.LaneState.note_start.Goals as goal
+
+pub returns-clause-keeps : goal.returns-clause-keeps
+returns-clause-keeps c =
+    let x = c.args.self.now in
+    let n = c.args.node in
+    rw c.push_within.ensures.past
+    (kept_stop c.requires.keeps (c.events_are_kept.ensures.quiet _ _ _ _ _ _ _ c.requires.keeps.keeps (event.Started n) tt (start-step (setting_of x.lane x.rules) (journal_of x) n c.requires.stopped))
+    (stops-without (journal_of x) x.stopped c.without-self.result n c.without-self.ensures c.requires.keeps.stops_are))

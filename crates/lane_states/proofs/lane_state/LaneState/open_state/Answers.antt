@@ -1,0 +1,76 @@
+use Rattle.std.proofs.Common.{◌≡◌, List, ap, sym, subst, refl}
+use Rattle.lane_journals.specs.declared.event.LaneEvent.{LaneEvent}
+use Rattle.lane_states.specs.declared.lane_state.LaneState.{LaneState}
+use Rattle.lane_states.specs.LaneStates.{journal_of, part_of}
+use Rattle.lane_states.specs.Openings.{EndsAsking, StopsAfter, EndsOpening}
+use Rattle.lane_states.proofs.Staying.{stays-ended, stays-stopped, RunsAs, IsIdleIn, runs-stay, runs-opened, idle-stays, idle-opened}
+use Rattle.lane_states.proofs.Askings.{rests-ended, rests-stopped}
+use Rattle.lane_states.proofs.lane_state.LaneState.open_state.Goals as goal
+
+pub returns-in-Ok-clause-ends : goal.returns-in-Ok-clause-ends
+returns-in-Ok-clause-ends g c =
+    let y = c.ask_all.new.self in
+    let same : journal_of c.give_up.new.self ≡ journal_of y = ap (λ (w : LaneState). journal_of w) c.give_up.ensures.after in
+    record {
+      part = part_of y c.args.distributor;
+      ends = subst (λ (J : List LaneEvent). EndsAsking c.args.self.now c.args.distributor c.in-Ok.end J (part_of y c.args.distributor)) (sym same) c.in-Ok.ensures.ends;
+      gives_up = c.give_up.ensures.gives_up;
+    }
+
+pub returns-in-Ok-clause-resting : goal.returns-in-Ok-clause-resting
+returns-in-Ok-clause-resting g c =
+    let y = c.ask_all.new.self in
+    let same : journal_of c.give_up.new.self ≡ journal_of y = ap (λ (w : LaneState). journal_of w) c.give_up.ensures.after in
+    let e : EndsOpening c.args.self.now c.give_up.new.self c.args.distributor c.in-Ok.end = record {
+      part = part_of y c.args.distributor;
+      ends = subst (λ (J : List LaneEvent). EndsAsking c.args.self.now c.args.distributor c.in-Ok.end J (part_of y c.args.distributor)) (sym same) c.in-Ok.ensures.ends;
+      gives_up = c.give_up.ensures.gives_up;
+    } in
+    rests-ended c.args.self.now c.give_up.new.self c.args.distributor c.in-Ok.end e
+
+pub returns-in-Err-clause-stops : goal.returns-in-Err-clause-stops
+returns-in-Err-clause-stops g c =
+    let y = c.ask_all.new.self in
+    let same : journal_of c.give_up-in-Err.new.self ≡ journal_of y = ap (λ (w : LaneState). journal_of w) c.give_up-in-Err.ensures.after in
+    record {
+      part = part_of y c.args.distributor;
+      stops = subst (λ (J : List LaneEvent). StopsAfter c.args.self.now c.args.distributor J (part_of y c.args.distributor)) (sym same) c.in-Err.ensures.stops;
+      gives_up = c.give_up-in-Err.ensures.gives_up;
+    }
+
+pub returns-in-Err-clause-resting : goal.returns-in-Err-clause-resting
+returns-in-Err-clause-resting g c =
+    rests-stopped c.args.self.now c.args.distributor (journal_of c.ask_all.new.self) (part_of c.ask_all.new.self c.args.distributor) (part_of c.give_up-in-Err.new.self c.args.distributor)
+    c.in-Err.ensures.stops c.give_up-in-Err.ensures.gives_up
+
+pub returns-in-Ok-clause-rounds : goal.returns-in-Ok-clause-rounds
+returns-in-Ok-clause-rounds g c =
+    let x = c.args.self.now in
+    let y = c.ask_all.new.self in
+    let d = c.args.distributor in
+    subst (λ (J : List LaneEvent). RunsAs (journal_of x) J) (sym (ap (λ (w : LaneState). journal_of w) c.give_up.ensures.after))
+    (stays-ended (RunsAs (journal_of x)) (runs-stay (journal_of x)) (runs-opened (journal_of x)) x d c.in-Ok.end.missing c.in-Ok.end.short (journal_of y) (part_of y d) c.in-Ok.ensures.ends (λ v b. refl))
+
+pub returns-in-Ok-clause-idle : goal.returns-in-Ok-clause-idle
+returns-in-Ok-clause-idle g c = λ idle.
+    let x = c.args.self.now in
+    let y = c.ask_all.new.self in
+    let d = c.args.distributor in
+    subst IsIdleIn (sym (ap (λ (w : LaneState). journal_of w) c.give_up.ensures.after))
+    (stays-ended IsIdleIn idle-stays idle-opened x d c.in-Ok.end.missing c.in-Ok.end.short (journal_of y) (part_of y d) c.in-Ok.ensures.ends idle)
+
+pub returns-in-Err-clause-rounds : goal.returns-in-Err-clause-rounds
+returns-in-Err-clause-rounds g c =
+    let x = c.args.self.now in
+    let y = c.ask_all.new.self in
+    let d = c.args.distributor in
+    subst (λ (J : List LaneEvent). RunsAs (journal_of x) J) (sym (ap (λ (w : LaneState). journal_of w) c.give_up-in-Err.ensures.after))
+    (stays-stopped (RunsAs (journal_of x)) (runs-stay (journal_of x)) (runs-opened (journal_of x)) x d (journal_of y) (part_of y d) c.in-Err.ensures.stops (λ v b. refl))
+
+pub returns-in-Err-clause-idle : goal.returns-in-Err-clause-idle
+returns-in-Err-clause-idle g c = λ idle.
+    let x = c.args.self.now in
+    let y = c.ask_all.new.self in
+    let d = c.args.distributor in
+    subst IsIdleIn (sym (ap (λ (w : LaneState). journal_of w) c.give_up-in-Err.ensures.after))
+    (stays-stopped IsIdleIn idle-stays idle-opened x d (journal_of y) (part_of y d) c.in-Err.ensures.stops idle)

@@ -1,0 +1,118 @@
+-- The fields of a lane, and what its calls say of them.
+use Rattle.std.specs.Prelude.{◌≡◌, ◌≤◌, ◌<◌, ◌+◌, ◌^◌, ℕ, Bool, false, List, [], ◌∷◌, ◌++◌, length, Option, None, vec_len, vec_capacity}
+use Rattle.bucket_ids.specs.Buckets.{Low}
+use Rattle.node_sets.specs.Members.{has_node}
+use Rattle.cluster_states.specs.declared.cluster_state.ClusterState.{ClusterState}
+use Rattle.messages.specs.declared.message.Message.{Message}
+use Rattle.service_layer.specs.Nodes.{Node}
+use Rattle.distributor_part.specs.declared.rules.Rules.{Rules}
+use Rattle.distributor_part.specs.declared.stage.Stage.TheVariants.{Before}
+use Rattle.distributor_part.specs.Parts.{Part}
+use Rattle.lane_journals.specs.Readers.{stopped}
+use Rattle.lane_journals.specs.Meanings.{history}
+use Rattle.lane_journals.specs.KeptJournals.{past}
+use Rattle.lane_journals.specs.declared.event.LaneEvent.{LaneEvent}
+use Rattle.carriers.specs.declared.fate.Fate.{Fate}
+use Rattle.late_messages.specs.Waiting.{Each, NoneIsDue}
+use Rattle.late_messages.specs.declared.late.Late.{Late}
+use Rattle.node_journals.specs.Flights.{IsInFlight}
+use Rattle.node_journals.specs.Replaying.{sending}
+use Rattle.lane_carriage.specs.Carriage.{IsCarried, IsDealt}
+use Rattle.lane_carriage.specs.Waits.{IsWaiting, kept_by}
+use Rattle.lane_states.specs.Growing.{met_at, DeliversSome}
+use Rattle.lane_states.specs.declared.lane_state.LaneState.{LaneState}
+use Rattle.lane_keeping.specs.LaneKeeping.{part_in, Keeps}
+use Rattle.lane_keeping.specs.Asking.{IsAsking}
+
+-- what a lane is set up with lies within the limits
+pub record IsSetUp (lane : Low) (rules : Rules) : Type 0 where
+  pub some : 1 ≤ lane.bits
+  pub most : lane.bits ≤ 6
+  pub fits : lane.low < 2 ^ lane.bits
+  pub acked : 1 ≤ rules.acks
+  pub enough : rules.acks ≤ rules.redundancy
+  pub few : rules.redundancy ≤ 8
+
+abbrev pub journal_of : LaneState → List LaneEvent
+journal_of c = past c.journal.items
+
+-- a late message is on its way to a node that is there
+pub record IsComing (J : List LaneEvent) (nodes : List Node) (l : Late) : Type 0 where
+  pub flight : IsInFlight J l.number l.message
+  pub there : l.message.receiver < length nodes
+
+-- these nodes are stopped, and no others
+abbrev pub AreStopped : (ℕ → Bool) → ℕ → Type 0
+AreStopped is_stopped stops = (n : ℕ) → is_stopped n ≡ has_node stops n
+
+-- the lane's bucket is one of a lane, nodes and parts are what the journal says, late messages are on their way, each
+-- message has an event, so that the next number finds room where the journal has some, and it is known who is stopped
+pub record IsKeptBy (lane : Low) (rules : Rules) (J : List LaneEvent) (newest : Option ClusterState) (last : ℕ) (nodes : List Node) (parts : List Part) (late : List Late) (stops : ℕ) : Type 0 where
+  pub small : lane.bits ≤ 6
+  pub keeps : Keeps lane rules J newest last nodes parts
+  pub coming : Each (IsComing J nodes) late
+  pub counted : last ≤ length J
+  pub stops_are : AreStopped (λ n. stopped n (history J)) stops
+
+abbrev pub IsKept : LaneState → Type 0
+IsKept c = IsKeptBy c.lane c.rules (journal_of c) c.newest c.last c.nodes.items c.parts.items c.late.late c.stopped
+
+-- the node runs
+abbrev pub Receives : LaneState → ℕ → Type 0
+Receives c n = has_node c.stopped n ≡ false
+
+-- so many events more find room, and those for which there always is
+abbrev pub HasRoom : ℕ → LaneState → Type 0
+HasRoom many c = vec_len c.journal + many + c.spare ≤ vec_capacity c.journal
+
+-- the part of a distributor
+abbrev pub part_of : LaneState → ℕ → Part
+part_of c d = part_in c.lane c.rules c.parts.items d
+
+-- no job of the distributor is under way
+pub record IsResting (p : Part) : Type 0 where
+  pub unasked : p.asked ≡ 0
+  pub told : p.awaited ≡ None
+  pub no_round : p.stage ≡ Before
+
+abbrev pub AreResting : LaneState → Type 0
+AreResting c = (d : ℕ) → IsResting (part_of c d)
+
+-- the distributor is about to send the message
+abbrev pub Asks : LaneState → ℕ → Message → Type 0
+Asks c d m = IsAsking c.lane d (part_of c d) m
+
+-- ---- the carrier
+
+-- each message had the events of the fate that was given, and just those late ones wait that are still to come
+pub record AreCarried (given : List Fate) (J : List LaneEvent) (last : ℕ) (late : List Late) : Type 0 where
+  pub carried : IsCarried given J
+  pub waiting : IsWaiting given last late
+
+abbrev pub IsCarriedBy : LaneState → List Fate → Type 0
+IsCarriedBy c given = AreCarried given (journal_of c) c.last c.late.late
+
+-- each message still had just the events of its fate
+abbrev pub StaysCarried : LaneState → LaneState → Type 0
+StaysCarried old new = (given : List Fate) → IsCarriedBy old given → IsCarriedBy new given
+
+-- ---- what a call leaves
+
+-- nothing happened in the lane
+pub record Stays (c e : LaneState) : Type 0 where
+  pub journal : journal_of e ≡ journal_of c
+  pub late : e.late.late ≡ c.late.late
+  pub last : e.last ≡ c.last
+  pub parts : (d : ℕ) → part_of e d ≡ part_of c d
+
+-- a message was sent with the next number and dealt with by the fate that the carrier gave it, as its receiver ran or
+-- was stopped, and the late ones that were due then were given out
+pub record Went (c e : LaneState) (m : Message) (given now : List Fate) : Type 0 where
+  pub fate : Fate
+  pub fates : now ≡ given ++ fate ∷ []
+  pub next : e.last ≡ c.last + 1
+  -- the journal once it was dealt with
+  pub between : List LaneEvent
+  pub dealt : IsDealt (met_at (journal_of c) m fate) (c.last + 1) (sending (c.last + 1) m ∷ journal_of c) between
+  pub late : DeliversSome (c.last + 1) (kept_by fate (c.last + 1) m c.late.late) e.late.late between (journal_of e)
+  pub none_left : NoneIsDue (c.last + 1) e.late.late

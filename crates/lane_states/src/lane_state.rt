@@ -1,0 +1,146 @@
+ghost use Rattle.std.specs.Prelude.{◌≡◌, ◌≤◌, ◌<◌, ◌+◌, ◌-◌, ◌^◌, ◌∷◌, [], None, Some, OnOk, vec_len, vec_capacity};
+ghost use Rattle.cluster_states.specs.Publishing.{publish_fault};
+ghost use Rattle.lane_journals.specs.Places.{told};
+ghost use Rattle.lane_journals.specs.KeptJournals.{past};
+ghost use Rattle.lane_journals.specs.declared.event.LaneEvent.TheVariants as event;
+ghost use Rattle.node_journals.specs.Replaying.{sending};
+ghost use Rattle.lane_keeping.specs.LaneKeeping.{setting_of};
+ghost use Rattle.lane_states.specs.LaneStates.{journal_of, IsKept, Asks};
+ghost use Rattle.lane_keeping.specs.Asking.{IsJustSent};
+
+use bucket_ids::Bucket;
+use cluster_states::ClusterState;
+use distributor_part::{DistributorPart, Rules};
+use lane_journals::LaneEvent;
+use lane_journals::laws::states_are_published;
+use lane_keeping::laws::{asks_are_kept, lanes_begin, states_are_kept};
+use late_messages::LateList;
+use messages::{Message, NotedBody};
+use node_sets::NodeSet;
+use service_layer::NodePart;
+use std::alloc::Global;
+use value_lists::NoMemory;
+
+/// A lane's journal, and what it says: the state that was published last, the number of the last message,
+/// the nodes and the distributors' parts, and which nodes are stopped. A node or a part is made when it is first
+/// needed.
+#[derive(Drop)]
+pub struct LaneState {
+    pub lane: Bucket,
+    pub rules: Rules,
+    pub journal: Vec<LaneEvent>,
+    pub newest: Option<ClusterState>,
+    pub last: u64,
+    pub nodes: Vec<NodePart>,
+    pub stopped: NodeSet,
+    pub parts: Vec<DistributorPart>,
+    /// The messages that are to be delivered late.
+    pub late: LateList,
+    /// For so many events there is room, whatever else the lane does.
+    pub spare: usize,
+    pub alloc: Global,
+}
+
+/// Appends an event for which there is room.
+pub fn push_within(events: &mut Vec<LaneEvent>, event: LaneEvent)
+    requires { vec_len events.old + 1 ≤ vec_capacity events.old }
+    ensures past { past events.new.items ≡ event ∷ past events.old.items }
+    ensures len { vec_len events.new ≡ vec_len events.old + 1 }
+    ensures capacity { vec_capacity events.old ≤ vec_capacity events.new }
+{
+    match events.push(event) {
+        Ok(()) => {}
+        Err(_) => unreachable!(),
+    }
+}
+
+impl LaneState {
+    /// A lane in which nothing happened; takes no memory. A lane's bucket has at most 6 bits.
+    pub fn new(alloc: Global, lane: Bucket, rules: Rules) -> LaneState
+        requires small { lane.bits ≤ 6 }
+        ensures keeps { IsKept result }
+        ensures journal { journal_of result ≡ [] }
+        ensures lane { result.lane ≡ lane }
+        ensures rules { result.rules ≡ rules }
+        ensures newest { result.newest ≡ None }
+        ensures last { result.last ≡ 0 }
+        ensures parts { result.parts.items ≡ [] }
+        ensures late { result.late.late ≡ [] }
+        ensures spare { result.spare ≡ 0 }
+    {
+        lanes_begin();
+        LaneState {
+            lane,
+            rules,
+            journal: Vec::new(alloc),
+            newest: None,
+            last: 0,
+            nodes: Vec::new(alloc),
+            stopped: NodeSet::none(),
+            parts: Vec::new(alloc),
+            late: LateList::new(alloc),
+            spare: 0,
+            alloc,
+        }
+    }
+
+    /// Makes room for one publication. The only error is want of memory.
+    pub fn room(&mut self) -> Result<(), NoMemory>
+        requires keeps { IsKept self.old }
+        ensures keeps { IsKept self.new }
+        ensures same { self.new.journal.items ≡ self.old.journal.items }
+        ensures after { self.new ≡ record self.old { journal = self.new.journal } }
+        ensures room { OnOk result (vec_len self.new.journal + 1 ≤ vec_capacity self.new.journal) }
+    {
+        self.journal.reserve(1)?;
+        Ok(())
+    }
+
+    /// Notes that a state is published.
+    pub fn publish(&mut self, state: &ClusterState)
+        requires keeps { IsKept self.old }
+        requires acks { 1 ≤ self.old.rules.acks }
+        requires accepted { publish_fault (told (setting_of self.old.lane self.old.rules) (journal_of self.old)) state.now
+            ≡ None }
+        requires room { vec_len self.old.journal + 1 ≤ vec_capacity self.old.journal }
+        ensures keeps { IsKept self.new }
+        ensures grows { journal_of self.new ≡ event.Published state.now ∷ journal_of self.old }
+        ensures after { self.new ≡ record self.old { journal = self.new.journal; newest = Some state.now } }
+        ensures len { vec_len self.new.journal ≡ vec_len self.old.journal + 1 }
+        ensures capacity { vec_capacity self.old.journal ≤ vec_capacity self.new.journal }
+    {
+        states_are_published();
+        states_are_kept();
+        // that it has at most 32 nodes is known once its version is read
+        let _version = state.version();
+        push_within(&mut self.journal, LaneEvent::Published { state: *state });
+        self.newest = Some(*state);
+    }
+
+    /// Notes that the Ask of a distributor is sent.
+    pub fn send(&mut self, distributor: u8, message: &Message)
+        requires keeps { IsKept self.old }
+        requires asks { Asks self.old distributor message.now }
+        requires few { self.old.last < 2 ^ 64 - 1 }
+        requires room { vec_len self.old.journal + 1 ≤ vec_capacity self.old.journal }
+        ensures keeps { IsKept self.new }
+        ensures grows { journal_of self.new ≡ sending (self.old.last + 1) message.now ∷ journal_of self.old }
+        ensures sent { IsJustSent (journal_of self.new) (self.old.last + 1) message.now }
+        ensures after { self.new ≡ record self.old { journal = self.new.journal; last = self.old.last + 1 } }
+        ensures len { vec_len self.new.journal ≡ vec_len self.old.journal + 1 }
+        ensures capacity { vec_capacity self.old.journal ≤ vec_capacity self.new.journal }
+    {
+        asks_are_kept();
+        self.last += 1;
+        push_within(
+            &mut self.journal,
+            LaneEvent::Sent {
+                number: self.last,
+                version: message.version,
+                sender: message.sender,
+                receiver: message.receiver,
+                body: NotedBody::Ask,
+            },
+        );
+    }
+}

@@ -1,0 +1,715 @@
+ghost use Rattle.std.specs.Prelude.{◌≡◌, ◌≤◌, ◌<◌, ◌+◌, ◌↔◌, ◌&&◌, ◌||◌, ℕ, List, Option, ◌∷◌, true, false, None, Some, IsSome, OnOk, OnErr, IfOk, IfSome, IfNone, length, vec_len, vec_capacity};
+ghost use Rattle.bucket_ids.specs.Buckets.{Low, IsIn};
+ghost use Rattle.node_sets.specs.Members.{has_node};
+ghost use Rattle.messages.specs.Noting.{noted_body, noted_reply};
+ghost use Rattle.messages.specs.declared.reply.Reply.TheVariants as reply;
+ghost use Rattle.messages.specs.declared.noted.NotedReply.TheVariants as noted;
+ghost use Rattle.stamps.specs.declared.stamp.Stamp.{Stamp};
+ghost use Rattle.messages.specs.declared.operation.Operation.{Operation};
+ghost use Rattle.carriers.specs.declared.fate.Fate.{Fate};
+ghost use Rattle.carriers.specs.declared.fate.Fate.TheVariants as fate;
+ghost use Rattle.distributor_part.specs.declared.stage.Stage.TheVariants as stage;
+ghost use Rattle.distributor_part.specs.Parts.{IsOwning, rows_of};
+ghost use Rattle.distributor_part.specs.Upkeep.{BeginsRoundAt};
+ghost use Rattle.distributor_part.specs.Steps.{BeginsRound};
+ghost use Rattle.distributor_part.specs.Steps as steps;
+ghost use Rattle.merge_rounds.specs.Rounds.{HaveAllShown, IsOver};
+ghost use Rattle.late_messages.specs.Waiting.{AreSentBefore};
+ghost use Rattle.lane_carriage.specs.Carriage.{IsDealt};
+ghost use Rattle.lane_carriage.specs.Readers.{IsPrompt};
+ghost use Rattle.lane_carriage.specs.Waits.{kept_by};
+ghost use Rattle.lane_journals.specs.Facts.{Idle};
+ghost use Rattle.lane_journals.specs.Meanings.{history, entry_at};
+ghost use Rattle.lane_journals.specs.KeptJournals.{IsLegalStep};
+ghost use Rattle.node_journals.specs.Flights.{IsInFlight, Brings, IsWhole};
+ghost use Rattle.node_journals.specs.Replaying.{sending};
+ghost use Rattle.lane_keeping.specs.LaneKeeping.{setting_of};
+ghost use Rattle.lane_keeping.specs.Asking.{IsJustSent, OthersStay};
+ghost use Rattle.lane_rounds.specs.RoundKeeping.{IsAwaited};
+ghost use Rattle.lane_wants.specs.Wants.{IsRun, IsCutRun};
+ghost use Rattle.lane_states.specs.LaneStates.{journal_of, IsKept, HasRoom, Receives, part_of, IsCarriedBy};
+ghost use Rattle.lane_states.specs.RoundRuns.{IsAfterReply, IsRoundToldBy, is_refusal, NoneRuns, IsRunning, IsToSend, IsCutOff, GoesOn, IsRunToldBy, left, IsRunBy, MayBegin, MayBeginAt, LowIsThere, IsNewRun, EndsEnough, Begins, RunsOn, EndsWith, IsStageOver, IsToldOver, EndsJob, EndsRun, are_missing, is_short, IsEnd, IsBegunFor, OfWaited, IsWholeRun, IsCutShort};
+
+use crate::lane_state::{LaneState, push_within};
+use bucket_db::Row;
+use bucket_ids::Bucket;
+use carriers::{Carrier, Fate};
+use cluster_states::ClusterState;
+use distributor_part::DistributorPart;
+use lane_carriage::laws::late_messages_wait;
+use lane_journals::LaneEvent;
+use lane_keeping::laws::{
+    events_are_kept, marks_are_kept, nodes_refuse_for_memory, owners_act, parts_are_told,
+};
+use lane_rounds::laws::{rounds_begin, rounds_end, rounds_hear, rounds_send};
+use merge_rounds::Round;
+use messages::{Decision, Job, Message, NotedBody, NotedReply, Origin, Reply, Step};
+use node_journals::laws::{messages_fly, nodes_hold};
+use node_sets::NodeSet;
+use service_layer::Taken;
+use std::alloc::Global;
+use value_lists::NoMemory;
+
+/// A round under way, and whose it is.
+#[derive(Drop)]
+pub struct RoundRun {
+    pub distributor: u8,
+    pub state: ClusterState,
+    /// The key whose row it is for.
+    pub key: u64,
+    pub round: Round,
+    /// Whether a node that was asked for the row replied that it wants memory.
+    pub unread: bool,
+    /// Whether one that was to take the union did.
+    pub unapplied: bool,
+}
+
+/// What a round came to.
+#[derive(Drop)]
+pub struct RoundEnd {
+    /// The row of the key with its marks.
+    pub row: Row,
+    /// Whether each reader has answered, so that there was a union.
+    pub whole: bool,
+    /// The nodes that were asked last and didn't answer: for the union if there was one, else for the row.
+    pub missing: NodeSet,
+    /// Whether one of those asked last replied that it wants memory.
+    pub short: bool,
+}
+
+/// A round that begins.
+#[derive(Clone, Copy)]
+pub struct RoundPlan {
+    pub bucket: Bucket,
+    pub receivers: NodeSet,
+}
+
+/// Tells a round that the node wants memory; takes none.
+fn tell_short(alloc: Global, round: &mut Round, node: u8) -> NotedReply
+    requires awaited { round.old.awaited ≡ Some node }
+    requires small { node < 32 }
+    ensures told { IsAfterReply round.old round.new node (Some reply.NoMemory) }
+    ensures noted { result ≡ noted.NoMemory }
+{
+    let Ok(()) = round.answer(alloc, node, Some(&Reply::NoMemory)) else {
+        unreachable!();
+    };
+    NotedReply::NoMemory
+}
+
+/// Tells a round that no reply comes; takes no memory.
+fn tell_none(alloc: Global, round: &mut Round, node: u8)
+    requires awaited { round.old.awaited ≡ Some node }
+    requires small { node < 32 }
+    ensures { IsAfterReply round.old round.new node None }
+{
+    let Ok(()) = round.answer(alloc, node, None) else {
+        unreachable!();
+    };
+}
+
+/// Tells a round the reply of a node, and gives what is to be noted: the reply, or that the node wants memory
+/// where the round can't keep its answer.
+fn tell(alloc: Global, round: &mut Round, node: u8, taken: Taken) -> NotedReply
+    requires awaited { round.old.awaited ≡ Some node }
+    requires small { node < 32 }
+    requires noted { taken.noted ≡ noted_reply taken.reply }
+    ensures { IsRoundToldBy round.old round.new node taken.reply result }
+{
+    match round.answer(alloc, node, Some(&taken.reply)) {
+        Ok(()) => taken.noted,
+        Err(_) => tell_short(alloc, round, node),
+    }
+}
+
+/// Whether a node replied that it wants memory.
+fn is_refusal(reply: &NotedReply) -> bool
+    ensures { result ≡ is_refusal reply.now }
+{
+    match reply {
+        NotedReply::NoMemory => true,
+        _ => false,
+    }
+}
+
+/// A flag that a refusal raises in its phase.
+fn raised(flag: bool, phase: bool, refused: bool) -> bool
+    ensures { result ≡ (flag || (phase && refused)) }
+{
+    flag || (phase && refused)
+}
+
+/// Tells a round the reply of a node, gives what is to be noted, and keeps in mind that the node wants memory.
+fn tell_run(alloc: Global, run: &mut RoundRun, node: u8, taken: Taken) -> NotedReply
+    requires awaited { run.old.round.awaited ≡ Some node }
+    requires small { node < 32 }
+    requires noted { taken.noted ≡ noted_reply taken.reply }
+    ensures { IsRunToldBy run.old run.new node taken.reply result }
+{
+    let reading = run.round.is_reading();
+    let reply = tell(alloc, &mut run.round, node, taken);
+    let refused = is_refusal(&reply);
+    run.unread = raised(run.unread, reading, refused);
+    run.unapplied = raised(run.unapplied, !reading, refused);
+    reply
+}
+
+/// The step by which a part begins the round of a key's row; none where the row has enough complete members.
+fn begin_step(alloc: Global, part: &mut DistributorPart, key: u64) -> Option<RoundPlan>
+    requires opened { IsSome part.old.rows }
+    requires owner { IsOwning part.old }
+    requires told { part.old.awaited ≡ None }
+    requires no_round { part.old.stage ≡ stage.Before }
+    requires inside { IsIn part.old.lane key }
+    ensures some { IfSome result (λ plan. BeginsRound part.old part.new key plan.bucket plan.receivers) }
+    ensures none { IfNone result (EndsEnough part.old part.new key) }
+{
+    let Ok(step) = part.next_step(alloc, Job::Prepare { key }) else {
+        unreachable!();
+    };
+    match &step {
+        Step::Decide(Decision::RoundBegun { bucket, receivers }) => Some(RoundPlan {
+            bucket: *bucket,
+            receivers: *receivers,
+        }),
+        Step::Finished { .. } => None,
+        _ => unreachable!(),
+    }
+}
+
+/// Begins the round of the row of a place at a part, and says what it is; takes no memory.
+fn begin_at(part: &mut DistributorPart, at: usize) -> RoundPlan
+    requires heard { IsSome part.old.state }
+    requires opened { IsSome part.old.rows }
+    requires place { at < length (rows_of part.old.rows) }
+    requires no_round { part.old.stage ≡ stage.Before }
+    ensures begins { BeginsRoundAt part.old part.new at result.bucket result.receivers }
+    ensures key { LowIsThere part.old.lane result.bucket }
+{
+    let bucket = part.rows()[at].bucket;
+    let receivers = part.begin_round(at);
+    RoundPlan { bucket, receivers }
+}
+
+/// Tells a part that its round is over; takes no memory. Whom the round lacks is asked of the round, and so it is
+/// of no matter here whether there is a union.
+fn tell_over(part: &mut DistributorPart, round: &Round)
+    requires { steps.IsRunning part.old.stage }
+    ensures { IsToldOver part.old part.new round.now.holders }
+{
+    let Ok(()) = part.round_over(round.holders(), None, round.shown()) else {
+        unreachable!();
+    };
+}
+
+/// The step by which a part ends its round, and its job is over; gives the row of the key.
+fn end_step(alloc: Global, part: &mut DistributorPart, key: u64) -> Row
+    requires over { IsStageOver part.old.stage }
+    requires opened { IsSome part.old.rows }
+    requires owner { IsOwning part.old }
+    requires told { part.old.awaited ≡ None }
+    requires inside { IsIn part.old.lane key }
+    ensures { EndsJob part.old part.new key result }
+{
+    let Ok(Step::Decide(Decision::RoundEnded { .. })) = part.next_step(alloc, Job::Prepare { key })
+    else {
+        unreachable!();
+    };
+    part.give_up();
+    let at = part.row_of(key);
+    part.rows()[at]
+}
+
+/// A round that has sent nothing.
+fn run_of(
+    alloc: Global,
+    lane: Bucket,
+    distributor: u8,
+    state: ClusterState,
+    key: u64,
+    plan: RoundPlan,
+) -> RoundRun
+    requires { lane.bits ≤ 6 }
+    ensures { IsNewRun lane distributor state key plan.bucket plan.receivers result }
+{
+    let origin = Origin {
+        version: state.version(),
+        lane: lane.low() as u8,
+        sender: distributor,
+    };
+    let round = Round::new(alloc, origin, plan.bucket, state.serving(), plan.receivers);
+    RoundRun {
+        distributor,
+        state,
+        key,
+        round,
+        unread: false,
+        unapplied: false,
+    }
+}
+
+/// What a round came to, whose row is this.
+fn end_of(run: &RoundRun, row: Row) -> RoundEnd
+    ensures row { result.row ≡ row }
+    ensures whole { (result.whole ≡ true) ↔ HaveAllShown run.now.round.readers run.now.round.shown }
+    ensures missing { (n : ℕ) → has_node result.missing n ≡ are_missing run.now.round result.whole n }
+    ensures short { result.short ≡ is_short run.now result.whole }
+{
+    if run.round.union().is_some() {
+        RoundEnd {
+            row,
+            whole: true,
+            missing: run.round.receivers().difference(run.round.holders()),
+            short: run.unapplied,
+        }
+    } else {
+        RoundEnd {
+            row,
+            whole: false,
+            missing: run.round.silent(),
+            short: run.unread,
+        }
+    }
+}
+
+impl LaneState {
+    // ---- one message
+
+    /// Delivers the message of a round that is waited for, tells the round the reply, and notes that it is
+    /// returned; takes no memory but for the answer.
+    fn bring_back_round(&mut self, run: &mut RoundRun, number: u64, message: &Message)
+        requires keeps { IsKept self.old }
+        requires runs { IsRunning self.old.lane (journal_of self.old) run.old }
+        requires awaited { IsAwaited (journal_of self.old) run.old.round number message.now }
+        requires receives { Receives self.old message.now.receiver }
+        requires small { message.now.receiver < 32 }
+        requires node { message.now.receiver < vec_len self.old.nodes }
+        requires room { vec_len self.old.journal + 2 ≤ vec_capacity self.old.journal }
+        ensures keeps { IsKept self.new }
+        ensures runs { IsRunning self.old.lane (journal_of self.new) run.new }
+        ensures told { run.new.round.awaited ≡ None }
+        ensures left { left run.new.round ≡ left run.old.round }
+        ensures same { GoesOn run.old run.new }
+        ensures dealt { IsDealt fate.Deliver number (journal_of self.old) (journal_of self.new) }
+        ensures flight { IsInFlight (journal_of self.new) number message.now }
+        ensures after { self.new ≡ record self.old { journal = self.new.journal; nodes = self.new.nodes } }
+        ensures nodes { vec_len self.new.nodes ≡ vec_len self.old.nodes }
+        ensures len { vec_len self.new.journal ≡ vec_len self.old.journal + 2 }
+        ensures capacity { vec_capacity self.old.journal ≤ vec_capacity self.new.journal }
+    {
+        events_are_kept();
+        nodes_refuse_for_memory();
+        messages_fly();
+        nodes_hold();
+        rounds_hear();
+        let taken = self.nodes[usize::from(message.receiver)].take(message);
+        let reply = tell_run(self.alloc, run, message.receiver, taken);
+        push_within(&mut self.journal, LaneEvent::Delivered { number, reply });
+        push_within(&mut self.journal, LaneEvent::Returned { number });
+    }
+
+    /// Tells a round that no reply to its message comes; takes no memory.
+    fn bring_none_round(&self, run: &mut RoundRun, node: u8)
+        requires keeps { IsKept self.now }
+        requires runs { IsRunning self.now.lane (journal_of self.now) run.old }
+        requires awaited { run.old.round.awaited ≡ Some node }
+        requires small { node < 32 }
+        ensures runs { IsRunning self.now.lane (journal_of self.now) run.new }
+        ensures told { run.new.round.awaited ≡ None }
+        ensures left { left run.new.round ≡ left run.old.round }
+        ensures same { GoesOn run.old run.new }
+    {
+        rounds_hear();
+        tell_none(self.alloc, &mut run.round, node);
+    }
+
+    /// Delivers a message while a round is under way, and its reply is lost; takes no memory.
+    fn deliver_round(&mut self, run: &RoundRun, number: u64, message: &Message)
+        requires keeps { IsKept self.old }
+        requires runs { IsRunning self.old.lane (journal_of self.old) run.now }
+        requires flight { IsInFlight (journal_of self.old) number message.now }
+        requires receives { Receives self.old message.now.receiver }
+        requires there { message.now.receiver < vec_len self.old.nodes }
+        requires room { vec_len self.old.journal + 1 ≤ vec_capacity self.old.journal }
+        ensures keeps { IsKept self.new }
+        ensures runs { IsRunning self.old.lane (journal_of self.new) run.now }
+        ensures flight { IsInFlight (journal_of self.new) number message.now }
+        ensures grows { IsDealt fate.LoseReply number (journal_of self.old) (journal_of self.new) }
+        ensures after { self.new ≡ record self.old { journal = self.new.journal; nodes = self.new.nodes } }
+        ensures nodes { vec_len self.new.nodes ≡ vec_len self.old.nodes }
+        ensures len { vec_len self.new.journal ≡ vec_len self.old.journal + 1 }
+        ensures capacity { vec_capacity self.old.journal ≤ vec_capacity self.new.journal }
+    {
+        messages_fly();
+        self.deliver(number, None, message);
+    }
+
+    /// Deals with a round's message that was just sent, by its fate; the round is told the reply, or that none
+    /// comes. There is room for its events, and a place for a late message.
+    fn deal_round(&mut self, run: &mut RoundRun, fate: Fate, message: Message)
+        requires keeps { IsKept self.old }
+        requires runs { IsRunning self.old.lane (journal_of self.old) run.old }
+        requires awaited { IsAwaited (journal_of self.old) run.old.round self.old.last message }
+        requires receives { IsPrompt fate → Receives self.old message.receiver }
+        requires before { AreSentBefore self.old.last self.old.late.late }
+        requires small { message.receiver < 32 }
+        requires node { message.receiver < vec_len self.old.nodes }
+        requires room { vec_len self.old.journal + 3 ≤ vec_capacity self.old.journal }
+        requires place { self.old.late.room ≡ true }
+        ensures keeps { IsKept self.new }
+        ensures runs { IsRunning self.old.lane (journal_of self.new) run.new }
+        ensures told { run.new.round.awaited ≡ None }
+        ensures left { left run.new.round ≡ left run.old.round }
+        ensures same { GoesOn run.old run.new }
+        ensures dealt { IsDealt fate self.old.last (journal_of self.old) (journal_of self.new) }
+        ensures late { self.new.late.late ≡ kept_by fate self.old.last message self.old.late.late }
+        ensures after { self.new
+            ≡ record self.old { journal = self.new.journal; nodes = self.new.nodes; late = self.new.late } }
+        ensures nodes { vec_len self.new.nodes ≡ vec_len self.old.nodes }
+        ensures len { vec_len self.new.journal + length self.new.late.late
+            ≤ vec_len self.old.journal + length self.old.late.late + 3 }
+        ensures capacity { vec_capacity self.old.journal ≤ vec_capacity self.new.journal }
+    {
+        let number = self.last;
+        match fate {
+            Fate::Deliver => {
+                self.bring_back_round(run, number, &message);
+            }
+            Fate::LoseRequest => {
+                self.bring_none_round(run, message.receiver);
+            }
+            Fate::LoseReply => {
+                self.deliver_round(run, number, &message);
+                self.bring_none_round(run, message.receiver);
+            }
+            Fate::Twice => {
+                self.bring_back_round(run, number, &message);
+                self.deliver_round(run, number, &message);
+            }
+            Fate::Late(later) => {
+                self.bring_none_round(run, message.receiver);
+                self.keep_late(later, message);
+            }
+        }
+    }
+
+    /// Sends the next message of a round, for which there is room, and deals with it and with the late ones that
+    /// fall due; takes no memory but for an answer.
+    fn send_round<C: Carrier>(
+        &mut self,
+        carrier: &mut C,
+        run: &mut RoundRun,
+        message: Message,
+        body: NotedBody,
+    )
+        requires keeps { IsKept self.old }
+        requires sends { IsToSend self.old.lane (journal_of self.old) run.old message }
+        requires numbered { self.old.last ≡ length (C.given carrier.old) }
+        requires noted { body ≡ noted_body message.body }
+        requires node { message.receiver < vec_len self.old.nodes }
+        requires room { HasRoom (length self.old.late.late + 4) self.old }
+        requires place { self.old.late.room ≡ true }
+        ensures planned { C.planned carrier.new ≡ C.planned carrier.old }
+        ensures kind { C.takes_plans carrier.new ≡ C.takes_plans carrier.old }
+        ensures keeps { IsKept self.new }
+        ensures spare { HasRoom 0 self.new }
+        ensures runs { IsRunning self.old.lane (journal_of self.new) run.new }
+        ensures told { run.new.round.awaited ≡ None }
+        ensures left { left run.new.round ≡ left run.old.round }
+        ensures on { RunsOn self.old.lane run.old.distributor run.old.state (C.given carrier.old) (C.given carrier.new)
+            self.old.last self.new.last self.old.late.late self.new.late.late (journal_of self.old)
+            (journal_of self.new) }
+        ensures same { GoesOn run.old run.new }
+        ensures after { self.new ≡ record self.old {
+          journal = self.new.journal;
+          nodes = self.new.nodes;
+          late = self.new.late;
+          last = self.new.last;
+        } }
+    {
+        rounds_send();
+        self.send_message(&message, body);
+        let fate = carrier.fate(self.last);
+        let met = self.met(message.receiver, fate);
+        self.deal_round(run, met, message);
+        self.deliver_due();
+    }
+
+    /// Sends the next message of a round, and deals with it; answers whether there was one. The only error is want
+    /// of memory, and then nothing is sent.
+    fn step_round<C: Carrier>(
+        &mut self,
+        carrier: &mut C,
+        run: &mut RoundRun,
+    ) -> Result<bool, NoMemory>
+        requires keeps { IsKept self.old }
+        requires spare { HasRoom 0 self.old }
+        requires runs { IsRunning self.old.lane (journal_of self.old) run.old }
+        requires told { run.old.round.awaited ≡ None }
+        requires numbered { self.old.last ≡ length (C.given carrier.old) }
+        ensures planned { C.planned carrier.new ≡ C.planned carrier.old }
+        ensures kind { C.takes_plans carrier.new ≡ C.takes_plans carrier.old }
+        ensures keeps { IsKept self.new }
+        ensures spare { HasRoom 0 self.new }
+        ensures runs { OnOk result (IsRunning self.old.lane (journal_of self.new) run.new) }
+        ensures told { OnOk result (run.new.round.awaited ≡ None) }
+        ensures less { IfOk result (λ some. some ≡ true → left run.new.round < left run.old.round) }
+        ensures over { IfOk result (λ some. some ≡ false → IsOver run.new.round) }
+        ensures cut { OnErr result (IsCutOff self.old.lane (journal_of self.new) run.new) }
+        ensures on { RunsOn self.old.lane run.old.distributor run.old.state (C.given carrier.old) (C.given carrier.new)
+            self.old.last self.new.last self.old.late.late self.new.late.late (journal_of self.old)
+            (journal_of self.new) }
+        ensures same { GoesOn run.old run.new }
+        ensures after { self.new ≡ record self.old {
+          journal = self.new.journal;
+          nodes = self.new.nodes;
+          late = self.new.late;
+          last = self.new.last;
+        } }
+    {
+        let Some(message) = run.round.send(self.alloc)? else {
+            return Ok(false);
+        };
+        let body = message.body.noted(self.alloc)?;
+        self.room_for_message(message.receiver)?;
+        self.send_round(carrier, run, message, body);
+        Ok(true)
+    }
+
+    /// Sends the messages of a round one after the other, until none is left. The only error is want of memory,
+    /// which cuts the round off.
+    fn send_all<C: Carrier>(&mut self, carrier: &mut C, run: &mut RoundRun) -> Result<(), NoMemory>
+        requires keeps { IsKept self.old }
+        requires spare { HasRoom 0 self.old }
+        requires runs { IsRunning self.old.lane (journal_of self.old) run.old }
+        requires told { run.old.round.awaited ≡ None }
+        requires numbered { self.old.last ≡ length (C.given carrier.old) }
+        ensures planned { C.planned carrier.new ≡ C.planned carrier.old }
+        ensures kind { C.takes_plans carrier.new ≡ C.takes_plans carrier.old }
+        ensures keeps { IsKept self.new }
+        ensures spare { HasRoom 0 self.new }
+        ensures cut { IsCutOff self.old.lane (journal_of self.new) run.new }
+        ensures runs { OnOk result (IsRunning self.old.lane (journal_of self.new) run.new) }
+        ensures over { OnOk result (IsOver run.new.round) }
+        ensures on { RunsOn self.old.lane run.old.distributor run.old.state (C.given carrier.old) (C.given carrier.new)
+            self.old.last self.new.last self.old.late.late self.new.late.late (journal_of self.old)
+            (journal_of self.new) }
+        ensures same { GoesOn run.old run.new }
+        ensures after { self.new ≡ record self.old {
+          journal = self.new.journal;
+          nodes = self.new.nodes;
+          late = self.new.late;
+          last = self.new.last;
+        } }
+    {
+        while self.step_round(carrier, run)? {}
+        Ok(())
+    }
+
+    // ---- a whole round
+
+    /// Begins a round in the row of a key, if it has too few complete members; takes no memory. No round is under
+    /// way in the lane, and no operation is prepared.
+    pub fn begin_round(&mut self, distributor: u8, key: u64) -> Option<RoundRun>
+        requires keeps { IsKept self.old }
+        requires there { distributor < vec_len self.old.parts }
+        requires may { MayBegin self.old.lane distributor (part_of self.old distributor) key }
+        requires none_runs { NoneRuns (journal_of self.old) }
+        requires idle { (v : ℕ) (b : Low) → Idle v b (history (journal_of self.old)) }
+        requires room { vec_len self.old.journal + 1 ≤ vec_capacity self.old.journal }
+        ensures keeps { IsKept self.new }
+        ensures begins { IfSome result (λ run. Begins self.old.lane (journal_of self.old) (journal_of self.new)
+            distributor key run) }
+        ensures run_by { IfSome result (λ run. IsRunBy (part_of self.new distributor) run) }
+        ensures step { IfSome result (λ run. BeginsRound (part_of self.old distributor) (part_of self.new distributor)
+            key run.round.row run.round.receivers) }
+        ensures wanted { IfSome result (λ run. (line : ℕ) (o : Operation) (stamp : Option Stamp)
+            → IsBegunFor self.old.lane (journal_of self.old) run line o stamp
+            → IsRun self.old.lane self.old.rules line o (journal_of self.old) (journal_of self.new)) }
+        ensures enough { IfNone result (EndsEnough (part_of self.old distributor) (part_of self.new distributor) key) }
+        ensures nothing { IfNone result (journal_of self.new ≡ journal_of self.old) }
+        ensures carried { (given : List Fate) → IsCarriedBy self.old given → IsCarriedBy self.new given }
+        ensures others { OthersStay self.old.lane self.old.rules self.old.parts.items self.new.parts.items distributor }
+        ensures after { self.new ≡ record self.old { journal = self.new.journal; parts = self.new.parts } }
+        ensures parts { vec_len self.new.parts ≡ vec_len self.old.parts }
+        ensures len { vec_len self.new.journal ≤ vec_len self.old.journal + 1 }
+        ensures capacity { vec_capacity self.old.journal ≤ vec_capacity self.new.journal }
+    {
+        events_are_kept();
+        owners_act();
+        parts_are_told();
+        rounds_begin();
+        let part = &mut self.parts[usize::from(distributor)];
+        let Some(state) = part.state() else {
+            unreachable!();
+        };
+        let Some(plan) = begin_step(self.alloc, part, key) else {
+            return None;
+        };
+        // that it is a bucket is known once its bits are read
+        let _bits = plan.bucket.bits();
+        push_within(
+            &mut self.journal,
+            LaneEvent::Decided {
+                distributor,
+                version: state.version(),
+                decision: Decision::RoundBegun {
+                    bucket: plan.bucket,
+                    receivers: plan.receivers,
+                },
+            },
+        );
+        Some(run_of(self.alloc, self.lane, distributor, state, key, plan))
+    }
+
+    /// Begins a round in the row of a place, whatever its marks are; takes no memory. Its key is the row's lowest. No
+    /// round is under way in the lane, and no operation is prepared.
+    pub fn begin_round_at(&mut self, distributor: u8, at: usize) -> RoundRun
+        requires keeps { IsKept self.old }
+        requires there { distributor < vec_len self.old.parts }
+        requires may { MayBeginAt self.old.lane distributor (part_of self.old distributor) at }
+        requires none_runs { NoneRuns (journal_of self.old) }
+        requires idle { (v : ℕ) (b : Low) → Idle v b (history (journal_of self.old)) }
+        requires room { vec_len self.old.journal + 1 ≤ vec_capacity self.old.journal }
+        ensures keeps { IsKept self.new }
+        ensures begins { Begins self.old.lane (journal_of self.old) (journal_of self.new) distributor result.key
+            result }
+        ensures run_by { IsRunBy (part_of self.new distributor) result }
+        ensures step { BeginsRoundAt (part_of self.old distributor) (part_of self.new distributor) at
+            result.round.row result.round.receivers }
+        ensures inside { IsIn self.old.lane result.key }
+        ensures carried { (given : List Fate) → IsCarriedBy self.old given → IsCarriedBy self.new given }
+        ensures others { OthersStay self.old.lane self.old.rules self.old.parts.items self.new.parts.items distributor }
+        ensures after { self.new ≡ record self.old { journal = self.new.journal; parts = self.new.parts } }
+        ensures parts { vec_len self.new.parts ≡ vec_len self.old.parts }
+        ensures len { vec_len self.new.journal ≡ vec_len self.old.journal + 1 }
+        ensures capacity { vec_capacity self.old.journal ≤ vec_capacity self.new.journal }
+    {
+        events_are_kept();
+        owners_act();
+        parts_are_told();
+        rounds_begin();
+        let part = &mut self.parts[usize::from(distributor)];
+        let Some(state) = part.state() else {
+            unreachable!();
+        };
+        let plan = begin_at(part, at);
+        // that it is a bucket is known once its bits are read
+        let _bits = plan.bucket.bits();
+        let key = plan.bucket.low();
+        push_within(
+            &mut self.journal,
+            LaneEvent::Decided {
+                distributor,
+                version: state.version(),
+                decision: Decision::RoundBegun {
+                    bucket: plan.bucket,
+                    receivers: plan.receivers,
+                },
+            },
+        );
+        run_of(self.alloc, self.lane, distributor, state, key, plan)
+    }
+
+    /// Ends a round with those that answered its union until then; takes no memory.
+    pub fn end_round(&mut self, run: &RoundRun) -> RoundEnd
+        requires keeps { IsKept self.old }
+        requires there { run.now.distributor < vec_len self.old.parts }
+        requires runs { IsCutOff self.old.lane (journal_of self.old) run.now }
+        requires run_by { IsRunBy (part_of self.old run.now.distributor) run.now }
+        requires inside { IsIn self.old.lane run.now.key }
+        requires room { vec_len self.old.journal + 1 ≤ vec_capacity self.old.journal }
+        ensures keeps { IsKept self.new }
+        ensures grows { EndsWith run.now (journal_of self.old) (journal_of self.new) }
+        ensures end { IsEnd (journal_of self.new) run.now result }
+        ensures none_runs { NoneRuns (journal_of self.new) }
+        ensures job { EndsRun (part_of self.old run.now.distributor) (part_of self.new run.now.distributor) run.now
+            result.row }
+        ensures carried { (given : List Fate) → IsCarriedBy self.old given → IsCarriedBy self.new given }
+        ensures others { OthersStay self.old.lane self.old.rules self.old.parts.items self.new.parts.items
+            run.now.distributor }
+        ensures after { self.new ≡ record self.old { journal = self.new.journal; parts = self.new.parts } }
+        ensures parts { vec_len self.new.parts ≡ vec_len self.old.parts }
+        ensures len { vec_len self.new.journal ≡ vec_len self.old.journal + 1 }
+        ensures capacity { vec_capacity self.old.journal ≤ vec_capacity self.new.journal }
+    {
+        marks_are_kept();
+        owners_act();
+        parts_are_told();
+        rounds_end();
+        let part = &mut self.parts[usize::from(run.distributor)];
+        tell_over(part, &run.round);
+        let row = end_step(self.alloc, part, run.key);
+        push_within(
+            &mut self.journal,
+            LaneEvent::Decided {
+                distributor: run.distributor,
+                version: run.state.version(),
+                decision: Decision::RoundEnded {
+                    bucket: run.round.row(),
+                    complete: run.round.holders(),
+                },
+            },
+        );
+        end_of(run, row)
+    }
+
+    /// Runs a round to its end: its messages one after the other, and then its end is decided. The only error is want
+    /// of memory, which ends it at once. There is room for the end. What it was told can be read from it then.
+    pub fn run_round<C: Carrier>(
+        &mut self,
+        carrier: &mut C,
+        run: &mut RoundRun,
+    ) -> Result<RoundEnd, NoMemory>
+        requires keeps { IsKept self.old }
+        requires there { run.old.distributor < vec_len self.old.parts }
+        requires runs { IsRunning self.old.lane (journal_of self.old) run.old }
+        requires told { run.old.round.awaited ≡ None }
+        requires run_by { IsRunBy (part_of self.old run.old.distributor) run.old }
+        requires inside { IsIn self.old.lane run.old.key }
+        requires carried { IsCarriedBy self.old (C.given carrier.old) }
+        requires room { HasRoom 1 self.old }
+        ensures planned { C.planned carrier.new ≡ C.planned carrier.old }
+        ensures kind { C.takes_plans carrier.new ≡ C.takes_plans carrier.old }
+        ensures keeps { IsKept self.new }
+        ensures room { HasRoom 0 self.new }
+        ensures carried { IsCarriedBy self.new (C.given carrier.new) }
+        ensures whole { IfOk result (λ end. IsWholeRun self.old.lane run.old end (C.given carrier.old) (C.given carrier.new)
+            self.old.last self.new.last self.old.late.late self.new.late.late (journal_of self.old)
+            (journal_of self.new)) }
+        ensures cut { OnErr result (IsCutShort self.old.lane run.old (C.given carrier.old) (C.given carrier.new)
+            self.old.last self.new.last self.old.late.late self.new.late.late (journal_of self.old)
+            (journal_of self.new)) }
+        ensures wanted { OnOk result (OfWaited self.old.lane (journal_of self.old) run.old (λ line o.
+            IsRun self.old.lane self.old.rules line o (journal_of self.old) (journal_of self.new))) }
+        ensures wanted_until { OnErr result (OfWaited self.old.lane (journal_of self.old) run.old (λ line o.
+            IsCutRun self.old.lane self.old.rules line o (journal_of self.old) (journal_of self.new))) }
+        ensures same { GoesOn run.old run.new }
+        ensures end { IfOk result (IsEnd (journal_of self.new) run.new) }
+        ensures none_runs { NoneRuns (journal_of self.new) }
+        ensures job { (row : Row) × EndsRun (part_of self.old run.old.distributor)
+            (part_of self.new run.old.distributor) run.new row }
+        ensures others { OthersStay self.old.lane self.old.rules self.old.parts.items self.new.parts.items
+            run.old.distributor }
+        ensures after { self.new ≡ record self.old {
+          journal = self.new.journal;
+          nodes = self.new.nodes;
+          parts = self.new.parts;
+          late = self.new.late;
+          last = self.new.last;
+        } }
+        ensures parts { vec_len self.new.parts ≡ vec_len self.old.parts }
+    {
+        late_messages_wait();
+        owners_act();
+        let spare = self.spare;
+        self.spare = spare + 1;
+        let sent = self.send_all(carrier, run);
+        self.spare = spare;
+        let end = self.end_round(run);
+        match sent {
+            Ok(()) => Ok(end),
+            Err(_) => Err(NoMemory),
+        }
+    }
+}

@@ -1,0 +1,116 @@
+ghost use Rattle.std.specs.Prelude.{◌≡◌, ◌≤◌, ◌<◌, ◌+◌, ◌∷◌, true, false, vec_len, vec_capacity};
+ghost use Rattle.lane_journals.specs.Readers.{stopped};
+ghost use Rattle.lane_journals.specs.Meanings.{history};
+ghost use Rattle.lane_journals.specs.declared.event.LaneEvent.TheVariants as event;
+ghost use Rattle.lane_carriage.specs.Carriage.{met};
+ghost use Rattle.lane_carriage.specs.Readers.{IsPrompt};
+ghost use Rattle.lane_states.specs.Growing.{stopped_next, started_next};
+ghost use Rattle.lane_states.specs.LaneStates.{journal_of, IsKept, AreResting, Receives};
+
+use crate::lane_state::{LaneState, push_within};
+use carriers::Fate;
+use lane_journals::LaneEvent;
+use lane_keeping::laws::events_are_kept;
+
+/// What becomes of a message by its fate, where its receiver is stopped or isn't.
+fn met(stopped: bool, fate: Fate) -> Fate
+    ensures fate { result ≡ met stopped fate }
+    ensures runs { IsPrompt result → stopped ≡ false }
+{
+    if stopped {
+        match fate {
+            Fate::Late(later) => Fate::Late(later),
+            Fate::Deliver | Fate::LoseRequest | Fate::LoseReply | Fate::Twice => Fate::LoseRequest,
+        }
+    } else {
+        fate
+    }
+}
+
+impl LaneState {
+    /// Whether a node is stopped.
+    pub fn is_stopped(&self, node: u8) -> bool
+        requires keeps { IsKept self.now }
+        ensures stopped { result ≡ stopped node (history (journal_of self.now)) }
+        ensures receives { result ≡ false → Receives self.now node }
+    {
+        self.stopped.has(node)
+    }
+
+    /// What becomes of a message to a node by its fate: nothing is delivered to one that is stopped.
+    pub fn met(&self, receiver: u8, fate: Fate) -> Fate
+        requires keeps { IsKept self.now }
+        ensures fate { result ≡ met (stopped receiver (history (journal_of self.now))) fate }
+        ensures receives { IsPrompt result → Receives self.now receiver }
+    {
+        met(self.is_stopped(receiver), fate)
+    }
+
+    /// Notes that a node stops, where it runs; takes no memory.
+    pub fn stop(&mut self, node: u8)
+        requires keeps { IsKept self.old }
+        requires small { node < 32 }
+        requires room { vec_len self.old.journal + 1 ≤ vec_capacity self.old.journal }
+        ensures keeps { IsKept self.new }
+        ensures grows { journal_of self.new ≡ stopped_next node (journal_of self.old) }
+        ensures after { self.new ≡ record self.old { journal = self.new.journal; stopped = self.new.stopped } }
+        ensures resting { AreResting self.old → AreResting self.new }
+        ensures len { vec_len self.new.journal ≤ vec_len self.old.journal + 1 }
+        ensures capacity { vec_capacity self.old.journal ≤ vec_capacity self.new.journal }
+    {
+        if !self.is_stopped(node) {
+            self.note_stop(node);
+        }
+    }
+
+    /// Notes that a node that runs stops.
+    fn note_stop(&mut self, node: u8)
+        requires keeps { IsKept self.old }
+        requires small { node < 32 }
+        requires runs { stopped node (history (journal_of self.old)) ≡ false }
+        requires room { vec_len self.old.journal + 1 ≤ vec_capacity self.old.journal }
+        ensures keeps { IsKept self.new }
+        ensures grows { journal_of self.new ≡ event.Stopped node ∷ journal_of self.old }
+        ensures after { self.new ≡ record self.old { journal = self.new.journal; stopped = self.new.stopped } }
+        ensures len { vec_len self.new.journal ≡ vec_len self.old.journal + 1 }
+        ensures capacity { vec_capacity self.old.journal ≤ vec_capacity self.new.journal }
+    {
+        events_are_kept();
+        self.stopped = self.stopped.with(node);
+        push_within(&mut self.journal, LaneEvent::Stopped { node });
+    }
+
+    /// Notes that a node starts, where it is stopped; takes no memory.
+    pub fn start(&mut self, node: u8)
+        requires keeps { IsKept self.old }
+        requires small { node < 32 }
+        requires room { vec_len self.old.journal + 1 ≤ vec_capacity self.old.journal }
+        ensures keeps { IsKept self.new }
+        ensures grows { journal_of self.new ≡ started_next node (journal_of self.old) }
+        ensures after { self.new ≡ record self.old { journal = self.new.journal; stopped = self.new.stopped } }
+        ensures resting { AreResting self.old → AreResting self.new }
+        ensures len { vec_len self.new.journal ≤ vec_len self.old.journal + 1 }
+        ensures capacity { vec_capacity self.old.journal ≤ vec_capacity self.new.journal }
+    {
+        if self.is_stopped(node) {
+            self.note_start(node);
+        }
+    }
+
+    /// Notes that a node that is stopped starts.
+    fn note_start(&mut self, node: u8)
+        requires keeps { IsKept self.old }
+        requires small { node < 32 }
+        requires stopped { stopped node (history (journal_of self.old)) ≡ true }
+        requires room { vec_len self.old.journal + 1 ≤ vec_capacity self.old.journal }
+        ensures keeps { IsKept self.new }
+        ensures grows { journal_of self.new ≡ event.Started node ∷ journal_of self.old }
+        ensures after { self.new ≡ record self.old { journal = self.new.journal; stopped = self.new.stopped } }
+        ensures len { vec_len self.new.journal ≡ vec_len self.old.journal + 1 }
+        ensures capacity { vec_capacity self.old.journal ≤ vec_capacity self.new.journal }
+    {
+        events_are_kept();
+        self.stopped = self.stopped.without(node);
+        push_within(&mut self.journal, LaneEvent::Started { node });
+    }
+}

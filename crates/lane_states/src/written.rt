@@ -1,0 +1,73 @@
+ghost use Rattle.std.specs.Prelude.{◌≡◌, ℕ, Some, IfOk, OnOk, OnErr, if◌then◌else◌};
+ghost use Rattle.std.specs.Option.{option_copied};
+ghost use Rattle.lane_journals.specs.Stamps.{same_stamp};
+ghost use Rattle.lane_journals.specs.Meanings.{entry_at};
+ghost use Rattle.lane_journals.specs.KeptJournals.{past};
+ghost use Rattle.lane_states.specs.Written.{entry_of, place_of, FindsEntries};
+
+use entry_maps::Entry;
+use lane_journals::LaneEvent;
+use stamps::Stamp;
+use std::collections::BTreeMap;
+use value_lists::NoMemory;
+
+/// Whether two stamps are the same.
+#[tactic(auto, unfolding(lane_journals::specs::Stamps::same_stamp))]
+fn same_stamp(a: Stamp, b: Stamp) -> bool
+    ensures { result ≡ same_stamp a b }
+{
+    if a.version == b.version {
+        a.count == b.count
+    } else {
+        false
+    }
+}
+
+/// The entry of an event, if it was written with the stamp.
+fn entry_of(event: &LaneEvent, stamp: Stamp) -> Option<&Entry>
+    ensures { option_copied result ≡ entry_of stamp (Some event.now) }
+{
+    match event {
+        LaneEvent::Wrote { entry, .. } => {
+            if same_stamp(entry.stamp, stamp) {
+                Some(entry)
+            } else {
+                None
+            }
+        }
+        _ => None,
+    }
+}
+
+/// The entry that was written with a stamp, by the place that is kept for it.
+pub fn entry_in<'a>(
+    places: &BTreeMap<Stamp, usize>,
+    events: &'a [LaneEvent],
+    stamp: Stamp,
+) -> Option<&'a Entry>
+    requires finds { FindsEntries (place_of places.now) events.now }
+    ensures { option_copied result ≡ entry_at stamp (past events.now) }
+{
+    match places.get(&stamp) {
+        Some(place) => match events.get(*place) {
+            Some(event) => entry_of(event, stamp),
+            None => None,
+        },
+        None => None,
+    }
+}
+
+/// Keeps the place at which the entry of a stamp is to be written. The only error is want of memory.
+#[tactic(auto, unfolding(lane_journals::specs::Stamps::same_stamp))]
+pub fn keep_place(
+    places: &mut BTreeMap<Stamp, usize>,
+    stamp: Stamp,
+    place: usize,
+) -> Result<(), NoMemory>
+    ensures ok { OnOk result ((s : _) → place_of places.new s
+        ≡ (if same_stamp stamp s then Some place else place_of places.old s)) }
+    ensures err { OnErr result ((s : _) → place_of places.new s ≡ place_of places.old s) }
+{
+    places.insert(stamp, place)?;
+    Ok(())
+}
