@@ -1,0 +1,10 @@
+pub mod RowLists
+pub mod Reading
+pub mod Decided
+pub mod Splits
+pub mod Changes
+pub mod Ends
+pub mod Joins
+pub mod Accepting
+pub mod Telling
+pub mod Serving
