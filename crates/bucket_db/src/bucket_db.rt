@@ -1,4 +1,4 @@
-ghost use Rattle.std.specs.Prelude.{◌≡◌, ℕ, ◌<◌, length, true, false, map, slice_get, Some, IsTrue, ◌↔◌, IfSome, IfOk, OnOk, OnErr};
+ghost use Rattle.std.specs.Prelude.{◌≡◌, ℕ, ◌<◌, length, true, false, map, slice_get, Some, IsTrue, ◌↔◌, IfSome, IfOk, OnOk, OnErr, IsOk};
 ghost use Rattle.bucket_ids.specs.Buckets.{has_key, IsIn};
 ghost use Rattle.bucket_db.specs.Rows.{AreRows, buckets_of};
 ghost use Rattle.bucket_db.specs.Answers.{IsCoarsest, new_row};
@@ -92,12 +92,13 @@ impl BucketDb {
     }
 
     /// Joins a row with its sibling, where that is a row too: common marks stay, and the Delete of
-    /// either. Takes no memory.
+    /// either. It never answers `NoMemory`, since a join takes no memory; the `Result` is that of a split.
     #[tactic(auto, using(crate::proofs::RowLists::rises_of_rising))]
-    pub fn join_rows(&mut self, at: usize)
+    pub fn join_rows(&mut self, at: usize) -> Result<(), NoMemory>
         requires place { at < length self.old.rows }
         requires joinable { CanJoin self.old at }
-        ensures { (row other : Row) → slice_get self.old.rows at ≡ Some row
+        ensures always { IsOk result }
+        ensures joins { (row other : Row) → slice_get self.old.rows at ≡ Some row
             → IsJoinable self.old.lane self.old.rows row other
             → (joined : Row) × IsJoined row other joined
             × (self.new ≡ with_rows self.old (with_joined joined self.old.rows)) }
@@ -105,6 +106,7 @@ impl BucketDb {
         let sibling = self.rows[at].bucket.sibling();
         let other = search::place_of(&self.rows, sibling.low());
         changes::join_at(&mut self.rows, at, other);
+        Ok(())
     }
 
     /// Says which nodes are complete members of a row.

@@ -109,7 +109,10 @@ impl DistributorPart {
         let Some(rows) = &mut self.rows else {
             unreachable!();
         };
-        rows.join_rows(at);
+        match rows.join_rows(at) {
+            Ok(()) => {}
+            Err(_) => unreachable!(),
+        }
     }
 
     // ---- activations

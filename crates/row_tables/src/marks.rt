@@ -97,7 +97,7 @@ fn a_join_keeps_what_both_have(rt: HostRuntime) -> Result<()> {
         }
         assert!(rt; at < db.rows().len());
         assert!(rt; db.can_join(at));
-        db.join_rows(at);
+        db.join_rows(at)?;
         let joined = Row {
             bucket: Bucket::new(4, 0),
             complete: NodeSet::of(0b10),

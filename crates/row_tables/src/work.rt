@@ -71,7 +71,7 @@ fn join_deepest(db: &mut BucketDb) -> Result<()> {
     };
     let at = rows.partition_point(|row| row.bucket.bits() < most);
     if at < rows.len() && db.can_join(at) {
-        db.join_rows(at);
+        db.join_rows(at)?;
         return Ok(());
     }
     Err(anyhow!("no rows to join"))

@@ -43,8 +43,8 @@ invariant_of-self c =
     (join_keeps lane rows c.args.at c.place_of-other.result pair.row pair.other made.0 c.self.invariant pair.own found pair.joinable.sibling
     (pair_more lane rows c.args.at pair c.self.invariant.bucket) made.1.bucket)
 
-pub returns : goal.returns
-returns c = λ row other own joinable.
+pub returns-clause-joins : goal.returns-clause-joins
+returns-clause-joins c = λ row other own joinable.
     let rows = c.self.inside.rows.items in
     let lane = c.self.inside.lane in
     let own_here : slice_get rows c.args.at ≡ Some row = subst (λ (d : Rows). slice_get d.rows c.args.at ≡ Some row) (sym c.self.view_is) own in
