@@ -25,7 +25,7 @@ use Rattle.lane_states.specs.LaneStates.{journal_of, part_of, IsKept}
 use Rattle.lane_core.specs.Works.{IsWork, IsJob, one_if}
 use Rattle.lane_states.specs.Readying.{HasRowWith}
 use Rattle.lane_core.specs.Preparations.{IsReadyFor}
-use Rattle.lane_states.specs.Written.{place_of}
+use Rattle.stamp_places.specs.Places.{place_of}
 use Rattle.lane_states.proofs.Entries.{finds-noted}
 use Rattle.lane_core.proofs.Working.{same-key, work-by}
 use Rattle.lane_states.proofs.SameStates.{same-state}

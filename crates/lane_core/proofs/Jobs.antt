@@ -1,6 +1,6 @@
 -- The operation under way after a call, and the work of its lane.
 use Rattle.std.proofs.Common.{◌≡◌, ◌≤◌, ◌<◌, ◌+◌, ◌-◌, ℕ, Bool, List, Option, Some, refl, sym, ap, ◌∙◌, subst, arith, is_some, vec_len, inl, inr}
-use Rattle.std.specs.BTreeMap.{BTreeMap}
+use Rattle.stamp_places.specs.declared.places.StampPlaces.{StampPlaces}
 use Rattle.bucket_ids.specs.Buckets.{Low, IsIn}
 use Rattle.global_ids.specs.Keys as keys
 use Rattle.lane_journals.specs.Buckets.{key_of}
@@ -36,7 +36,8 @@ use Rattle.lane_core.specs.declared.answers.Advance.TheVariants as advance
 use Rattle.lane_core.specs.declared.work.Work.{Work}
 use Rattle.lane_states.specs.LaneStates.{journal_of, IsKept, HasRoom, AreResting}
 use Rattle.lane_core.specs.LaneValues.{with_run, under_way_of, WentOn, IsAdvance}
-use Rattle.lane_states.specs.Written.{place_of, FindsEntries}
+use Rattle.stamp_places.specs.Places.{place_of}
+use Rattle.lane_states.specs.Written.{FindsEntries}
 use Rattle.lane_core.specs.Works.{value_of, under_way_in, progress_of, one_if, room_for, IsAnswered, MayMark, IsPrepared, PhaseKeeps, IsJob, JobKeeps, PhaseLasts, JobLasts, IsWork}
 use Rattle.lane_states.specs.Steps.{sender_of, GoesIn, IsQuiet}
 use Rattle.lane_core.specs.Phases.{WantsMore, WantsEnd, ComesTo}
@@ -190,7 +191,7 @@ onward x y e q = record {
   quiet = q;
 }
 
-pub work-on : (x : Work) (y : LaneState) (places : BTreeMap Stamp ℕ) (j k : Job) → IsWork x → x.job ≡ Some j → IsOnward x.state y → IsKept y → HasRoom 0 y → IsJob y.lane y.rules (journal_of y) k → PhaseLasts k.left k.phase → FindsEntries (place_of places) y.journal.items
+pub work-on : (x : Work) (y : LaneState) (places : StampPlaces) (j k : Job) → IsWork x → x.job ≡ Some j → IsOnward x.state y → IsKept y → HasRoom 0 y → IsJob y.lane y.rules (journal_of y) k → PhaseLasts k.left k.phase → FindsEntries (place_of places) y.journal.items
     → IsWork (record { state = y; drawn = x.drawn; places = places; has_room = x.has_room; job = Some k })
 work-on x y places j k w is on kept room job lasts finds = record {
   set_up = rw (on.lane, on.rules) w.set_up;
@@ -208,7 +209,7 @@ work-on x y places j k w is on kept room job lasts finds = record {
 }
 
 -- and its value
-module _ (x : Work) (y : LaneState) (places : BTreeMap Stamp ℕ) (j : Job) (left : ℕ) (row : Low) (t : Standing) (given now planned : List Fate) (takes : Bool) (is : x.job ≡ Some j) (on : IsOnward x.state y) (fewer : left < j.left)
+module _ (x : Work) (y : LaneState) (places : StampPlaces) (j : Job) (left : ℕ) (row : Low) (t : Standing) (given now planned : List Fate) (takes : Bool) (is : x.job ≡ Some j) (on : IsOnward x.state y) (fewer : left < j.left)
     (run : IsRun x.state.lane x.state.rules j.line j.operation (journal_of x.state) (journal_of y)) where
   abbrev then_of : Phase → Work
   then_of p = record { state = y; drawn = x.drawn; places = places; has_room = x.has_room; job = Some (record j { left = left; phase = p }) }
@@ -297,10 +298,10 @@ module _ (x : Work) (y : LaneState) (j : Job) (t : Standing) (row : Low) (writte
   lasts : PhaseLasts (j.left - 1) p
   lasts = let le = (lasting).1 in let one = some in lasts-by y j.line row t (j.left - 1) p a (omega (arith, le, one)) comes
 
-  pub keeps-stepped : HasRoom 0 y → (places : BTreeMap Stamp ℕ) → FindsEntries (place_of places) y.journal.items → IsWork (record { state = y; drawn = x.drawn; places = places; has_room = x.has_room; job = Some (record j { left = j.left - 1; phase = p }) })
+  pub keeps-stepped : HasRoom 0 y → (places : StampPlaces) → FindsEntries (place_of places) y.journal.items → IsWork (record { state = y; drawn = x.drawn; places = places; has_room = x.has_room; job = Some (record j { left = j.left - 1; phase = p }) })
   keeps-stepped room places finds = work-on x y places j (record j { left = j.left - 1; phase = p }) w is on kept room job lasts finds
 
-  pub advances-stepped : (places : BTreeMap Stamp ℕ) (given now planned : List Fate) (takes : Bool) → IsRun x.state.lane x.state.rules j.line t.plan.operation (journal_of x.state) (journal_of y)
+  pub advances-stepped : (places : StampPlaces) (given now planned : List Fate) (takes : Bool) → IsRun x.state.lane x.state.rules j.line t.plan.operation (journal_of x.state) (journal_of y)
       → IsAdvance (under_way_in x.job) (value_of x given planned takes) (value_of (record { state = y; drawn = x.drawn; places = places; has_room = x.has_room; job = Some (record j { left = j.left - 1; phase = p }) }) now planned takes) a
   advances-stepped places given now planned takes run = advances-by x y places j (j.left - 1) row t given now planned takes is on fewer
       (subst (λ (o : Operation). IsRun x.state.lane x.state.rules j.line o (journal_of x.state) (journal_of y)) (of-job).operation run) p a comes job

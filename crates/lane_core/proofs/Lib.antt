@@ -7,3 +7,7 @@ pub mod Stepping
 pub mod Jobs
 pub mod Searching
 pub mod Idling
+pub mod Upkeeping
+pub mod Told
+pub mod Newest
+pub mod Undisturbed

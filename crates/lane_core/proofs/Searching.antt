@@ -36,7 +36,8 @@ use Rattle.lane_core.specs.Preparations.{PreparesOf, PreparesBy, PreparesNext, M
 use Rattle.lane_states.specs.Readying.{outcome_of, IsToPrepare, AskedNobody, BeganNoRound, IsForNewLine, OfUnprepared, GoesOnWith, IsCutOffWith, FindsOr}
 use Rattle.lane_core.specs.Searching.{is_begun, just_begun, HasCall, spent, WentAs, ComesToRow, EndsIn}
 use Rattle.lane_core.proofs.Working.{same-key}
-use Rattle.lane_states.specs.Written.{place_of, AddsNoEntry}
+use Rattle.stamp_places.specs.Places.{place_of}
+use Rattle.lane_states.specs.Written.{AddsNoEntry}
 use Rattle.lane_states.proofs.Entries.{finds-grown}
 use Rattle.lane_core.proofs.Jobs.{IsOnward, work-on}
 

@@ -11,7 +11,7 @@ use Rattle.lane_core.specs.declared.work.Work.{Work}
 use Rattle.lane_states.specs.LaneStates.{journal_of}
 use Rattle.lane_core.specs.Works.{IsWork, JobKeeps, MayMark, under_way_in, one_if}
 use Rattle.lane_core.specs.Preparations.{MayFallShort, with_phase, is_over}
-use Rattle.lane_states.specs.Written.{place_of}
+use Rattle.stamp_places.specs.Places.{place_of}
 use Rattle.lane_states.proofs.Entries.{finds-still}
 use Rattle.lane_core.proofs.Working.{work-by}
 

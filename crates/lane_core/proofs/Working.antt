@@ -34,7 +34,8 @@ use Rattle.lane_states.specs.LaneStates.{journal_of, IsKept, HasRoom, AreResting
 use Rattle.lane_core.specs.LaneValues.{drawn}
 use Rattle.lane_states.specs.Growing.{last_state}
 use Rattle.lane_states.specs.declared.lane_state.LaneState.{LaneState}
-use Rattle.lane_states.specs.Written.{place_of, FindsEntries}
+use Rattle.stamp_places.specs.Places.{place_of}
+use Rattle.lane_states.specs.Written.{FindsEntries}
 use Rattle.lane_states.proofs.Entries.{past-past, finds-none, finds-noted}
 use Rattle.lane_core.specs.Works.{value_of, under_way_in, new_job, count_of, count_after, one_if, room_for, IsUntouched, IsJob, JobKeeps, JobLasts, IsWork}
 

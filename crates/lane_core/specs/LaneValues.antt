@@ -1,6 +1,6 @@
 -- What a lane is to its callers: its bucket and its rules, its journal, the fates that its carrier gave and planned,
 -- and the operation under way; and what its calls make of that.
-use Rattle.std.specs.Prelude.{◌≡◌, ◌⊎◌, ℕ, ◌+◌, ◌<◌, Bool, true, false, List, [], ◌∷◌, Option, None, Some, refl, if◌then◌else◌}
+use Rattle.std.specs.Prelude.{◌≡◌, ◌⊎◌, ℕ, ◌+◌, ◌<◌, Bool, true, false, IsSome, List, [], ◌∷◌, Option, None, Some, refl, if◌then◌else◌}
 use Rattle.std.specs.Coded.{Coded, code_by, coded×, coded_ℕ, coded_bool, coded_list, coded_option}
 use Rattle.bucket_ids.specs.Buckets.{Low}
 use Rattle.stamps.specs.declared.stamp.Stamp.{Stamp}
@@ -193,7 +193,7 @@ OthersClosed H line = (other : ℕ) (begin : Beginning) → began other H ≡ So
 
 abbrev pub LinesAre : Journal → Option UnderWay → Type 0
 LinesAre H None = AllClosed H
-LinesAre H (Some u) = OthersClosed H u.line × (closed u.line H ≡ false)
+LinesAre H (Some u) = OthersClosed H u.line × IsSome (began u.line H) × (closed u.line H ≡ false)
 
 -- what holds of each lane
 pub record IsLaneValue (v : LaneValue) : Type 0 where

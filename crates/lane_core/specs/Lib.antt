@@ -1,8 +1,12 @@
 -- `LaneValues` says what a lane is to its callers, and `Works` and `LaneInside` what it keeps behind that. `Preparations` says
--- what prepares an operation in its row, `Phases` what it does then, and `Searching` is the search for its row.
+-- what prepares an operation in its row, `Phases` what it does then, and `Searching` is the search for its row. `Upkept` says
+-- what an upkeep makes of a lane, `Upkeeping` the same of its work, and `Undisturbed` when one rests.
 pub mod LaneValues
 pub mod Works
 pub mod LaneInside
 pub mod Phases
 pub mod Preparations
 pub mod Searching
+pub mod Upkept
+pub mod Upkeeping
+pub mod Undisturbed

@@ -37,7 +37,8 @@ use Rattle.lane_core.specs.declared.job.Progress.TheVariants as progress
 use Rattle.lane_core.specs.declared.job.UnderWay.{UnderWay}
 use Rattle.lane_core.specs.declared.work.Work.{Work}
 use Rattle.lane_states.specs.LaneStates.{journal_of, IsKept, HasRoom, AreResting, IsSetUp}
-use Rattle.lane_states.specs.Written.{place_of, FindsEntries}
+use Rattle.stamp_places.specs.Places.{place_of}
+use Rattle.lane_states.specs.Written.{FindsEntries}
 use Rattle.lane_wants.specs.Wants.{Stands, IsEnd, WasAskedIn}
 use Rattle.lane_core.specs.LaneValues.{LaneValue, drawn, under_way_of}
 use Rattle.lane_states.specs.Growing.{last_state}

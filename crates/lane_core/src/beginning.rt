@@ -197,7 +197,7 @@ impl Work {
 
     /// Makes room for so many events, and for what is counted of the stamps of a version. The only error is want
     /// of memory.
-    fn room_to_begin(&mut self, events: usize, version: u32) -> Result<(), NoMemory>
+    pub fn room_to_begin(&mut self, events: usize, version: u32) -> Result<(), NoMemory>
         requires keeps { IsWork self.old }
         requires few { events ≤ 3 }
         ensures keeps { IsWork self.new }

@@ -19,6 +19,7 @@ ghost use Rattle.lane_states.specs.Growing.{heard_next, announced, stopped_next,
 ghost use Rattle.lane_core.specs.LaneValues.{LaneValue, new_value, IsLaneValue, IsBeginning, BeginsAtOwner, IsAdvance, IsAt, MayClose, IsOutcome, closed_by};
 ghost use Rattle.lane_states.specs.LaneStates.{IsSetUp};
 ghost use Rattle.lane_states.specs.Shown.{node_or_new, HasEntries, HasRows};
+ghost use Rattle.lane_core.specs.Upkept.{IsUpkept};
 ghost use Rattle.lane_core.specs.declared.job.Progress.TheVariants as progress;
 
 use crate::answers::{Advance, Begin};
@@ -29,6 +30,7 @@ use carriers::{Carrier, Fate};
 use cluster_states::ClusterState;
 use distributor_part::Rules;
 use entry_maps::Entry;
+use lane_carriage::laws::messages_are_carried;
 use lane_journals::LaneEvent;
 use lane_states::known_owner::KnownOwner;
 use lane_states::written::entry_in;
@@ -38,6 +40,8 @@ use service_layer::NodePart;
 use stamps::Stamp;
 use std::alloc::Global;
 use std::marker::Model;
+use upkeep_answers::laws::upkeep_goes_on;
+use upkeep_answers::{Upkeep, Watching};
 use value_lists::NoMemory;
 
 /// A lane: its journal and what it says, the carrier of its messages, and the operation under way. One
@@ -47,21 +51,22 @@ pub struct Lane<C: Carrier + Drop> {
     work: Work,
     /// The owner under the state that was published last.
     owner: Option<KnownOwner>,
-    carrier: C,
+    carrier: Watching<C>,
 }
 
 impl<C: Carrier + Drop> Model for Lane<C> {
     ghost use Rattle.lane_core.specs.LaneValues.{LaneValue, lane_code};
     ghost use Rattle.lane_core.specs.Works.{value_of};
     ghost use Rattle.lane_core.specs.LaneInside.{IsLane};
+    ghost use Rattle.upkeep_answers.specs.Watches.{takes_plans, planned_in};
 
     ghost Value = { LaneValue };
 
     ghost coded = { lane_code };
 
-    ghost view = { λ l. value_of l.work (C.given l.carrier) (C.planned l.carrier) (C.takes_plans l.carrier) };
+    ghost view = { λ l. value_of l.work l.carrier.given (planned_in l.carrier.plans) (takes_plans l.carrier.plans) };
 
-    ghost invariant = { λ l. IsLane l.work (C.given l.carrier) };
+    ghost invariant = { λ l. IsLane l.work l.carrier.given };
 }
 
 impl<C: Carrier + Drop> Lane<C> {
@@ -74,7 +79,7 @@ impl<C: Carrier + Drop> Lane<C> {
         Lane {
             work: Work::new(alloc, Bucket::new(bits, u64::from(lane)), rules),
             owner: None,
-            carrier,
+            carrier: Watching::new(alloc, carrier),
         }
     }
 
@@ -234,6 +239,27 @@ impl<C: Carrier + Drop> Lane<C> {
         ensures after { self.new ≡ closed_by result self.old }
     {
         self.work.close()
+    }
+
+    // ---- upkeep
+
+    /// The lane's owner under the newest state hears it, and makes a pass of upkeep, unless an operation is under way.
+    /// `Rested`, `Blocked` and `Disturbed` say what came of its messages; after `NoMemory` what was done stays.
+    pub fn upkeep(&mut self) -> Upkeep
+        requires published { IsSome (last_state self.old.journal) }
+        ensures { IsUpkept self.old self.new result }
+    {
+        upkeep_goes_on();
+        messages_are_carried();
+        if let Some(job) = &self.work.job {
+            return Upkeep::Held { by: job.line };
+        }
+        let from = self.work.state.journal.len();
+        let sent = self.work.state.last;
+        match self.work.upkeep(&mut self.carrier, self.owner.as_ref()) {
+            Ok(()) => self.carrier.tell(&self.work.state.journal, from, sent),
+            Err(NoMemory) => Upkeep::NoMemory,
+        }
     }
 
     // ---- the carrier

@@ -19,10 +19,12 @@ pub mod beginning;
 pub mod begun;
 pub mod job;
 pub mod lane;
+pub mod laws;
 pub mod phases;
 pub mod preparing;
 pub mod shortfall;
 pub mod states;
+pub mod upkeep;
 pub mod work;
 
 pub use answers::{Advance, Begin};

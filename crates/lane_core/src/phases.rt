@@ -4,7 +4,8 @@ ghost use Rattle.lane_states.specs.LaneStates.{journal_of, IsKept, HasRoom, IsCa
 ghost use Rattle.lane_states.specs.Steps.{GoesIn, RunsIn, StandsIn, IsQuiet};
 ghost use Rattle.lane_core.specs.Phases.{HasEnded, IsPhaseOf, OfPrepared, IsAtMessages, ComesTo, IsToStep, AdvancesBy};
 ghost use Rattle.lane_core.specs.Works.{IsWork};
-ghost use Rattle.lane_states.specs.Written.{place_of, FindsEntries};
+ghost use Rattle.stamp_places.specs.Places.{place_of};
+ghost use Rattle.lane_states.specs.Written.{FindsEntries};
 
 use crate::answers::Advance;
 use crate::job::{Job, Phase};
@@ -13,9 +14,8 @@ use carriers::Carrier;
 use lane_operations::laws::{operations_end, operations_shorten};
 use lane_states::lane_state::LaneState;
 use op_machine::OpMachine;
-use stamps::Stamp;
+use stamp_places::StampPlaces;
 use std::alloc::Global;
-use std::collections::BTreeMap;
 use value_lists::{NoMemory, TryCopy};
 
 /// The phase in which an operation is over, if its machine has an outcome. The only error is want of memory.
@@ -68,7 +68,7 @@ fn step_phase<C: Carrier>(
     line: u32,
     key: u64,
     phase: &mut Phase,
-    places: &mut BTreeMap<Stamp, usize>,
+    places: &mut StampPlaces,
     carrier: &mut C,
 ) -> Advance
     requires keeps { IsKept state.old }
@@ -116,7 +116,7 @@ fn step_phase<C: Carrier>(
 fn step_job<C: Carrier>(
     state: &mut LaneState,
     job: &mut Job,
-    places: &mut BTreeMap<Stamp, usize>,
+    places: &mut StampPlaces,
     carrier: &mut C,
 ) -> Advance
     requires keeps { IsKept state.old }

@@ -20,6 +20,7 @@ use lane_carriage::laws::late_messages_wait;
 use lane_journals::laws::kept_journals_mean_legal_ones;
 use lane_states::lane_state::LaneState;
 use node_sets::NodeSet;
+use stamp_places::StampPlaces;
 use std::alloc::Global;
 use std::collections::BTreeMap;
 use value_lists::NoMemory;
@@ -37,7 +38,7 @@ impl Work {
         Work {
             state: LaneState::new(alloc, lane, rules),
             drawn: BTreeMap::new(alloc),
-            places: BTreeMap::new(alloc),
+            places: StampPlaces::none(alloc),
             has_room: false,
             job: None,
         }
@@ -181,6 +182,7 @@ impl Work {
         ensures acting { IsOwner self.old.state.lane state.now distributor
             → IsActing self.old.state.lane (journal_of self.new.state) distributor state.now }
         ensures room { (many : ℕ) → HasRoom (many + 1) self.old.state → HasRoom many self.new.state }
+        ensures parts { vec_len self.new.state.parts ≡ vec_len self.old.state.parts }
         ensures after { self.new ≡ record self.old {
           state = record self.old.state {
             journal = self.new.state.journal;

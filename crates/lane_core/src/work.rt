@@ -8,7 +8,7 @@ use lane_operations::laws::operations_end;
 use lane_states::lane_state::LaneState;
 use messages::Outcome;
 use node_sets::NodeSet;
-use stamps::Stamp;
+use stamp_places::StampPlaces;
 use std::collections::BTreeMap;
 
 /// A lane with what it keeps of its lines: how many stamps were drawn under each version, where in the journal
@@ -17,7 +17,7 @@ use std::collections::BTreeMap;
 pub struct Work {
     pub state: LaneState,
     pub drawn: BTreeMap<u32, u64>,
-    pub places: BTreeMap<Stamp, usize>,
+    pub places: StampPlaces,
     /// Whether room was made for a publication, a stop or a start.
     pub has_room: bool,
     pub job: Option<Job>,

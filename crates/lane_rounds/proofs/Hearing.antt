@@ -286,13 +286,13 @@ module _ (lane : Low) (rules : Rules) (J : List LaneEvent) (newest : Option Clus
       -- an answer that was there stays the first one
       named-before : (p : NodePieces) → IsNamed (answer v i p.node H) p.pieces → IsNamed (answer v i p.node (history K)) p.pieces
       named-before p n = named-still (sym (heard p.node (Some g) given ∙ ap (λ (o : Option Given). or_else o (cond (eqb m.receiver p.node) (Some g) None)) n.given))
-          (record { answer = n.answer; given = refl; names = n.names })
+          (record { answer = n.answer; given = refl; names = n.names; names_are = n.names_are })
 
       named : (p : NodePieces) → Contains shown p → IsNamed (answer v i p.node (history K)) p.pieces
       named p h = elim (Contains-append_cases r.shown (shown_by m.receiver ps es ∷ []) p h) [
         | inl old ↦ named-before p ((know.answers).pieces_are p old)
         | inr new ↦ subst (λ (q : NodePieces). IsNamed (answer v i q.node (history K)) q.pieces) (contains-one (shown_by m.receiver ps es) p new)
-            (record { answer = g; given = gave; names = own-names ps })
+            (record { answer = g; given = gave; names = own-names ps; names_are = refl })
       ]
 
       unites : IsUnion v i (history K) (λ n. did_show n shown) (joined r.union es)

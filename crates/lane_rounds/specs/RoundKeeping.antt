@@ -18,7 +18,7 @@ use Rattle.merge_rounds.specs.Rounds.{RoundState, did_show}
 use Rattle.lane_journals.specs.Events.{Body, Apply, Sent}
 use Rattle.lane_journals.specs.Readers.{Journal, Message, Given, sent, is_read, answer, round_in, round_of, running}
 use Rattle.lane_journals.specs.Facts.{AnsweredApply}
-use Rattle.lane_journals.specs.Meanings.{history, entry_at}
+use Rattle.lane_journals.specs.Meanings.{history, entry_at, names as names_of}
 use Rattle.lane_journals.specs.Places.{receivers_of}
 use Rattle.lane_journals.specs.declared.event.LaneEvent.{LaneEvent}
 use Rattle.node_journals.specs.NodeKeeping.{AreWritten}
@@ -47,11 +47,12 @@ is_among_first set many n = has_node set n && nat_lt (size_below set n) many
 
 -- ---- who answered
 
--- the pieces are such as the answer names
+-- the pieces are just those that the answer names
 pub record IsNamed (replied : Option Given) (pieces : List Piece) : Type 0 where
   pub answer : Given
   pub given : replied ≡ Some answer
   pub names : (p : Piece) → Contains pieces p → answer.names p.bucket p.serial ≡ true
+  pub names_are : answer.names ≡ names_of pieces
 
 -- of the round with this number in the row each answer to a Read is one that was shown, and so are its entries and
 -- the pieces that it names; whoever answered the Apply is a holder

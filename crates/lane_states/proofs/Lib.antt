@@ -1,5 +1,6 @@
 pub mod Places
 pub mod LaneSteps
+pub mod NodeSpans
 pub mod Kept
 pub mod GivenOut
 pub mod Stops

@@ -20,7 +20,7 @@ use Rattle.lane_keeping.specs.Laws.{IsNoAsk}
 use Rattle.lane_states.specs.declared.lane_state.LaneState.{LaneState}
 use Rattle.lane_states.specs.Growing.{met_at}
 use Rattle.lane_states.specs.LaneStates.{journal_of, Went}
-use Rattle.lane_states.specs.Tellings.{IsRowBody, IsAnsweredBy}
+use Rattle.lane_states.specs.Tellings.{IsRowBody, IsAnsweredBy, IsFirstReply}
 use Rattle.lane_states.proofs.GivenOut.{over-all}
 use Rattle.lane_states.proofs.Staying.{IsOfMessage, stays-delivered, stays-dealt}
 
@@ -98,3 +98,19 @@ some-late v node b (Some r) ns J K d h = came-late v node b r ns J K d h
 pub none-late : (o : Option Reply) (n k : ℕ) (ns : List ℕ) (J K : List LaneEvent) → n ≡ k → AreDelivered ns J K → IfNone o (returned n (history J) ≡ false) → IfNone o (returned k (history K) ≡ false)
 none-late None n k ns J K e d h = silent-late k ns J K d (subst (λ (i : ℕ). returned i (history J) ≡ false) e h)
 none-late (Some r) n k ns J K e d h = tt
+
+-- ---- which reply it is
+
+pub first-back : (J K : List LaneEvent) (number : ℕ) (m : Message) (r : Reply) → IsJustSent J number m → K ≡ Returned number ∷ delivered number r ∷ J → IsFirstReply K number r
+first-back J K number m r just is = subst (λ (X : List LaneEvent). IsFirstReply X number r) (sym is) (record {
+  before = J;
+  is = ap (λ (o : Option plain.Reply). or_else o (only_if (eqb number number) (meaning_reply J (noted_reply r)))) just.unreplied
+      ∙ ap (λ (t : Bool). only_if t (meaning_reply J (noted_reply r))) (eq-eqb number number refl);
+})
+
+pub first-stays : (number : ℕ) (r : Reply) (e : LaneEvent) (J : List LaneEvent) → IsFirstReply J number r → IsFirstReply (e ∷ J) number r
+first-stays number r e J h = record { before = h.before; is = first_reply-stays number (history J) (meaning_reply h.before (noted_reply r)) (meaning J e) h.is }
+
+pub first-late : (o : Option Reply) (n k : ℕ) (ns : List ℕ) (J K : List LaneEvent) → n ≡ k → AreDelivered ns J K → IfSome o (IsFirstReply J n) → IfSome o (IsFirstReply K k)
+first-late None n k ns J K e d h = tt
+first-late (Some r) n k ns J K e d h = over-all (λ (X : List LaneEvent). IsFirstReply X k r) (λ i y X x. first-stays k r (Delivered i y) X x) ns J K d (subst (λ (i : ℕ). IsFirstReply J i r) e h)

@@ -17,11 +17,12 @@ use Rattle.late_messages.specs.Waiting.{Each, NoneIsDue}
 use Rattle.late_messages.specs.declared.late.Late.{Late}
 use Rattle.node_journals.specs.Flights.{IsInFlight}
 use Rattle.node_journals.specs.Replaying.{sending}
+use Rattle.node_spans.specs.Spans.{NodesGo}
 use Rattle.lane_carriage.specs.Carriage.{IsCarried, IsDealt}
 use Rattle.lane_carriage.specs.Waits.{IsWaiting, kept_by}
 use Rattle.lane_states.specs.Growing.{met_at, DeliversSome}
 use Rattle.lane_states.specs.declared.lane_state.LaneState.{LaneState}
-use Rattle.lane_keeping.specs.LaneKeeping.{part_in, Keeps}
+use Rattle.lane_keeping.specs.LaneKeeping.{node_in, part_in, Keeps}
 use Rattle.lane_keeping.specs.Asking.{IsAsking}
 
 -- what a lane is set up with lies within the limits
@@ -97,6 +98,10 @@ abbrev pub StaysCarried : LaneState → LaneState → Type 0
 StaysCarried old new = (given : List Fate) → IsCarriedBy old given → IsCarriedBy new given
 
 -- ---- what a call leaves
+
+-- the nodes go through just the deliveries by which the journal grew
+abbrev pub NodesOn : LaneState → LaneState → Type 0
+NodesOn c e = NodesGo (journal_of c) (node_in c.nodes.items) (journal_of e) (node_in e.nodes.items)
 
 -- nothing happened in the lane
 pub record Stays (c e : LaneState) : Type 0 where

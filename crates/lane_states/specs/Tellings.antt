@@ -30,3 +30,9 @@ pub record IsAnsweredBy (J : List LaneEvent) (v node : ℕ) (body : Body) (reply
   pub before : List LaneEvent
   pub replied : first_reply number (history J) ≡ Some (meaning_reply before (noted_reply reply))
   pub back : returned number (history J) ≡ true
+
+-- the first reply to the message with this number
+pub record IsFirstReply (J : List LaneEvent) (number : ℕ) (reply : Reply) : Type 0 where
+  -- the journal as it was delivered
+  pub before : List LaneEvent
+  pub is : first_reply number (history J) ≡ Some (meaning_reply before (noted_reply reply))

@@ -1,10 +1,6 @@
 -- Where the entries of a journal stand that were written.
 use Rattle.std.specs.Prelude.{◌≡◌, ◌++◌, ℕ, Bool, true, false, List, Option, Some, None, slice_get}
 use Rattle.std.specs.List.{list_any}
-use Rattle.std.specs.Ordering.{nat_cmp, on, then_cmp}
-use Rattle.std.specs.declared.cmp.Ordering.{Ordering}
-use Rattle.std.specs.BTreeMap as tree
-use Rattle.std.specs.BTreeMap.{BTreeMap}
 use Rattle.stamps.specs.declared.stamp.Stamp.{Stamp}
 use Rattle.entry_maps.specs.declared.entry.Entry.{Entry}
 use Rattle.lane_journals.specs.Stamps.{same_stamp}
@@ -13,9 +9,6 @@ use Rattle.lane_journals.specs.Meanings.{entry_at}
 use Rattle.lane_journals.specs.KeptJournals.{past}
 use Rattle.lane_journals.specs.declared.event.LaneEvent.{LaneEvent}
 use Rattle.lane_journals.specs.declared.event.LaneEvent.TheVariants.{Wrote}
-
-abbrev pub stamp_cmp : Stamp → Stamp → Ordering
-stamp_cmp = then_cmp (on (λ s. s.version) nat_cmp) (on (λ s. s.count) nat_cmp)
 
 -- the entry of an event, if it was written with the stamp
 abbrev pub entry_of : Stamp → Option LaneEvent → Option Entry
@@ -26,9 +19,6 @@ entry_of s _ = None
 abbrev pub event_at : List LaneEvent → Option ℕ → Option LaneEvent
 event_at events None = None
 event_at events (Some place) = slice_get events place
-
-abbrev pub place_of : BTreeMap Stamp ℕ → Stamp → Option ℕ
-place_of places s = tree.get stamp_cmp places s
 
 -- each entry stands at the place that is kept for its stamp; at the place of a stamp with which nothing was written
 -- stands something else, or nothing yet

@@ -1,4 +1,4 @@
-ghost use Rattle.std.specs.Prelude.{◌≡◌, ◌≤◌, ◌<◌, ◌+◌, ◌∷◌, true, false, OnOk, OnErr, IfSome, length, vec_len, vec_capacity};
+ghost use Rattle.std.specs.Prelude.{◌≡◌, ◌≤◌, ◌<◌, ◌+◌, ◌∷◌, ℕ, true, false, OnOk, OnErr, IfSome, length, vec_len, vec_capacity};
 ghost use Rattle.messages.specs.Noting.{noted_body};
 ghost use Rattle.service_layer.specs.Takes.{IsKeyOf};
 ghost use Rattle.late_messages.specs.Waiting.{NoneIsDue, AreSentBefore};
@@ -9,9 +9,9 @@ ghost use Rattle.lane_carriage.specs.Waits.{kept_by};
 ghost use Rattle.carriers.specs.declared.fate.Fate.TheVariants as fate;
 ghost use Rattle.node_journals.specs.Flights.{Brings, IsWhole, IsInFlight};
 ghost use Rattle.node_journals.specs.Replaying.{sending, delivered};
-ghost use Rattle.lane_keeping.specs.LaneKeeping.{setting_of};
+ghost use Rattle.lane_keeping.specs.LaneKeeping.{setting_of, node_in};
 ghost use Rattle.lane_keeping.specs.Asking.{IsJustSent, IsTakenBy};
-ghost use Rattle.lane_states.specs.LaneStates.{journal_of, IsKept, IsComing, HasRoom, Receives};
+ghost use Rattle.lane_states.specs.LaneStates.{journal_of, IsKept, IsComing, HasRoom, Receives, NodesOn};
 ghost use Rattle.lane_states.specs.Growing.{DeliversOne, DeliversSome};
 
 use crate::lane_state::{LaneState, push_within};
@@ -65,6 +65,7 @@ impl LaneState {
         requires there { message.now.receiver < vec_len self.old.nodes }
         requires room { vec_len self.old.journal + 1 ≤ vec_capacity self.old.journal }
         ensures keeps { IsKept self.new }
+        ensures took { NodesOn self.old self.new }
         ensures taken { IsTakenBy self.old.nodes.items self.new.nodes.items message.now result }
         ensures grows { journal_of self.new ≡ delivered number result ∷ journal_of self.old }
         ensures after { self.new ≡ record self.old { journal = self.new.journal; nodes = self.new.nodes } }
@@ -94,6 +95,7 @@ impl LaneState {
         ensures spare { HasRoom 0 self.new }
         ensures same { self.new.journal.items ≡ self.old.journal.items }
         ensures late { self.new.late.late ≡ self.old.late.late }
+        ensures nodes { (n : ℕ) → node_in self.new.nodes.items n ≡ node_in self.old.nodes.items n }
         ensures after { self.new
             ≡ record self.old { journal = self.new.journal; nodes = self.new.nodes; late = self.new.late } }
         ensures room { OnOk result (HasRoom (length self.new.late.late + 4) self.new) }
@@ -129,6 +131,7 @@ impl LaneState {
         requires keeps { IsKept self.old }
         requires room { vec_len self.old.journal + length self.old.late.late ≤ vec_capacity self.old.journal }
         ensures keeps { IsKept self.new }
+        ensures took { NodesOn self.old self.new }
         ensures some { result ≡ true → DeliversOne self.old.last self.old.late.late self.new.late.late
             (journal_of self.old) (journal_of self.new) }
         ensures none { result ≡ false → NoneIsDue self.old.last self.new.late.late }
@@ -154,6 +157,7 @@ impl LaneState {
         requires coming { IsComing (journal_of self.old) self.old.nodes.items late.now }
         requires room { vec_len self.old.journal + 1 ≤ vec_capacity self.old.journal }
         ensures keeps { IsKept self.new }
+        ensures took { NodesOn self.old self.new }
         ensures given_out { IsGivenOut (is_cut_off late.now.number (journal_of self.old)) late.now.number
             (journal_of self.old) (journal_of self.new) }
         ensures after { self.new ≡ record self.old { journal = self.new.journal; nodes = self.new.nodes } }
@@ -171,6 +175,7 @@ impl LaneState {
         requires keeps { IsKept self.old }
         requires room { vec_len self.old.journal + length self.old.late.late ≤ vec_capacity self.old.journal }
         ensures keeps { IsKept self.new }
+        ensures took { NodesOn self.old self.new }
         ensures due { DeliversSome self.old.last self.old.late.late self.new.late.late
             (journal_of self.old) (journal_of self.new) }
         ensures none_left { NoneIsDue self.old.last self.new.late.late }

@@ -10,7 +10,7 @@ ghost use Rattle.lane_carriage.specs.Waits.{kept_by};
 ghost use Rattle.distributor_part.specs.Steps.{IsAfterAnswer};
 ghost use Rattle.node_journals.specs.Flights.{IsInFlight};
 ghost use Rattle.lane_keeping.specs.Asking.{IsJustSent, OthersStay};
-ghost use Rattle.lane_states.specs.LaneStates.{journal_of, IsKept, HasRoom, Receives, part_of, Asks, IsCarriedBy, IsResting, Stays, Went};
+ghost use Rattle.lane_states.specs.LaneStates.{journal_of, IsKept, HasRoom, Receives, part_of, Asks, IsCarriedBy, IsResting, Stays, Went, NodesOn};
 ghost use Rattle.lane_states.specs.Growing.{IsToldBy, HasHeard, is_short, IsSettled};
 ghost use Rattle.lane_states.specs.Openings.{IsOpening, IsNext, AsksOn, StopsAsking, EndsAsking, StopsAfter, GivesUp, EndsOpening, StopsOpening};
 ghost use Rattle.bucket_ids.specs.Buckets.{Low, IsIn};
@@ -127,6 +127,7 @@ impl LaneState {
         requires part { distributor < vec_len self.old.parts }
         requires room { vec_len self.old.journal + 2 ≤ vec_capacity self.old.journal }
         ensures keeps { IsKept self.new }
+        ensures took { NodesOn self.old self.new }
         ensures dealt { IsDealt fate.Deliver number (journal_of self.old) (journal_of self.new) }
         ensures settled { IsSettled number (journal_of self.new) result }
         ensures flight { IsInFlight (journal_of self.new) number message.now }
@@ -182,6 +183,7 @@ impl LaneState {
         requires room { vec_len self.old.journal + 3 ≤ vec_capacity self.old.journal }
         requires place { self.old.late.room ≡ true }
         ensures keeps { IsKept self.new }
+        ensures took { NodesOn self.old self.new }
         ensures dealt { IsDealt fate self.old.last (journal_of self.old) (journal_of self.new) }
         ensures settled { IsSettled self.old.last (journal_of self.new) result }
         ensures late { self.new.late.late ≡ kept_by fate self.old.last message self.old.late.late }
@@ -241,6 +243,7 @@ impl LaneState {
         ensures planned { C.planned carrier.new ≡ C.planned carrier.old }
         ensures kind { C.takes_plans carrier.new ≡ C.takes_plans carrier.old }
         ensures keeps { IsKept self.new }
+        ensures took { NodesOn self.old self.new }
         ensures spare { HasRoom 0 self.new }
         ensures carried { IsCarriedBy self.new (C.given carrier.new) }
         ensures went { OnOk result (Went self.old self.new message (C.given carrier.old) (C.given carrier.new)) }
@@ -326,6 +329,7 @@ impl LaneState {
         ensures planned { C.planned carrier.new ≡ C.planned carrier.old }
         ensures kind { C.takes_plans carrier.new ≡ C.takes_plans carrier.old }
         ensures keeps { IsKept self.new }
+        ensures took { NodesOn self.old self.new }
         ensures spare { HasRoom 0 self.new }
         ensures carried { IsCarriedBy self.new (C.given carrier.new) }
         ensures asks { IfOk result (λ asking. AsksOn self.old self.new distributor asking) }
@@ -366,6 +370,7 @@ impl LaneState {
         ensures planned { C.planned carrier.new ≡ C.planned carrier.old }
         ensures kind { C.takes_plans carrier.new ≡ C.takes_plans carrier.old }
         ensures keeps { IsKept self.new }
+        ensures took { NodesOn self.old self.new }
         ensures spare { HasRoom 0 self.new }
         ensures carried { IsCarriedBy self.new (C.given carrier.new) }
         ensures ends { IfOk result (λ end.
@@ -434,6 +439,7 @@ impl LaneState {
         ensures planned { C.planned carrier.new ≡ C.planned carrier.old }
         ensures kind { C.takes_plans carrier.new ≡ C.takes_plans carrier.old }
         ensures keeps { IsKept self.new }
+        ensures took { NodesOn self.old self.new }
         ensures spare { HasRoom 0 self.new }
         ensures carried { IsCarriedBy self.new (C.given carrier.new) }
         ensures ends { IfOk result (λ end. EndsOpening self.old self.new distributor end) }

@@ -27,7 +27,7 @@ ghost use Rattle.lane_keeping.specs.LaneKeeping.{setting_of};
 ghost use Rattle.lane_keeping.specs.Asking.{IsJustSent, OthersStay};
 ghost use Rattle.lane_rounds.specs.RoundKeeping.{IsAwaited};
 ghost use Rattle.lane_wants.specs.Wants.{IsRun, IsCutRun};
-ghost use Rattle.lane_states.specs.LaneStates.{journal_of, IsKept, HasRoom, Receives, part_of, IsCarriedBy};
+ghost use Rattle.lane_states.specs.LaneStates.{journal_of, IsKept, HasRoom, Receives, part_of, IsCarriedBy, NodesOn};
 ghost use Rattle.lane_states.specs.RoundRuns.{IsAfterReply, IsRoundToldBy, is_refusal, NoneRuns, IsRunning, IsToSend, IsCutOff, GoesOn, IsRunToldBy, left, IsRunBy, MayBegin, MayBeginAt, LowIsThere, IsNewRun, EndsEnough, Begins, RunsOn, EndsWith, IsStageOver, IsToldOver, EndsJob, EndsRun, are_missing, is_short, IsEnd, IsBegunFor, OfWaited, IsWholeRun, IsCutShort};
 
 use crate::lane_state::{LaneState, push_within};
@@ -286,6 +286,7 @@ impl LaneState {
         requires node { message.now.receiver < vec_len self.old.nodes }
         requires room { vec_len self.old.journal + 2 ≤ vec_capacity self.old.journal }
         ensures keeps { IsKept self.new }
+        ensures took { NodesOn self.old self.new }
         ensures runs { IsRunning self.old.lane (journal_of self.new) run.new }
         ensures told { run.new.round.awaited ≡ None }
         ensures left { left run.new.round ≡ left run.old.round }
@@ -332,6 +333,7 @@ impl LaneState {
         requires there { message.now.receiver < vec_len self.old.nodes }
         requires room { vec_len self.old.journal + 1 ≤ vec_capacity self.old.journal }
         ensures keeps { IsKept self.new }
+        ensures took { NodesOn self.old self.new }
         ensures runs { IsRunning self.old.lane (journal_of self.new) run.now }
         ensures flight { IsInFlight (journal_of self.new) number message.now }
         ensures grows { IsDealt fate.LoseReply number (journal_of self.old) (journal_of self.new) }
@@ -357,6 +359,7 @@ impl LaneState {
         requires room { vec_len self.old.journal + 3 ≤ vec_capacity self.old.journal }
         requires place { self.old.late.room ≡ true }
         ensures keeps { IsKept self.new }
+        ensures took { NodesOn self.old self.new }
         ensures runs { IsRunning self.old.lane (journal_of self.new) run.new }
         ensures told { run.new.round.awaited ≡ None }
         ensures left { left run.new.round ≡ left run.old.round }
@@ -412,6 +415,7 @@ impl LaneState {
         ensures planned { C.planned carrier.new ≡ C.planned carrier.old }
         ensures kind { C.takes_plans carrier.new ≡ C.takes_plans carrier.old }
         ensures keeps { IsKept self.new }
+        ensures took { NodesOn self.old self.new }
         ensures spare { HasRoom 0 self.new }
         ensures runs { IsRunning self.old.lane (journal_of self.new) run.new }
         ensures told { run.new.round.awaited ≡ None }
@@ -450,6 +454,7 @@ impl LaneState {
         ensures planned { C.planned carrier.new ≡ C.planned carrier.old }
         ensures kind { C.takes_plans carrier.new ≡ C.takes_plans carrier.old }
         ensures keeps { IsKept self.new }
+        ensures took { NodesOn self.old self.new }
         ensures spare { HasRoom 0 self.new }
         ensures runs { OnOk result (IsRunning self.old.lane (journal_of self.new) run.new) }
         ensures told { OnOk result (run.new.round.awaited ≡ None) }
@@ -487,6 +492,7 @@ impl LaneState {
         ensures planned { C.planned carrier.new ≡ C.planned carrier.old }
         ensures kind { C.takes_plans carrier.new ≡ C.takes_plans carrier.old }
         ensures keeps { IsKept self.new }
+        ensures took { NodesOn self.old self.new }
         ensures spare { HasRoom 0 self.new }
         ensures cut { IsCutOff self.old.lane (journal_of self.new) run.new }
         ensures runs { OnOk result (IsRunning self.old.lane (journal_of self.new) run.new) }
@@ -672,6 +678,7 @@ impl LaneState {
         ensures planned { C.planned carrier.new ≡ C.planned carrier.old }
         ensures kind { C.takes_plans carrier.new ≡ C.takes_plans carrier.old }
         ensures keeps { IsKept self.new }
+        ensures took { NodesOn self.old self.new }
         ensures room { HasRoom 0 self.new }
         ensures carried { IsCarriedBy self.new (C.given carrier.new) }
         ensures whole { IfOk result (λ end. IsWholeRun self.old.lane run.old end (C.given carrier.old) (C.given carrier.new)

@@ -12,8 +12,8 @@ ghost use Rattle.node_journals.specs.Flights.{IsInFlight, Brings, IsWhole};
 ghost use Rattle.node_journals.specs.Replaying.{sending};
 ghost use Rattle.lane_keeping.specs.LaneKeeping.{setting_of};
 ghost use Rattle.lane_keeping.specs.Asking.{IsJustSent};
-ghost use Rattle.lane_states.specs.LaneStates.{journal_of, IsKept, HasRoom, Receives, IsCarriedBy, Went};
-ghost use Rattle.lane_states.specs.Tellings.{IsRowBody, IsAnsweredBy};
+ghost use Rattle.lane_states.specs.LaneStates.{journal_of, IsKept, HasRoom, Receives, IsCarriedBy, Went, NodesOn};
+ghost use Rattle.lane_states.specs.Tellings.{IsRowBody, IsAnsweredBy, IsFirstReply};
 
 use crate::lane_state::{LaneState, push_within};
 use carriers::{Carrier, Fate};
@@ -34,10 +34,12 @@ impl LaneState {
         requires node { message.now.receiver < vec_len self.old.nodes }
         requires room { vec_len self.old.journal + 2 ≤ vec_capacity self.old.journal }
         ensures keeps { IsKept self.new }
+        ensures took { NodesOn self.old self.new }
         ensures dealt { IsDealt fate.Deliver number (journal_of self.old) (journal_of self.new) }
         ensures flight { IsInFlight (journal_of self.new) number message.now }
         ensures back { IsAnsweredBy (journal_of self.new) message.now.version message.now.receiver message.now.body
             result }
+        ensures first { IsFirstReply (journal_of self.new) number result }
         ensures after { self.new ≡ record self.old { journal = self.new.journal; nodes = self.new.nodes } }
         ensures nodes { vec_len self.new.nodes ≡ vec_len self.old.nodes }
         ensures len { vec_len self.new.journal ≡ vec_len self.old.journal + 2 }
@@ -62,10 +64,12 @@ impl LaneState {
         requires room { vec_len self.old.journal + 3 ≤ vec_capacity self.old.journal }
         requires place { self.old.late.room ≡ true }
         ensures keeps { IsKept self.new }
+        ensures took { NodesOn self.old self.new }
         ensures dealt { IsDealt fate self.old.last (journal_of self.old) (journal_of self.new) }
         ensures late { self.new.late.late ≡ kept_by fate self.old.last message self.old.late.late }
         ensures back { IfSome result
             (IsAnsweredBy (journal_of self.new) message.version message.receiver message.body) }
+        ensures first { IfSome result (IsFirstReply (journal_of self.new) self.old.last) }
         ensures none { IfNone result (returned self.old.last (history (journal_of self.new)) ≡ false) }
         ensures after { self.new ≡ record self.old {
           journal = self.new.journal;
@@ -118,6 +122,7 @@ impl LaneState {
         requires node { message.receiver < vec_len self.old.nodes }
         requires place { self.old.late.room ≡ true }
         ensures keeps { IsKept self.new }
+        ensures took { NodesOn self.old self.new }
         ensures spare { HasRoom 0 self.new }
         ensures carried { IsCarriedBy self.new (C.given carrier.new) }
         ensures planned { C.planned carrier.new ≡ C.planned carrier.old }
@@ -125,6 +130,7 @@ impl LaneState {
         ensures went { Went self.old self.new message (C.given carrier.old) (C.given carrier.new) }
         ensures back { IfSome result
             (IsAnsweredBy (journal_of self.new) message.version message.receiver message.body) }
+        ensures first { IfSome result (IsFirstReply (journal_of self.new) (self.old.last + 1)) }
         ensures none { IfNone result (returned (self.old.last + 1) (history (journal_of self.new)) ≡ false) }
         ensures after { self.new ≡ record self.old {
           journal = self.new.journal;
@@ -159,6 +165,7 @@ impl LaneState {
         requires whole { IsWhole message.body }
         requires of_row { IsRowBody message.body }
         ensures keeps { IsKept self.new }
+        ensures took { NodesOn self.old self.new }
         ensures spare { HasRoom 0 self.new }
         ensures carried { IsCarriedBy self.new (C.given carrier.new) }
         ensures planned { C.planned carrier.new ≡ C.planned carrier.old }
@@ -166,6 +173,8 @@ impl LaneState {
         ensures went { OnOk result (Went self.old self.new message (C.given carrier.old) (C.given carrier.new)) }
         ensures back { IfOk result (λ reply. IfSome reply
             (IsAnsweredBy (journal_of self.new) message.version message.receiver message.body)) }
+        ensures first { IfOk result (λ reply. IfSome reply
+            (IsFirstReply (journal_of self.new) (self.old.last + 1))) }
         ensures none { IfOk result (λ reply. IfNone reply
             (returned (self.old.last + 1) (history (journal_of self.new)) ≡ false)) }
         ensures err { OnErr result (journal_of self.new ≡ journal_of self.old) }

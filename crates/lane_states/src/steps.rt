@@ -16,7 +16,8 @@ ghost use Rattle.lane_keeping.specs.LaneKeeping.{setting_of};
 ghost use Rattle.lane_keeping.specs.Asking.{IsJustSent};
 ghost use Rattle.lane_states.specs.LaneStates.{journal_of, IsKept, HasRoom, Receives, IsCarriedBy, StaysCarried};
 ghost use Rattle.lane_states.specs.Steps.{HearsIn, IsToWrite, IsToSend, IsReady, WritesOn, SendsIn, SentIn, IsPreparedIn, StandsOn, GoesIn, RunsIn, IsTold, TellsOne, IsQuiet};
-ghost use Rattle.lane_states.specs.Written.{place_of, FindsEntries, AddsNoEntry};
+ghost use Rattle.stamp_places.specs.Places.{place_of};
+ghost use Rattle.lane_states.specs.Written.{FindsEntries, AddsNoEntry};
 
 use crate::lane_state::{LaneState, push_within};
 use crate::written::keep_place;
@@ -29,8 +30,7 @@ use lane_operations::laws::{operations_hear, operations_send, operations_write};
 use messages::{Body, Message, NotedBody};
 use node_journals::laws::{entries_are_written, messages_fly};
 use op_machine::OpMachine;
-use stamps::Stamp;
-use std::collections::BTreeMap;
+use stamp_places::StampPlaces;
 use value_lists::{NoMemory, TryCopy};
 
 impl LaneState {
@@ -38,7 +38,7 @@ impl LaneState {
     /// memory.
     fn write_entry(
         &mut self,
-        places: &mut BTreeMap<Stamp, usize>,
+        places: &mut StampPlaces,
         line: u32,
         entry: &Entry,
     ) -> Result<(), NoMemory>
@@ -57,7 +57,7 @@ impl LaneState {
         entries_are_written();
         let entry = entry.copy(self.alloc)?;
         self.journal.reserve(1 + self.spare)?;
-        keep_place(places, entry.stamp, self.journal.len())?;
+        keep_place(self.alloc, places, entry.stamp, self.journal.len())?;
         self.note(LaneEvent::Wrote { line, entry });
         Ok(())
     }
@@ -66,7 +66,7 @@ impl LaneState {
     /// whether an entry is written. The only error is want of memory.
     fn write_wanted(
         &mut self,
-        places: &mut BTreeMap<Stamp, usize>,
+        places: &mut StampPlaces,
         line: u32,
         written: bool,
         message: &Message,
@@ -265,7 +265,7 @@ impl LaneState {
         key: u64,
         written: &mut bool,
         machine: &mut OpMachine,
-        places: &mut BTreeMap<Stamp, usize>,
+        places: &mut StampPlaces,
         carrier: &mut C,
     ) -> Result<bool, NoMemory>
         requires keeps { IsKept self.old }

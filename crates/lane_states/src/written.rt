@@ -3,12 +3,14 @@ ghost use Rattle.std.specs.Option.{option_copied};
 ghost use Rattle.lane_journals.specs.Stamps.{same_stamp};
 ghost use Rattle.lane_journals.specs.Meanings.{entry_at};
 ghost use Rattle.lane_journals.specs.KeptJournals.{past};
-ghost use Rattle.lane_states.specs.Written.{entry_of, place_of, FindsEntries};
+ghost use Rattle.stamp_places.specs.Places.{place_of};
+ghost use Rattle.lane_states.specs.Written.{entry_of, FindsEntries};
 
 use entry_maps::Entry;
 use lane_journals::LaneEvent;
+use stamp_places::StampPlaces;
 use stamps::Stamp;
-use std::collections::BTreeMap;
+use std::alloc::Global;
 use value_lists::NoMemory;
 
 /// Whether two stamps are the same.
@@ -41,15 +43,15 @@ fn entry_of(event: &LaneEvent, stamp: Stamp) -> Option<&Entry>
 
 /// The entry that was written with a stamp, by the place that is kept for it.
 pub fn entry_in<'a>(
-    places: &BTreeMap<Stamp, usize>,
+    places: &StampPlaces,
     events: &'a [LaneEvent],
     stamp: Stamp,
 ) -> Option<&'a Entry>
     requires finds { FindsEntries (place_of places.now) events.now }
     ensures { option_copied result ≡ entry_at stamp (past events.now) }
 {
-    match places.get(&stamp) {
-        Some(place) => match events.get(*place) {
+    match places.get(stamp) {
+        Some(place) => match events.get(place) {
             Some(event) => entry_of(event, stamp),
             None => None,
         },
@@ -60,7 +62,8 @@ pub fn entry_in<'a>(
 /// Keeps the place at which the entry of a stamp is to be written. The only error is want of memory.
 #[tactic(auto, unfolding(lane_journals::specs::Stamps::same_stamp))]
 pub fn keep_place(
-    places: &mut BTreeMap<Stamp, usize>,
+    alloc: Global,
+    places: &mut StampPlaces,
     stamp: Stamp,
     place: usize,
 ) -> Result<(), NoMemory>
@@ -68,6 +71,5 @@ pub fn keep_place(
         ≡ (if same_stamp stamp s then Some place else place_of places.old s)) }
     ensures err { OnErr result ((s : _) → place_of places.new s ≡ place_of places.old s) }
 {
-    places.insert(stamp, place)?;
-    Ok(())
+    places.keep(alloc, stamp, place)
 }

@@ -1,5 +1,6 @@
 use Rattle.std.proofs.Common.{◌∙◌, sym}
 use Rattle.lane_core.proofs.Searching.{to-step}
+use Rattle.upkeep_answers.specs.Watches.{takes_plans, planned_in}
 use Rattle.lane_core.proofs.lane.Lane.advance.Goals as goal
 
 pub prepare-requires-clause-begun : goal.prepare-requires-clause-begun
@@ -12,8 +13,8 @@ step-requires-clause-prepared g c =
 
 pub returns-then-is_begun : goal.returns-then-is_begun
 returns-then-is_begun g c =
-    rw (← c.self.view_is, c.prepare.ensures.planned, c.prepare.ensures.kind) (c.prepare.ensures.advances (g.C.Carrier.planned c.self.inside.carrier) (g.C.Carrier.takes_plans c.self.inside.carrier))
+    rw (← c.self.view_is, c.prepare.ensures.planned, c.prepare.ensures.kind) (c.prepare.ensures.advances (planned_in c.self.inside.carrier.plans) (takes_plans c.self.inside.carrier.plans))
 
 pub returns : goal.returns
 returns g c =
-    rw (← c.self.view_is, c.step.ensures.planned, c.step.ensures.kind) (c.step.ensures.advances (g.C.Carrier.planned c.self.inside.carrier) (g.C.Carrier.takes_plans c.self.inside.carrier))
+    rw (← c.self.view_is, c.step.ensures.planned, c.step.ensures.kind) (c.step.ensures.advances (planned_in c.self.inside.carrier.plans) (takes_plans c.self.inside.carrier.plans))

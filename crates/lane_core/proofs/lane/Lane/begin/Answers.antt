@@ -1,4 +1,5 @@
+use Rattle.upkeep_answers.specs.Watches.{takes_plans, planned_in}
 use Rattle.lane_core.proofs.lane.Lane.begin.Goals as goal
 
 pub returns : goal.returns
-returns g c = rw (← c.self.view_is) (c.begin.ensures.begins (g.C.Carrier.given c.self.inside.carrier) (g.C.Carrier.planned c.self.inside.carrier) (g.C.Carrier.takes_plans c.self.inside.carrier))
+returns g c = rw (← c.self.view_is) (c.begin.ensures.begins c.self.inside.carrier.given (planned_in c.self.inside.carrier.plans) (takes_plans c.self.inside.carrier.plans))

@@ -1,8 +1,9 @@
 use Rattle.lane_states.proofs.Results.{on_ok, on_err}
+use Rattle.upkeep_answers.specs.Watches.{takes_plans, planned_in}
 use Rattle.lane_core.proofs.lane.Lane.room.Goals as goal
 
 pub returns-clause-ok : goal.returns-clause-ok
-returns-clause-ok g c = rw (← c.self.view_is) (on_ok c.room.result (λ h. h (g.C.Carrier.given c.self.inside.carrier) (g.C.Carrier.planned c.self.inside.carrier) (g.C.Carrier.takes_plans c.self.inside.carrier)) c.room.ensures.ok)
+returns-clause-ok g c = rw (← c.self.view_is) (on_ok c.room.result (λ h. h c.self.inside.carrier.given (planned_in c.self.inside.carrier.plans) (takes_plans c.self.inside.carrier.plans)) c.room.ensures.ok)
 
 pub returns-clause-err : goal.returns-clause-err
-returns-clause-err g c = rw (← c.self.view_is) (on_err c.room.result (λ h. h (g.C.Carrier.given c.self.inside.carrier) (g.C.Carrier.planned c.self.inside.carrier) (g.C.Carrier.takes_plans c.self.inside.carrier)) c.room.ensures.err)
+returns-clause-err g c = rw (← c.self.view_is) (on_err c.room.result (λ h. h c.self.inside.carrier.given (planned_in c.self.inside.carrier.plans) (takes_plans c.self.inside.carrier.plans)) c.room.ensures.err)

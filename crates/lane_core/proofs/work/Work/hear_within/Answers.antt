@@ -3,7 +3,7 @@ use Rattle.lane_states.specs.declared.lane_state.LaneState.{LaneState}
 use Rattle.lane_states.specs.LaneStates.{journal_of}
 use Rattle.lane_states.specs.Growing.{heard_next}
 use Rattle.lane_core.specs.Works.{count_of}
-use Rattle.lane_states.specs.Written.{place_of}
+use Rattle.stamp_places.specs.Places.{place_of}
 use Rattle.lane_states.proofs.Entries.{past-past, finds-heard}
 use Rattle.lane_states.proofs.Carrying.{carried-heard}
 use Rattle.lane_core.proofs.Idling.{lines-heard}

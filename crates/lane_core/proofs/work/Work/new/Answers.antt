@@ -4,7 +4,7 @@ use Rattle.lane_core.proofs.Working.{work-new}
 use Rattle.lane_core.proofs.work.Work.new.Goals as goal
 
 pub returns-clause-keeps : goal.returns-clause-keeps
-returns-clause-keeps c = work-new _ (rw (c.new.ensures.lane, c.new.ensures.rules) c.requires) c.new.ensures.keeps c.new.ensures.journal c.new.ensures.newest c.new.ensures.parts c.new.ensures.spare (search rules) refl refl (λ v. rw c.new-2.ensures.empty refl) (λ s. rw c.new-3.ensures.empty refl)
+returns-clause-keeps c = work-new _ (rw (c.new.ensures.lane, c.new.ensures.rules) c.requires) c.new.ensures.keeps c.new.ensures.journal c.new.ensures.newest c.new.ensures.parts c.new.ensures.spare (search rules) refl refl (λ v. rw c.new-2.ensures.empty refl) c.none.ensures
 
 pub returns-clause-value : goal.returns-clause-value
 returns-clause-value c = λ given planned takes. rw (c.new.ensures.lane, c.new.ensures.rules, c.new.ensures.journal) refl

@@ -9,7 +9,7 @@ use Rattle.lane_core.specs.LaneValues.{drawn}
 use Rattle.lane_core.specs.Works.{count_of, new_job, one_if, room_for}
 use Rattle.lane_states.proofs.Carrying.{carried-more}
 use Rattle.lane_core.proofs.Working.{key-in, next-stamp, drawn-stamped, counts-begun, job-begun, work-noted}
-use Rattle.lane_states.specs.Written.{place_of}
+use Rattle.stamp_places.specs.Places.{place_of}
 use Rattle.lane_states.proofs.Entries.{finds-noted}
 use Rattle.lane_core.proofs.work.Work.note_begun.Goals as goal
 

@@ -3,7 +3,7 @@ use Rattle.messages.specs.declared.outcome.Outcome.TheVariants.{OwnedElsewhere}
 use Rattle.lane_journals.specs.declared.event.LaneEvent.TheVariants.{Refused}
 use Rattle.lane_states.specs.declared.lane_state.LaneState.{LaneState}
 use Rattle.lane_states.proofs.Carrying.{carried-more}
-use Rattle.lane_states.specs.Written.{place_of}
+use Rattle.stamp_places.specs.Places.{place_of}
 use Rattle.lane_states.proofs.Entries.{finds-pushed}
 use Rattle.lane_core.proofs.work.Work.refuse.Goals as goal
 

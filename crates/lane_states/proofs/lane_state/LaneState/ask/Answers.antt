@@ -10,6 +10,8 @@ use Rattle.lane_carriage.specs.Waits.{numbers}
 use Rattle.lane_states.specs.Growing.{IsSettled}
 use Rattle.lane_states.proofs.Settled.{settled-delivered}
 use Rattle.lane_states.proofs.Going.{IsSentIn, went-by, went-carried, stays-carried}
+use Rattle.lane_states.proofs.NodeSpans.{on-same, on-event, on-then}
+use Rattle.lane_keeping.specs.LaneKeeping.{node_in}
 use Rattle.lane_states.proofs.lane_state.LaneState.ask.Goals as goal
 
 pub send-requires-clause-few : goal.send-requires-clause-few
@@ -75,3 +77,17 @@ returns-clause-settled g c =
     let al : b.last ≡ x.last + 1 = ap (λ (z : LaneState). z.last) c.send.ensures.after ∙ ap (λ (i : ℕ). i + 1) (ap (λ (z : LaneState). z.last) c.in_ok-room_for_message.ensures.after) in
     settled-delivered (x.last + 1) (numbers c.deliver_due.ensures.due.taken) (journal_of d) (journal_of e) c.deal_ask-short.result c.deliver_due.ensures.due.delivered
     (subst (λ (i : ℕ). IsSettled i (journal_of d) c.deal_ask-short.result) al c.deal_ask-short.ensures.settled)
+
+pub returns-in_err-room_for_message-clause-took : goal.returns-in_err-room_for_message-clause-took
+returns-in_err-room_for_message-clause-took g c = on-same c.args.self.now c.room_for_message.new.self (rw c.in_err-room_for_message.ensures.same refl) c.in_err-room_for_message.ensures.nodes
+
+pub returns-clause-took : goal.returns-clause-took
+returns-clause-took g c =
+    let x = c.args.self.now in
+    let a = c.room_for_message.new.self in
+    let b = c.send.new.self in
+    let d = c.deal_ask-short.new.self in
+    let e = c.deliver_due.new.self in
+    on-then x d e (on-then x b d (on-then x a b (on-same x a (rw c.in_ok-room_for_message.ensures.same refl) c.in_ok-room_for_message.ensures.nodes)
+    (on-event a b (sending (a.last + 1) c.args.message) tt c.send.ensures.grows (λ n. ap (λ (w : LaneState). node_in w.nodes.items n) c.send.ensures.after))) c.deal_ask-short.ensures.took)
+    c.deliver_due.ensures.took

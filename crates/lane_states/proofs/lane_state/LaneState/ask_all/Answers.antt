@@ -4,11 +4,13 @@ use Rattle.lane_states.specs.declared.opening.Asking.{Asking}
 use Rattle.lane_states.specs.LaneStates.{journal_of, part_of}
 use Rattle.lane_states.specs.Openings.{AsksOn, AsksOne, IsOpenedNow, IsLacking, Nobody, StopsAfter}
 use Rattle.lane_states.proofs.Askings.{moved, fewer-left, asked-more, others-more, opened-after, lacks-after, stops-after, on-err}
+use Rattle.lane_states.proofs.NodeSpans.{on-same, on-then}
 use Rattle.lane_states.proofs.lane_state.LaneState.ask_all.Goals as goal
 
 pub asking-init : goal.asking-init
 asking-init g c = record {
   keeps = c.requires.keeps;
+  took = on-same c.args.self.now c.args.self.now refl (λ n. refl);
   spare = c.requires.spare;
   carried = c.requires.carried;
   planned = refl;
@@ -38,6 +40,7 @@ asking-preserved g c =
     let one : AsksOne y z d c.in-Further.one = subst (λ (a : Asking). AsksOn y z d a) c.in-Further.is c.in_ok-one.ensures.asks in
     record {
       keeps = c.in_ok-one.ensures.keeps;
+      took = on-then x y z i.took c.in_ok-one.ensures.took;
       spare = c.in_ok-one.ensures.spare;
       carried = c.in_ok-one.ensures.carried;
       planned = c.in_ok-one.ensures.planned ∙ i.planned;
@@ -73,3 +76,12 @@ returns-in_err-one-clause-stops g c =
     let d = c.args.distributor in
     let i = c.asking.invariant in
     on-err _ (StopsAfter x d (journal_of z) (part_of z d)) (stops-after x y z d c.asking.short i.keeps i.asked i.after i.opening c.in_err-one.ensures.stops)
+
+pub returns-in-Opened-clause-took : goal.returns-in-Opened-clause-took
+returns-in-Opened-clause-took g c = on-then c.args.self.now c.asking.self c.ask_next.new.self c.asking.invariant.took c.in_ok-one.ensures.took
+
+pub returns-in-Lacks-clause-took : goal.returns-in-Lacks-clause-took
+returns-in-Lacks-clause-took g c = on-then c.args.self.now c.asking.self c.ask_next.new.self c.asking.invariant.took c.in_ok-one.ensures.took
+
+pub returns-in_err-one-clause-took : goal.returns-in_err-one-clause-took
+returns-in_err-one-clause-took g c = on-then c.args.self.now c.asking.self c.ask_next.new.self c.asking.invariant.took c.in_err-one.ensures.took

@@ -1,7 +1,7 @@
 use Rattle.std.proofs.Common.{◌≡◌, ◌-◌, vec_len}
 use Rattle.node_sets.specs.Members.{size_of}
 use Rattle.lane_keeping.specs.Asking.{OthersStay}
-use Rattle.lane_states.specs.LaneStates.{journal_of, IsKept, HasRoom, IsCarriedBy, part_of}
+use Rattle.lane_states.specs.LaneStates.{journal_of, IsKept, HasRoom, IsCarriedBy, NodesOn, part_of}
 use Rattle.lane_states.specs.Openings.{IsOpening, IsAsked}
 use Rattle.lane_states.proofs.lane_state.LaneState.ask_all.Given as goal
 
@@ -9,6 +9,7 @@ use Rattle.lane_states.proofs.lane_state.LaneState.ask_all.Given as goal
 abbrev pub invariant-asking : goal.invariant-asking
 invariant-asking g l = record {
   keeps : IsKept l.self;
+  took : NodesOn l.fn.self l.self;
   spare : HasRoom 0 l.self;
   carried : IsCarriedBy l.self (g.C.Carrier.given l.carrier);
   planned : g.C.Carrier.planned l.carrier ≡ g.C.Carrier.planned l.fn.carrier;

@@ -6,6 +6,8 @@ use Rattle.lane_states.specs.Growing.{IsSettled}
 use Rattle.lane_states.specs.Openings.{IsNext, IsAskNext, IsOpenedNow}
 use Rattle.lane_states.proofs.Going.{stays-carried, other-carried, gone-by}
 use Rattle.lane_states.proofs.Opened.{more-asked, opening-after}
+use Rattle.lane_states.proofs.NodeSpans.{on-same, on-next, on-then}
+use Rattle.lane_keeping.specs.LaneKeeping.{node_in}
 use Rattle.lane_states.proofs.lane_state.LaneState.ask_next.Goals as goal
 
 pub ask-requires-clause-carried : goal.ask-requires-clause-carried
@@ -40,3 +42,20 @@ returns-in-Opened-clause-carried g c =
     let y = c.opening_step.new.self in
     let a : IsOpenedNow x y c.args.distributor = subst (λ (s : OpeningStep). IsNext x y c.args.distributor s) c.in-Opened.is c.in_ok-message.ensures.next in
     other-carried x y _ _ tt a.grows (ap (λ (z : LaneState). z.late.late) c.in_ok-message.ensures.after) (ap (λ (z : LaneState). z.last) c.in_ok-message.ensures.after) c.requires.carried
+
+pub returns-in_err-message-clause-took : goal.returns-in_err-message-clause-took
+returns-in_err-message-clause-took g c = on-same c.args.self.now c.opening_step.new.self c.in_err-message.ensures.stays.journal (λ n. ap (λ (w : LaneState). node_in w.nodes.items n) c.in_err-message.ensures.after)
+
+pub returns-in_err-short-in-Asks-clause-took : goal.returns-in_err-short-in-Asks-clause-took
+returns-in_err-short-in-Asks-clause-took g c = on-then c.args.self.now c.opening_step.new.self c.ask.new.self
+    (on-next c.args.self.now c.opening_step.new.self c.args.distributor _ c.in_ok-message.ensures.next (λ n. ap (λ (w : LaneState). node_in w.nodes.items n) c.in_ok-message.ensures.after)) c.in_err-short-in-Asks.ensures.took
+
+pub returns-in_ok-short-in-Asks-clause-took : goal.returns-in_ok-short-in-Asks-clause-took
+returns-in_ok-short-in-Asks-clause-took g c = on-then c.args.self.now c.opening_step.new.self c.ask.new.self
+    (on-next c.args.self.now c.opening_step.new.self c.args.distributor _ c.in_ok-message.ensures.next (λ n. ap (λ (w : LaneState). node_in w.nodes.items n) c.in_ok-message.ensures.after)) c.in_ok-short-in-Asks.ensures.took
+
+pub returns-in-Opened-clause-took : goal.returns-in-Opened-clause-took
+returns-in-Opened-clause-took g c = on-next c.args.self.now c.opening_step.new.self c.args.distributor _ c.in_ok-message.ensures.next (λ n. ap (λ (w : LaneState). node_in w.nodes.items n) c.in_ok-message.ensures.after)
+
+pub returns-in-Lacks-clause-took : goal.returns-in-Lacks-clause-took
+returns-in-Lacks-clause-took g c = on-next c.args.self.now c.opening_step.new.self c.args.distributor _ c.in_ok-message.ensures.next (λ n. ap (λ (w : LaneState). node_in w.nodes.items n) c.in_ok-message.ensures.after)

@@ -11,6 +11,7 @@ use Rattle.lane_states.proofs.LaneSteps.{past-length, has-room, node-at, taken-a
 use Rattle.lane_states.proofs.Places.{part-at}
 use Rattle.lane_states.proofs.Settled.{settled-back}
 use Rattle.lane_states.proofs.Telling.{heard-after, taken-told, told-to, heard-at, awaited-at}
+use Rattle.lane_states.proofs.NodeSpans.{go-back}
 use Rattle.lane_states.proofs.lane_state.LaneState.bring_back.Goals as goal
 
 pub take-taken-requires-clause-room : goal.take-taken-requires-clause-room
@@ -71,3 +72,15 @@ returns-clause-told c =
 
 pub returns-clause-settled : goal.returns-clause-settled
 returns-clause-settled c = rw (c.push_within-2.ensures.past, c.push_within.ensures.past, c.is_short-short.ensures) (settled-back c.args.number (journal_of c.args.self.now) c.tell-reply.result c.requires.just.unreplied)
+
+pub returns-clause-took : goal.returns-clause-took
+returns-clause-took c =
+    let x = c.args.self.now in
+    let m = c.args.message.now in
+    let r : Reply = c.tell-reply.ensures.reply in
+    let within : m.receiver < length x.nodes.items = search rules in
+    let taken : IsTakenBy x.nodes.items (slice_set x.nodes.items m.receiver c.take-taken.new.self) m c.take-taken.result.reply = taken-at x.nodes.items m c.index_mut.result.now c.take-taken.new.self c.take-taken.result.reply within
+    (rw c.from.ensures at c.index_mut.ensures.value) c.take-taken.ensures.takes in
+    rw (c.push_within-2.ensures.past, c.push_within.ensures.past, c.tell-reply.ensures.noted_is, c.from.ensures)
+    (go-back (journal_of x) x.nodes.items (slice_set x.nodes.items m.receiver c.take-taken.new.self) c.args.number m r c.requires.just.flight c.requires.keeps.keeps.nodes_are
+    (taken-told x.nodes.items (slice_set x.nodes.items m.receiver c.take-taken.new.self) m c.take-taken.result.reply r (λ y z. c.nodes_refuse_for_memory.ensures.asks y z m c.take-taken.result.reply c.requires.asks.body_is) c.tell-reply.ensures.is taken))

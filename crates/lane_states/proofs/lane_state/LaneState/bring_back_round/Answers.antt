@@ -7,6 +7,7 @@ use Rattle.lane_states.specs.LaneStates.{journal_of}
 use Rattle.lane_states.proofs.Kept.{kept_back, kept_runs}
 use Rattle.lane_states.proofs.LaneSteps.{past-length, has-room, node-at, taken-at}
 use Rattle.lane_states.proofs.Running.{no-ask, taken-as, knows-as, runs-back, goes-back, reply-told, reply-left}
+use Rattle.lane_states.proofs.NodeSpans.{go-back}
 use Rattle.lane_states.proofs.lane_state.LaneState.bring_back_round.Goals as goal
 
 pub take-taken-requires-clause-room : goal.take-taken-requires-clause-room
@@ -78,3 +79,17 @@ returns-clause-flight c = rw (c.push_within-2.ensures.past, c.push_within.ensure
 
 pub returns-clause-left : goal.returns-clause-left
 returns-clause-left c = reply-left _ _ _ _ c.tell_run-reply.ensures.told.after
+
+pub returns-clause-took : goal.returns-clause-took
+returns-clause-took c =
+    let x = c.args.self.now in
+    let m = c.args.message.now in
+    let keep = c.requires.keeps.keeps in
+    let told = c.tell_run-reply.ensures in
+    let within : m.receiver < length x.nodes.items = search rules in
+    let taken : IsTakenBy x.nodes.items (slice_set x.nodes.items m.receiver c.take-taken.new.self) m c.take-taken.result.reply = taken-at x.nodes.items m c.index_mut.result.now c.take-taken.new.self c.take-taken.result.reply within
+    (rw c.from.ensures at c.index_mut.ensures.value) c.take-taken.ensures.takes in
+    rw (c.push_within-2.ensures.past, c.push_within.ensures.past, told.told.noted_is, c.from.ensures)
+    (go-back (journal_of x) x.nodes.items (slice_set x.nodes.items m.receiver c.take-taken.new.self) c.args.number m told.told.reply c.requires.awaited.just.flight keep.nodes_are
+    (taken-as keep c.args.run.now c.tell_run-reply.new.run c.requires.runs c.args.number m c.take-taken.result.reply c.tell_run-reply.result (slice_set x.nodes.items m.receiver c.take-taken.new.self) c.requires.awaited taken told
+    (λ y u b h. c.nodes_refuse_for_memory.ensures.reads y u m c.take-taken.result.reply b h)))

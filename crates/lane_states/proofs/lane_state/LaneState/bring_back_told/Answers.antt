@@ -3,7 +3,8 @@ use Rattle.lane_journals.specs.declared.event.LaneEvent.TheVariants.{Returned}
 use Rattle.lane_states.specs.LaneStates.{journal_of}
 use Rattle.lane_states.proofs.Kept.{kept_more}
 use Rattle.lane_states.proofs.RunningSteps.{now-replied}
-use Rattle.lane_states.proofs.Tellings.{row-no-ask, came-back}
+use Rattle.lane_states.proofs.Tellings.{row-no-ask, came-back, first-back}
+use Rattle.node_spans.proofs.Going.{go-waits}
 use Rattle.lane_states.proofs.lane_state.LaneState.bring_back_told.Goals as goal
 
 pub returns-clause-keeps : goal.returns-clause-keeps
@@ -25,4 +26,12 @@ returns-clause-flight c = rw (c.push_within.ensures.past, c.deliver-reply.ensure
 pub returns-clause-back : goal.returns-clause-back
 returns-clause-back c =
     came-back (journal_of c.args.self.now) _ c.args.number c.args.message.now c.deliver-reply.result c.requires.just
+    (c.push_within.ensures.past ∙ ap (λ J. Returned c.args.number ∷ J) c.deliver-reply.ensures.grows)
+
+pub returns-clause-took : goal.returns-clause-took
+returns-clause-took c = rw c.push_within.ensures.past (go-waits _ _ _ _ (Returned c.args.number) tt c.deliver-reply.ensures.took)
+
+pub returns-clause-first : goal.returns-clause-first
+returns-clause-first c =
+    first-back (journal_of c.args.self.now) _ c.args.number c.args.message.now c.deliver-reply.result c.requires.just
     (c.push_within.ensures.past ∙ ap (λ J. Returned c.args.number ∷ J) c.deliver-reply.ensures.grows)

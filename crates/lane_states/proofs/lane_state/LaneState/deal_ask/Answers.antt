@@ -1,10 +1,12 @@
-use Rattle.std.proofs.Common.{◌∙◌, List, false, ap, sym, subst}
+use Rattle.std.proofs.Common.{◌∙◌, List, false, ap, sym, subst, refl}
 use Rattle.messages.specs.Noting.{noted_reply}
 use Rattle.lane_journals.specs.declared.event.LaneEvent.{LaneEvent}
 use Rattle.lane_states.specs.declared.lane_state.LaneState.{LaneState}
 use Rattle.lane_states.specs.LaneStates.{journal_of}
 use Rattle.lane_states.specs.Growing.{IsSettled}
 use Rattle.lane_states.proofs.Settled.{settled-none, settled-stays}
+use Rattle.lane_states.proofs.NodeSpans.{on-same, on-then}
+use Rattle.lane_keeping.specs.LaneKeeping.{node_in}
 use Rattle.lane_states.proofs.lane_state.LaneState.deal_ask.Goals as goal
 
 pub returns-in-LoseRequest-clause-settled : goal.returns-in-LoseRequest-clause-settled
@@ -30,3 +32,22 @@ returns-in-Late-clause-settled c =
     let x = c.args.self.now in
     subst (λ (J : List LaneEvent). IsSettled x.last J false) (sym (ap (λ (w : LaneState). journal_of w) c.keep_late.ensures.after ∙ ap (λ (w : LaneState). journal_of w) c.bring_none-in-Late.ensures.after))
     (settled-none x.last (journal_of x) c.requires.just.unreturned)
+
+pub returns-in-LoseRequest-clause-took : goal.returns-in-LoseRequest-clause-took
+returns-in-LoseRequest-clause-took c = on-same c.args.self.now c.bring_none.new.self (ap (λ (w : LaneState). journal_of w) c.bring_none.ensures.after) (λ n. ap (λ (w : LaneState). node_in w.nodes.items n) c.bring_none.ensures.after)
+
+pub returns-in-LoseReply-clause-took : goal.returns-in-LoseReply-clause-took
+returns-in-LoseReply-clause-took c =
+    let b = c.bring_none-in-LoseReply in
+    on-then c.args.self.now c.deliver.new.self b.new.self c.deliver.ensures.took
+    (on-same c.deliver.new.self b.new.self (ap (λ (w : LaneState). journal_of w) b.ensures.after) (λ n. ap (λ (w : LaneState). node_in w.nodes.items n) b.ensures.after))
+
+pub returns-in-Twice-clause-took : goal.returns-in-Twice-clause-took
+returns-in-Twice-clause-took c = on-then c.args.self.now c.bring_back-short.new.self c.deliver-in-Twice.new.self c.bring_back-short.ensures.took c.deliver-in-Twice.ensures.took
+
+pub returns-in-Late-clause-took : goal.returns-in-Late-clause-took
+returns-in-Late-clause-took c =
+    let b = c.bring_none-in-Late in
+    on-then c.args.self.now b.new.self c.keep_late.new.self
+    (on-same c.args.self.now b.new.self (ap (λ (w : LaneState). journal_of w) b.ensures.after) (λ n. ap (λ (w : LaneState). node_in w.nodes.items n) b.ensures.after))
+    (on-same b.new.self c.keep_late.new.self (ap (λ (w : LaneState). journal_of w) c.keep_late.ensures.after) (λ n. ap (λ (w : LaneState). node_in w.nodes.items n) c.keep_late.ensures.after))

@@ -5,6 +5,7 @@ use Rattle.lane_keeping.specs.LaneKeeping.{node_in}
 use Rattle.lane_states.specs.LaneStates.{journal_of}
 use Rattle.lane_states.proofs.Kept.{kept_taken, kept_runs}
 use Rattle.lane_states.proofs.LaneSteps.{past-length, has-room, node-at, taken-at}
+use Rattle.lane_states.proofs.NodeSpans.{go-one}
 use Rattle.lane_states.proofs.lane_state.LaneState.deliver.Goals as goal
 
 pub take_at-taken-requires-clause-room : goal.take_at-taken-requires-clause-room
@@ -32,3 +33,12 @@ returns-clause-taken c =
     rw (c.from.ensures)
     (taken-at c.args.self.now.nodes.items c.args.message.now c.index_mut.result.now c.take_at-taken.new.self c.take_at-taken.result.reply within
     (rw c.from.ensures at c.index_mut.ensures.value) c.take_at-taken.ensures.takes)
+
+pub returns-clause-took : goal.returns-clause-took
+returns-clause-took c =
+    let x = c.args.self.now in
+    let within : c.args.message.now.receiver < length x.nodes.items = search rules in
+    rw (c.push_within.ensures.past, c.take_at-taken.ensures.noted, c.from.ensures)
+    (go-one (journal_of x) x.nodes.items (slice_set x.nodes.items c.args.message.now.receiver c.take_at-taken.new.self) c.args.number c.args.message.now c.take_at-taken.result.reply c.requires.flight c.requires.keeps.keeps.nodes_are
+    (taken-at x.nodes.items c.args.message.now c.index_mut.result.now c.take_at-taken.new.self c.take_at-taken.result.reply within
+    (rw c.from.ensures at c.index_mut.ensures.value) c.take_at-taken.ensures.takes))

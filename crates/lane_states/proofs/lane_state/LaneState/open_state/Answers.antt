@@ -5,6 +5,8 @@ use Rattle.lane_states.specs.LaneStates.{journal_of, part_of}
 use Rattle.lane_states.specs.Openings.{EndsAsking, StopsAfter, EndsOpening}
 use Rattle.lane_states.proofs.Staying.{stays-ended, stays-stopped, RunsAs, IsIdleIn, runs-stay, runs-opened, idle-stays, idle-opened}
 use Rattle.lane_states.proofs.Askings.{rests-ended, rests-stopped}
+use Rattle.lane_states.proofs.NodeSpans.{on-same, on-then}
+use Rattle.lane_keeping.specs.LaneKeeping.{node_in}
 use Rattle.lane_states.proofs.lane_state.LaneState.open_state.Goals as goal
 
 pub returns-in-Ok-clause-ends : goal.returns-in-Ok-clause-ends
@@ -74,3 +76,15 @@ returns-in-Err-clause-idle g c = λ idle.
     let d = c.args.distributor in
     subst IsIdleIn (sym (ap (λ (w : LaneState). journal_of w) c.give_up-in-Err.ensures.after))
     (stays-stopped IsIdleIn idle-stays idle-opened x d (journal_of y) (part_of y d) c.in-Err.ensures.stops idle)
+
+pub returns-in-Ok-clause-took : goal.returns-in-Ok-clause-took
+returns-in-Ok-clause-took g c =
+    let y = c.ask_all.new.self in
+    let e = c.give_up.new.self in
+    on-then c.args.self.now y e c.in-Ok.ensures.took (on-same y e (ap (λ (w : LaneState). journal_of w) c.give_up.ensures.after) (λ n. ap (λ (w : LaneState). node_in w.nodes.items n) c.give_up.ensures.after))
+
+pub returns-in-Err-clause-took : goal.returns-in-Err-clause-took
+returns-in-Err-clause-took g c =
+    let y = c.ask_all.new.self in
+    let e = c.give_up-in-Err.new.self in
+    on-then c.args.self.now y e c.in-Err.ensures.took (on-same y e (ap (λ (w : LaneState). journal_of w) c.give_up-in-Err.ensures.after) (λ n. ap (λ (w : LaneState). node_in w.nodes.items n) c.give_up-in-Err.ensures.after))

@@ -9,6 +9,8 @@ use Rattle.lane_states.specs.RoundRuns.{IsCutOff, IsRunBy, EndsRun}
 use Rattle.lane_states.proofs.RoundEnds.{run-by-goes, whole-of, cut-of}
 use Rattle.lane_states.proofs.Runs.{runs-carried}
 use Rattle.lane_states.proofs.Wanted.{whole-wanted, cut-wanted}
+use Rattle.lane_states.proofs.NodeSpans.{on-event, on-then}
+use Rattle.lane_keeping.specs.LaneKeeping.{node_in}
 use Rattle.lane_states.proofs.lane_state.LaneState.run_round.Goals as goal
 
 pub end_round-end-requires-clause-run_by : goal.end_round-end-requires-clause-run_by
@@ -147,3 +149,17 @@ returns-in-Err-clause-wanted_until g c line o stamp w =
     let inside = subst (λ (b : Low). contains b c.args.run.now.key ≡ true) (sym r.row_is) (c.owners_act.ensures.inside r.rows c.args.run.now.key r.at r.row r.is_row) in
     cut-wanted x.lane x.rules c.args.run.now (journal_of x) c.requires.runs line o stamp w inside _ _ x.last f.last x.late.late f.late.late (journal_of f)
     (cut-of x.lane c.args.run.now y _ _ x.last f.last e.last x.late.late f.late.late e.late.late (journal_of x) (journal_of e) (journal_of f) last late same c.send_all-sent.ensures.on c.send_all-sent.ensures.cut c.end_round-end.ensures.grows)
+
+pub returns-in-Ok-clause-took : goal.returns-in-Ok-clause-took
+returns-in-Ok-clause-took g c =
+    let x = c.args.self.now in
+    let e = c.send_all-sent.new.self in
+    let f = c.end_round-end.new.self in
+    on-then x e f c.send_all-sent.ensures.took (on-event e f _ tt c.end_round-end.ensures.grows (λ n. ap (λ (w : LaneState). node_in w.nodes.items n) c.end_round-end.ensures.after))
+
+pub returns-in-Err-clause-took : goal.returns-in-Err-clause-took
+returns-in-Err-clause-took g c =
+    let x = c.args.self.now in
+    let e = c.send_all-sent.new.self in
+    let f = c.end_round-end.new.self in
+    on-then x e f c.send_all-sent.ensures.took (on-event e f _ tt c.end_round-end.ensures.grows (λ n. ap (λ (w : LaneState). node_in w.nodes.items n) c.end_round-end.ensures.after))

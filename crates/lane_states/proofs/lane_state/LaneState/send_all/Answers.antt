@@ -6,12 +6,14 @@ use Rattle.lane_states.specs.RoundRuns.{IsRunning}
 use Rattle.lane_states.proofs.Running.{goes-none, goes-on}
 use Rattle.lane_states.proofs.RoundTelling.{cut-as}
 use Rattle.lane_states.proofs.Runs.{runs-nothing, runs-then, runs-of, runs-numbered}
+use Rattle.lane_states.proofs.NodeSpans.{on-same, on-then}
 use Rattle.lane_states.proofs.lane_state.LaneState.send_all.Goals as goal
 
 pub loop-init : goal.loop-init
 loop-init g c =
     record {
       keeps = c.requires.keeps;
+      took = on-same c.args.self.now c.args.self.now refl (λ n. refl);
       spare = c.requires.spare;
       runs = c.requires.runs;
       told = c.requires.told;
@@ -30,6 +32,7 @@ loop-preserved g c =
     let n = c.in_ok-step_round.ensures in
     record {
       keeps = n.keeps;
+      took = on-then c.args.self.now l.self e l.invariant.took n.took;
       spare = n.spare;
       runs = subst (λ (k : Low). IsRunning k (journal_of e) c.step_round.new.run) (ap (λ (z : LaneState). z.lane) l.invariant.after) n.runs;
       told = n.told;
@@ -62,3 +65,9 @@ returns-clause-cut g c =
     let e = c.step_round.new.self in
     let y = c.step_round.new.run in
     cut-as c.args.self.now.lane (journal_of e) y y.round (subst (λ (k : Low). IsRunning k (journal_of e) y) (ap (λ (z : LaneState). z.lane) l.invariant.after) c.in_ok-step_round.ensures.runs) refl
+
+pub returns-in_err-step_round-clause-took : goal.returns-in_err-step_round-clause-took
+returns-in_err-step_round-clause-took g c = on-then c.args.self.now c.loop.self c.step_round.new.self c.loop.invariant.took c.in_err-step_round.ensures.took
+
+pub returns-clause-took : goal.returns-clause-took
+returns-clause-took g c = on-then c.args.self.now c.loop.self c.step_round.new.self c.loop.invariant.took c.in_ok-step_round.ensures.took

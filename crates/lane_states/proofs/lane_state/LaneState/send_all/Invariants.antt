@@ -1,5 +1,5 @@
 use Rattle.std.proofs.Common.{◌≡◌, None, length}
-use Rattle.lane_states.specs.LaneStates.{journal_of, IsKept, HasRoom}
+use Rattle.lane_states.specs.LaneStates.{journal_of, IsKept, HasRoom, NodesOn}
 use Rattle.lane_states.specs.RoundRuns.{IsRunning, GoesOn, RunsOn, left}
 use Rattle.lane_states.proofs.lane_state.LaneState.send_all.Given as goal
 
@@ -7,6 +7,7 @@ use Rattle.lane_states.proofs.lane_state.LaneState.send_all.Given as goal
 abbrev pub invariant-loop : goal.invariant-loop
 invariant-loop g l = record {
   keeps : IsKept l.self;
+  took : NodesOn l.initial.self l.self;
   spare : HasRoom 0 l.self;
   runs : IsRunning l.initial.self.lane (journal_of l.self) l.run;
   told : l.run.round.awaited ≡ None;

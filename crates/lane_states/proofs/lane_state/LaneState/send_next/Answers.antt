@@ -8,7 +8,7 @@ use Rattle.lane_wants.specs.Wants.{Same}
 use Rattle.lane_states.specs.Steps.{SendsIn, SentIn, IsTold}
 use Rattle.lane_states.proofs.MessageKeys.{message-key}
 use Rattle.lane_states.proofs.RunningSteps.{asks-of, run-same, going-of, wrote-in, sent-in, quiet-on, quiet-same}
-use Rattle.lane_states.specs.Written.{place_of}
+use Rattle.stamp_places.specs.Places.{place_of}
 use Rattle.lane_states.proofs.Entries.{finds-grown}
 use Rattle.lane_states.proofs.lane_state.LaneState.send_next.Goals as goal
 

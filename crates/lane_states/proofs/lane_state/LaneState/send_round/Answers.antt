@@ -5,7 +5,7 @@ use Rattle.late_messages.specs.Waiting.{AreSentBefore}
 use Rattle.late_messages.specs.declared.late.Late.{Late}
 use Rattle.lane_journals.specs.declared.event.LaneEvent.{LaneEvent}
 use Rattle.node_journals.specs.Replaying.{sending}
-use Rattle.lane_keeping.specs.LaneKeeping.{setting_of}
+use Rattle.lane_keeping.specs.LaneKeeping.{setting_of, node_in}
 use Rattle.lane_rounds.specs.RoundKeeping.{KnowsRound, IsAwaited}
 use Rattle.lane_states.specs.declared.lane_state.LaneState.{LaneState}
 use Rattle.lane_states.specs.LaneStates.{journal_of}
@@ -14,6 +14,7 @@ use Rattle.lane_states.proofs.Going.{IsSentIn, went-by}
 use Rattle.lane_states.proofs.Running.{running-sent, running-all}
 use Rattle.lane_states.proofs.RoundTelling.{next-small, sent-rest}
 use Rattle.lane_states.proofs.Runs.{runs-once}
+use Rattle.lane_states.proofs.NodeSpans.{on-event, on-then}
 use Rattle.lane_states.proofs.lane_state.LaneState.send_round.Goals as goal
 
 pub send_message-requires-clause-legal : goal.send_message-requires-clause-legal
@@ -85,3 +86,12 @@ returns-clause-on g c =
     runs-once x.lane c.args.run.now.distributor c.args.run.now.state x e c.args.message _ _ z.round z.runs.knows z.next
     (went-by c.fate-fate.result c.met-met.result x b d e c.args.message _ _ c.fate-fate.ensures.given sent c.met-met.ensures.fate c.deal_round.ensures.dealt c.deal_round.ensures.late
     (ap (λ (z : LaneState). z.last) c.deal_round.ensures.after) c.deliver_due.ensures.due c.deliver_due.ensures.none_left (ap (λ (z : LaneState). z.last) c.deliver_due.ensures.after))
+
+pub returns-clause-took : goal.returns-clause-took
+returns-clause-took g c =
+    let x = c.args.self.now in
+    let b = c.send_message.new.self in
+    let d = c.deal_round.new.self in
+    let e = c.deliver_due.new.self in
+    on-then x d e (on-then x b d (on-event x b (sending (x.last + 1) c.args.message) tt c.send_message.ensures.grows (λ n. ap (λ (w : LaneState). node_in w.nodes.items n) c.send_message.ensures.after)) c.deal_round.ensures.took)
+    c.deliver_due.ensures.took

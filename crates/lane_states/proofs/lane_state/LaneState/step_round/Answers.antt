@@ -8,6 +8,7 @@ use Rattle.lane_states.specs.LaneStates.{journal_of}
 use Rattle.lane_states.specs.RoundRuns.{IsCutOff, IsToSend}
 use Rattle.lane_states.proofs.RoundTelling.{on-err, cut-as, cut-sent, to-send}
 use Rattle.lane_states.proofs.Runs.{runs-nothing, runs-still, runs-from, runs-in}
+use Rattle.lane_states.proofs.NodeSpans.{on-same, on-then}
 use Rattle.lane_states.proofs.lane_state.LaneState.step_round.Goals as goal
 
 pub returns-in_err-message-clause-on : goal.returns-in_err-message-clause-on
@@ -63,3 +64,20 @@ returns-clause-on g c =
     runs-from x.lane y.distributor y.state _ _ x.last a.last e.last x.late.late a.late.late e.late.late (journal_of x) (journal_of a) (journal_of e)
     (ap (λ (z : LaneState). z.last) c.in_ok-room_for_message.ensures.after) c.in_ok-room_for_message.ensures.late (rw c.in_ok-room_for_message.ensures.same refl)
     (runs-in a.lane x.lane y.distributor y.state _ _ _ _ _ _ _ _ (ap (λ (z : LaneState). z.lane) c.in_ok-room_for_message.ensures.after) c.send_round.ensures.on)
+
+pub returns-in_err-message-clause-took : goal.returns-in_err-message-clause-took
+returns-in_err-message-clause-took g c = on-same c.args.self.now c.args.self.now refl (λ n. refl)
+
+pub returns-in_default-clause-took : goal.returns-in_default-clause-took
+returns-in_default-clause-took g c = on-same c.args.self.now c.args.self.now refl (λ n. refl)
+
+pub returns-in_err-body-clause-took : goal.returns-in_err-body-clause-took
+returns-in_err-body-clause-took g c = on-same c.args.self.now c.args.self.now refl (λ n. refl)
+
+pub returns-in_err-room_for_message-clause-took : goal.returns-in_err-room_for_message-clause-took
+returns-in_err-room_for_message-clause-took g c = on-same c.args.self.now c.room_for_message.new.self (rw c.in_err-room_for_message.ensures.same refl) c.in_err-room_for_message.ensures.nodes
+
+pub returns-clause-took : goal.returns-clause-took
+returns-clause-took g c =
+    on-then c.args.self.now c.room_for_message.new.self c.send_round.new.self (on-same c.args.self.now c.room_for_message.new.self (rw c.in_ok-room_for_message.ensures.same refl) c.in_ok-room_for_message.ensures.nodes)
+    c.send_round.ensures.took

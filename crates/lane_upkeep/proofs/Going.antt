@@ -1,0 +1,108 @@
+-- How a pass goes on from step to step.
+use Rattle.std.proofs.Common.{◌≡◌, ◌∙◌, ◌==◌, ◌||◌, ℕ, Bool, true, false, List, ◌∷◌, Option, Some, refl, sym, ap, subst, eqb-true, if◌then◌else◌}
+use Rattle.std.specs.BTreeMap.{BTreeMap}
+use Rattle.bucket_ids.specs.Buckets.{Low}
+use Rattle.node_sets.specs.Members.{has_node}
+use Rattle.carriers.specs.declared.fate.Fate.{Fate}
+use Rattle.bucket_db.specs.declared.row.Row.{Row}
+use Rattle.distributor_part.specs.declared.rules.Rules.{Rules}
+use Rattle.lane_journals.specs.Facts.{AnsweredReady}
+use Rattle.lane_journals.specs.Meanings.{history}
+use Rattle.lane_journals.specs.Readers.{or_else}
+use Rattle.lane_journals.specs.declared.event.LaneEvent.{LaneEvent}
+use Rattle.lane_journals.specs.declared.event.LaneEvent.TheVariants.{Published, Heard, Begun, Refused, Opened, Prepared, Wrote, Sent, Delivered, Returned, Closed, Decided, Stopped, Started}
+use Rattle.lane_keeping.specs.Asking.{OthersStay}
+use Rattle.lane_states.specs.declared.lane_state.LaneState.{LaneState}
+use Rattle.lane_states.specs.LaneStates.{journal_of}
+use Rattle.upkeep_answers.specs.Spans.{IsUpkeepEvent, AreUpkeep, Nothing, More}
+use Rattle.lane_upkeep.specs.declared.owner.Owner.{Owner}
+use Rattle.lane_upkeep.specs.declared.rounding.RowNote.{RowNote}
+use Rattle.lane_upkeep.specs.Passing.{IsPassing, Passes, PassesOn, AreReady}
+use Rattle.lane_upkeep.specs.Noted.{StaysKnown, AreNotes}
+
+further : (d v : ℕ) (J K L : List LaneEvent) → AreUpkeep d v J K → AreUpkeep d v K L → AreUpkeep d v J L
+further d v J K L a Nothing = a
+further d v J K L a (More M e is more) = More M e is (further d v J K M a more)
+
+-- nothing was done
+pub on_none : (c : LaneState) (o : Owner) → PassesOn c c o
+on_none c o = record {
+  others = λ n off. refl;
+  parts = refl;
+  after = refl;
+  grows = Nothing;
+}
+
+-- one step after others
+pub on_then : (c e f : LaneState) (o : Owner) → PassesOn c e o → PassesOn e f o → PassesOn c f o
+on_then c e f o a b = record {
+  others = λ n off.
+      subst (λ (r : Rules). OthersStay c.lane r e.parts.items f.parts.items o.distributor) (ap (λ (z : LaneState). z.rules) a.after)
+      (subst (λ (l : Low). OthersStay l e.rules e.parts.items f.parts.items o.distributor) (ap (λ (z : LaneState). z.lane) a.after) b.others) n off
+      ∙ a.others n off;
+  parts = b.parts ∙ a.parts;
+  after = b.after ∙ ap (λ (z : LaneState). record z { journal = f.journal; last = f.last; nodes = f.nodes; parts = f.parts; late = f.late }) a.after;
+  grows = further _ _ _ _ _ a.grows b.grows;
+}
+
+-- what is known stays so
+pub known_none : (c : LaneState) (o : Owner) → StaysKnown c c o
+known_none c o note k = k
+
+pub known_then : (c e f : LaneState) (o : Owner) → StaysKnown c e o → StaysKnown e f o → StaysKnown c f o
+known_then c e f o a b note k = b note (a note k)
+
+-- ---- what is between two steps
+
+pub passes_of : (c : LaneState) (o : Owner) (given : List Fate) → IsPassing c o given → Passes c o
+passes_of c o given h = (given, h)
+
+-- a note that is known stays one
+pub notes_stay : (c e : LaneState) (o : Owner) (notes : BTreeMap ℕ RowNote) → StaysKnown c e o → AreNotes (journal_of c) o.state notes → AreNotes (journal_of e) o.state notes
+notes_stay c e o notes stay are number note h = record { numbered = (are number note h).numbered; valid = (are number note h).valid; knows = stay note (are number note h).knows }
+
+-- ---- answers to Ready
+
+kept-first : {A : Type 0} (o : Option A) (x : A) (y : Option A) → o ≡ Some x → or_else o y ≡ Some x
+kept-first o x y e = ap (λ z. or_else z y) e
+
+kept-back : (c x : Bool) → x ≡ true → (if c then true else x) ≡ true
+kept-back true x e = refl
+kept-back false x e = e
+
+ready-kept : (d v : ℕ) (J : List LaneEvent) (e : LaneEvent) → IsUpkeepEvent d v e → (w n : ℕ) (b : Low) → AnsweredReady w n b (history J) → AnsweredReady w n b (history (e ∷ J))
+ready-kept d v J (Opened x y rows) h w n b r = record { number = r.number; message = r.message; content = r.content; names = r.names; was_sent = r.was_sent; receiver = r.receiver; version = r.version; body = r.body; reply = r.reply; back = r.back }
+ready-kept d v J (Sent k x y to z) h w n b r = record { number = r.number; message = r.message; content = r.content; names = r.names; was_sent = kept-first _ _ _ r.was_sent; receiver = r.receiver; version = r.version; body = r.body; reply = r.reply; back = r.back }
+ready-kept d v J (Delivered k x) h w n b r = record { number = r.number; message = r.message; content = r.content; names = r.names; was_sent = r.was_sent; receiver = r.receiver; version = r.version; body = r.body; reply = kept-first _ _ _ r.reply; back = r.back }
+ready-kept d v J (Returned k) h w n b r = record { number = r.number; message = r.message; content = r.content; names = r.names; was_sent = r.was_sent; receiver = r.receiver; version = r.version; body = r.body; reply = r.reply; back = kept-back _ _ r.back }
+ready-kept d v J (Decided x y z) h w n b r = record { number = r.number; message = r.message; content = r.content; names = r.names; was_sent = r.was_sent; receiver = r.receiver; version = r.version; body = r.body; reply = r.reply; back = r.back }
+ready-kept d v J (Published s) h w n b r = absurd h
+ready-kept d v J (Heard x y) h w n b r = absurd h
+ready-kept d v J (Begun line x y id s) h w n b r = absurd h
+ready-kept d v J (Refused line x outcome) h w n b r = absurd h
+ready-kept d v J (Prepared line row set) h w n b r = absurd h
+ready-kept d v J (Wrote line entry) h w n b r = absurd h
+ready-kept d v J (Closed line outcome) h w n b r = absurd h
+ready-kept d v J (Stopped x) h w n b r = absurd h
+ready-kept d v J (Started x) h w n b r = absurd h
+
+-- whoever answered stays one who did
+pub ready_stays : (d v : ℕ) (J K : List LaneEvent) → AreUpkeep d v J K → (w n : ℕ) (b : Low) → AnsweredReady w n b (history J) → AnsweredReady w n b (history K)
+ready_stays d v J K Nothing w n b r = r
+ready_stays d v J K (More M e is more) w n b r = ready-kept d v M e is w n b (ready_stays d v J M more w n b r)
+
+-- whoever answered a Ready of a row stays one who did
+pub still_ready : (c e : LaneState) (o : Owner) (row : Row) (nodes : ℕ) → PassesOn c e o → AreReady c o row nodes → AreReady e o row nodes
+still_ready c e o row nodes on are n h = ready_stays o.distributor (o.state).version (journal_of c) (journal_of e) on.grows (o.state).version n row.bucket (are n h)
+
+by-test : (a b : Bool) {A : Type 0} → (a ≡ true → A) → (b ≡ true → A) → (a || b) ≡ true → A
+by-test true b f g h = f refl
+by-test false b f g h = g h
+
+-- with one node more that answered
+pub one_more_ready : (c e : LaneState) (o : Owner) (row : Row) (nodes more node : ℕ) → PassesOn c e o → AreReady c o row nodes → ((n : ℕ) → has_node more n ≡ (has_node nodes n || n == node))
+    → AnsweredReady (o.state).version node row.bucket (history (journal_of e)) → AreReady e o row more
+one_more_ready c e o row nodes more node on are with_node answered n h =
+    by-test (has_node nodes n) (n == node) (λ was. still_ready c e o row nodes on are n was)
+    (λ is. subst (λ (x : ℕ). AnsweredReady (o.state).version x row.bucket (history (journal_of e))) (sym (eqb-true n node is)) answered)
+    (sym (with_node n) ∙ h)

@@ -1,0 +1,101 @@
+use Rattle.std.proofs.Common.{◌≡◌, ◌<◌, ◌≤◌, ◌+◌, ◌∷◌, List, length, Some, slice_set, get_or, refl, sym, ap, ap₂, ◌∙◌, subst, arith, rules}
+use Rattle.std.specs.Vec.{with_item}
+use Rattle.bucket_ids.specs.Buckets.{Low, parent_of}
+use Rattle.messages.specs.declared.decision.Decision.{Decision}
+use Rattle.messages.specs.declared.decision.Decision.TheVariants.{RowsJoined}
+use Rattle.bucket_db.specs.declared.row.Row.{Row}
+use Rattle.distributor_part.specs.Parts.{Part}
+use Rattle.distributor_part.specs.Upkeep.{JoinsRows}
+use Rattle.lane_journals.specs.Meanings.{history}
+use Rattle.lane_journals.specs.KeptJournals.{past}
+use Rattle.lane_journals.specs.declared.event.LaneEvent.TheVariants.{Decided}
+use Rattle.lane_keeping.specs.LaneKeeping.{part_in}
+use Rattle.lane_keeping.specs.Laws.{IsKeptNext}
+use Rattle.lane_states.specs.declared.lane_state.LaneState.{LaneState}
+use Rattle.lane_states.specs.LaneStates.{journal_of, part_of, HasRoom}
+use Rattle.lane_upkeep.specs.Passing.{HasRow}
+use Rattle.lane_upkeep.proofs.Decisions.{Writes, writes-after, writes-len, writes-others, writes-both, writes-now, deciding, row-read, row-is, opened-then, resting-then, decided-on, decided-known, decided-passes, roomy-on, roomy-passes, has-parent}
+use Rattle.lane_upkeep.proofs.deciding.join_rows.Goals as goal
+
+pub returns-in_err-room_for_decision-clause-passing : goal.returns-in_err-room_for_decision-clause-passing
+returns-in_err-room_for_decision-clause-passing c given h =
+    roomy-passes c.args.lane.now c.room_for_decision.new.lane c.args.owner.now c.room_for_decision.ensures.same c.room_for_decision.ensures.after given c.room_for_decision.ensures.spare h
+
+pub returns-in_err-room_for_decision-clause-on : goal.returns-in_err-room_for_decision-clause-on
+returns-in_err-room_for_decision-clause-on c = roomy-on c.args.lane.now c.room_for_decision.new.lane c.args.owner.now c.room_for_decision.ensures.same c.room_for_decision.ensures.after
+
+-- the lane then
+abbrev then_is : goal.After-push_within → LaneState
+then_is c = record c.room_for_decision.new.lane { journal = c.push_within.new.events; parts = with_item c.room_for_decision.new.lane.parts c.from.result c.join_rows.new.self }
+
+writes : (c : goal.After-push_within) → Writes c.args.lane.now c.room_for_decision.new.lane (then_is c) c.args.owner.now c.index_mut-part.result.now c.join_rows.new.self
+writes c =
+    let r = c.room_for_decision.new.lane in
+    record {
+      same = c.room_for_decision.ensures.same;
+      roomy = c.room_for_decision.ensures.after;
+      here = subst (λ n. n < length r.parts.items) c.from.ensures (search rules);
+      read = subst (λ n. c.index_mut-part.result.now ≡ get_or r.parts.items n c.index_mut-part.result.now) c.from.ensures c.index_mut-part.ensures.value;
+      rest = refl;
+      items = ap (λ n. slice_set r.parts.items n c.join_rows.new.self) c.from.ensures;
+      len = refl;
+    }
+
+has-row : (c : goal.After-push_within) → HasRow c.args.lane.now c.args.owner.now c.args.at c.index-rows-at.result
+has-row c = row-read (writes c) c.args.at c.rows.result.now c.index-rows-at.result c.requires.place c.rows.ensures.list c.index-rows-at.is
+
+grows : (c : goal.After-push_within) → journal_of (then_is c) ≡ Decided c.args.owner.now.distributor c.args.owner.now.state.version (RowsJoined c.parent-parent.result) ∷ journal_of c.args.lane.now
+grows c = c.push_within.ensures.past ∙ ap₂ (λ e xs. e ∷ past xs) c.decided.ensures c.room_for_decision.ensures.same
+
+room : (c : goal.After-push_within) → HasRoom 0 (then_is c)
+room c =
+    let len = c.push_within.ensures.len in
+    let most = c.push_within.ensures.capacity in
+    let some = c.in_ok-room_for_decision.ensures.room in
+    omega arith
+
+-- the bucket of the row that they make
+joined-is : (c : goal.After-push_within) (b : Low) (row : Row) → c.index-rows-at.result ≡ row → b ≡ parent_of row.bucket → c.parent-parent.result ≡ b
+joined-is c b row is made = c.parent-parent.ensures.value ∙ ap (λ (r : Row). parent_of r.bucket) (sym c.index-rows-at.is ∙ is) ∙ sym made
+
+next : (c : goal.After-push_within) → let a = c.args.lane.now in
+    IsKeptNext a.lane a.rules (journal_of a) a.newest a.last a.nodes.items (then_is c).parts.items (Decided c.args.owner.now.distributor c.args.owner.now.state.version (RowsJoined c.parent-parent.result))
+next c =
+    let a = c.args.lane.now in
+    let o = c.args.owner.now in
+    let h = c.requires.passing.1 in
+    let x = writes-now (writes c) (λ y z. JoinsRows y z c.args.at) c.join_rows.ensures in
+    let is : c.index-rows-at.result ≡ x.row = row-is a o c.args.at c.index-rows-at.result x.row x.rows (has-row c) x.opened x.found in
+    subst (λ (b : Low). IsKeptNext a.lane a.rules (journal_of a) a.newest a.last a.nodes.items (then_is c).parts.items (Decided o.distributor o.state.version (RowsJoined b))) (sym (joined-is c x.joined.bucket x.row is x.is_joined.bucket))
+    (c.rows_are_joined.ensures a.lane a.rules (journal_of a) a.newest a.last a.nodes.items a.parts.items h.keeps.keeps (then_is c).parts.items o.distributor o.state
+    (deciding (writes c) c.requires.passing.0 h) c.args.at x)
+
+pub returns-clause-passing : goal.returns-clause-passing
+returns-clause-passing c given h =
+    let w = writes c in
+    decided-passes c.args.lane.now (then_is c) c.args.owner.now (writes-after w) (writes-len w) (RowsJoined c.parent-parent.result) tt (grows c) (writes-others w)
+    c.upkeep_leaves_lines.ensures.idle given (room c) (next c) _ (opened-then w _ c.join_rows.ensures.after c.args.owner.now.state h.rows h.opened) (resting-then w _ c.join_rows.ensures.after h.resting) h
+
+pub returns-clause-on : goal.returns-clause-on
+returns-clause-on c = let w = writes c in
+    decided-on c.args.lane.now (then_is c) c.args.owner.now (writes-after w) (writes-len w) (RowsJoined c.parent-parent.result) tt (grows c) (writes-others w)
+
+pub returns-clause-known : goal.returns-clause-known
+returns-clause-known c = let w = writes c in
+    decided-known c.args.lane.now (then_is c) c.args.owner.now (writes-after w) (writes-len w) (RowsJoined c.parent-parent.result) tt (grows c) (writes-others w)
+
+pub returns-clause-did : goal.returns-clause-did
+returns-clause-did c =
+    let a = c.args.lane.now in
+    let o = c.args.owner.now in
+    let x = writes-both (writes c) (λ y z. JoinsRows y z c.args.at) c.join_rows.ensures in
+    let is : c.index-rows-at.result ≡ x.row = row-is a o c.args.at c.index-rows-at.result x.row x.rows (has-row c) x.opened x.found in (
+      x,
+      record {
+        grows = grows c ∙ ap (λ (b : Low). Decided o.distributor o.state.version (RowsJoined b) ∷ journal_of a) (joined-is c x.joined.bucket x.row is x.is_joined.bucket);
+        after = writes-after (writes c);
+      },
+    )
+
+pub parent-parent-requires : goal.parent-parent-requires
+parent-parent-requires c = has-parent c.index_mut-part.result.now c.join_rows.new.self c.args.at c.rows.result.now c.index-rows-at.result c.join_rows.ensures c.rows.ensures.whole c.rows.ensures.list c.index-rows-at.is

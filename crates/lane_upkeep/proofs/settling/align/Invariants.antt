@@ -1,0 +1,20 @@
+use Rattle.std.proofs.Common.{◌≡◌}
+use Rattle.bucket_db.specs.declared.row.Row.{Row}
+use Rattle.lane_rest.specs.Sets.{any_below}
+use Rattle.lane_upkeep.specs.Passing.{IsPassing, PassesOn, rows_in, HasRow}
+use Rattle.lane_upkeep.specs.Noted.{StaysKnown}
+use Rattle.lane_upkeep.specs.Settling.{is_askew_in, AlignsBelow}
+use Rattle.lane_upkeep.proofs.settling.align.Given as goal
+
+-- the pass goes on
+abbrev pub invariant-loop-node : goal.invariant-loop-node
+invariant-loop-node g l = record {
+  passing : IsPassing l.lane l.owner (g.C.Carrier.given l.carrier);
+  on : PassesOn l.fn.lane l.lane l.owner;
+  planned : g.C.Carrier.planned l.carrier ≡ g.C.Carrier.planned l.fn.carrier;
+  kind : g.C.Carrier.takes_plans l.carrier ≡ g.C.Carrier.takes_plans l.fn.carrier;
+  known : StaysKnown l.fn.lane l.lane l.owner;
+  rows : rows_in l.lane l.owner ≡ rows_in l.fn.lane l.owner;
+  told : l.any ≡ any_below (is_askew_in l.note) l.node;
+  says : (row : Row) → HasRow l.fn.lane l.owner l.at row → AlignsBelow l.owner l.note row.bucket l.node l.fn.lane l.lane (g.C.Carrier.given l.fn.carrier) (g.C.Carrier.given l.carrier);
+}

@@ -1,0 +1,14 @@
+use Rattle.std.proofs.Common.{◌≡◌}
+use Rattle.lane_upkeep.specs.Passing.{IsPassing, PassesOn}
+use Rattle.lane_upkeep.specs.Noted.{StaysKnown}
+use Rattle.lane_upkeep.proofs.settling.delete_outside.Given as goal
+
+-- the pass goes on
+abbrev pub invariant-loop-node : goal.invariant-loop-node
+invariant-loop-node g l = record {
+  passing : IsPassing l.lane l.owner (g.C.Carrier.given l.carrier);
+  on : PassesOn l.fn.lane l.lane l.owner;
+  planned : g.C.Carrier.planned l.carrier ≡ g.C.Carrier.planned l.fn.carrier;
+  kind : g.C.Carrier.takes_plans l.carrier ≡ g.C.Carrier.takes_plans l.fn.carrier;
+  known : StaysKnown l.fn.lane l.lane l.owner;
+}

@@ -1,0 +1,78 @@
+ghost use Rattle.std.specs.Prelude.{◌≡◌, true, false, None, Some, IfOk, OnOk};
+ghost use Rattle.lane_upkeep.specs.Passing.{IsPassing, PassesOn};
+ghost use Rattle.lane_upkeep.specs.Maintaining.{IsBetween, AreReturned, HasOpened};
+
+use crate::owner::Owner;
+use crate::pass::make_pass;
+use carriers::Carrier;
+use lane_keeping::laws::owners_act;
+use lane_states::lane_state::LaneState;
+use lane_states::opening::OpeningEnd;
+use upkeep_answers::laws::{upkeep_goes_on, upkeep_leaves_lines, upkeep_leaves_states};
+use value_lists::NoMemory;
+
+/// Whether the state is opened at the end of an opening. An error where a node replied that it wants memory.
+fn is_open(end: OpeningEnd) -> Result<bool, NoMemory>
+    ensures opened { IfOk result (λ opened. opened ≡ true → end.missing ≡ None) }
+    ensures lacking { IfOk result (λ opened. opened ≡ false → end.missing ≡ None → ⊥) }
+    ensures whole { IfOk result (λ opened. end.short ≡ false) }
+{
+    if end.short {
+        return Err(NoMemory);
+    }
+    Ok(end.missing.is_none())
+}
+
+/// Opens the state of the owner, where it isn't opened; whether it is then. The only error is want of memory, of
+/// the lane or of a node.
+fn open_owner<C: Carrier>(
+    lane: &mut LaneState,
+    carrier: &mut C,
+    owner: &Owner,
+) -> Result<bool, NoMemory>
+    requires between { IsBetween lane.old owner.now (C.given carrier.old) }
+    requires newest { lane.old.newest ≡ Some owner.now.state }
+    ensures between { IsBetween lane.new owner.now (C.given carrier.new) }
+    ensures on { PassesOn lane.old lane.new owner.now }
+    ensures planned { C.planned carrier.new ≡ C.planned carrier.old }
+    ensures kind { C.takes_plans carrier.new ≡ C.takes_plans carrier.old }
+    ensures passing { IfOk result (λ opened. opened ≡ true
+        → IsPassing lane.new owner.now (C.given carrier.new)) }
+    ensures lacking { IfOk result (λ opened. opened ≡ false → AreReturned lane.old lane.new → ⊥) }
+{
+    owners_act();
+    upkeep_goes_on();
+    upkeep_leaves_lines();
+    upkeep_leaves_states();
+    if lane.parts[usize::from(owner.distributor)].is_opened() {
+        return Ok(true);
+    }
+    let key = lane.lane.low();
+    match lane.open_state(owner.distributor, key, carrier) {
+        Ok(end) => is_open(end),
+        Err(error) => Err(error),
+    }
+}
+
+/// The owner makes a pass of upkeep, for which its state is opened first; where not all nodes answer, that is all.
+/// The only error is want of memory, of the lane or of a node.
+pub fn maintain<C: Carrier>(
+    lane: &mut LaneState,
+    carrier: &mut C,
+    owner: &Owner,
+) -> Result<(), NoMemory>
+    requires between { IsBetween lane.old owner.now (C.given carrier.old) }
+    requires newest { lane.old.newest ≡ Some owner.now.state }
+    ensures between { IsBetween lane.new owner.now (C.given carrier.new) }
+    ensures on { PassesOn lane.old lane.new owner.now }
+    ensures planned { C.planned carrier.new ≡ C.planned carrier.old }
+    ensures kind { C.takes_plans carrier.new ≡ C.takes_plans carrier.old }
+    ensures opened { OnOk result (AreReturned lane.old lane.new → HasOpened lane.new owner.now) }
+{
+    owners_act();
+    upkeep_goes_on();
+    if !open_owner(lane, carrier, owner)? {
+        return Ok(());
+    }
+    make_pass(lane, carrier, owner)
+}

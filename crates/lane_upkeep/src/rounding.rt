@@ -1,0 +1,240 @@
+ghost use Rattle.std.specs.Prelude.{◌≡◌, ◌≢◌, ◌<◌, ◌+◌, ◌↔◌, ℕ, true, false, IfOk, OnOk, IfSome, IfNone, length, Contains, if◌then◌else◌};
+ghost use Rattle.std.specs.List.{list_any};
+ghost use Rattle.node_sets.specs.Members.{has_node};
+ghost use Rattle.entry_maps.specs.Entries.{documents_of};
+ghost use Rattle.bucket_db.specs.Rows.{buckets_of};
+ghost use Rattle.bucket_db.specs.declared.row.Row.{Row};
+ghost use Rattle.merge_rounds.specs.Rounds.{HaveAllShown, pieces_by};
+ghost use Rattle.quiet_spans.specs.Quiet.{Extends};
+ghost use Rattle.lane_rounds.specs.RoundKeeping.{KnowsAnswers};
+ghost use Rattle.lane_states.specs.LaneStates.{journal_of, part_of};
+ghost use Rattle.lane_upkeep.specs.declared.rounding.RowNote.{RowNote as Note};
+ghost use Rattle.lane_upkeep.specs.Passing.{IsPassing, PassesOn, rows_in, HasRow};
+ghost use Rattle.lane_upkeep.specs.Notes.{KnowsNote};
+ghost use Rattle.lane_upkeep.specs.RoundNotes.{is_over, is_inside, serial_in, AreExactBelow, IsNoteOf, NotesRound, NotesRun, RanRound, GainsMarks};
+
+use crate::owner::Owner;
+use bucket_ids::Bucket;
+use carriers::Carrier;
+use lane_states::{LaneState, RoundRun};
+use merge_rounds::Round;
+use node_sets::NodeSet;
+use pieces::Piece;
+use std::alloc::Global;
+use upkeep_answers::laws::{upkeep_goes_on, upkeep_leaves_lines, upkeep_leaves_states};
+use value_lists::NoMemory;
+
+/// A node that showed just the row, and the serial of that piece.
+#[derive(Clone, Copy, Debug, PartialEq, Eq)]
+pub struct Exact {
+    pub node: u8,
+    pub serial: u64,
+}
+
+/// What the last round of a row told.
+#[derive(Drop)]
+pub struct RowNote {
+    pub bucket: Bucket,
+    /// Whether all Reads were answered.
+    pub whole: bool,
+    /// The receivers that accepted the union.
+    pub holders: NodeSet,
+    /// The nodes that showed a piece strictly over the row.
+    pub over: NodeSet,
+    /// The nodes that showed a piece strictly inside the row.
+    pub inside: NodeSet,
+    /// The nodes that showed just the row, each with its serial.
+    pub exact: Vec<Exact>,
+    /// How many documents the union has; 0 where there is none.
+    pub documents: u64,
+}
+/// Whether one of these pieces lies strictly over a row.
+fn has_over(row: Bucket, pieces: &[Piece]) -> bool
+    ensures { result ≡ list_any (is_over row) pieces.now }
+{
+    pieces.iter().any(|piece| piece.bucket.bits() < row.bits() && piece.bucket.covers(row))
+}
+
+/// Whether one of these pieces lies strictly inside a row.
+fn has_inside(row: Bucket, pieces: &[Piece]) -> bool
+    ensures { result ≡ list_any (is_inside row) pieces.now }
+{
+    pieces.iter().any(|piece| row.bits() < piece.bucket.bits() && row.covers(piece.bucket))
+}
+
+/// The nodes that showed a piece strictly over the row of a round; takes no memory.
+fn over_of(round: &Round) -> NodeSet
+    ensures { (n : ℕ) → n < 32
+        → has_node result n ≡ list_any (is_over round.now.row) (pieces_by n round.now.shown) }
+{
+    let mut nodes = NodeSet::none();
+    for node in 0..32 {
+        if has_over(round.row(), round.pieces_of(node)) {
+            nodes = nodes.with(node);
+        }
+    }
+    nodes
+}
+
+/// The nodes that showed a piece strictly inside the row of a round; takes no memory.
+fn inside_of(round: &Round) -> NodeSet
+    ensures { (n : ℕ) → n < 32
+        → has_node result n ≡ list_any (is_inside round.now.row) (pieces_by n round.now.shown) }
+{
+    let mut nodes = NodeSet::none();
+    for node in 0..32 {
+        if has_inside(round.row(), round.pieces_of(node)) {
+            nodes = nodes.with(node);
+        }
+    }
+    nodes
+}
+
+/// The serial of the piece that is just a row, if one of these is.
+fn serial_of(row: Bucket, pieces: &[Piece]) -> Option<u64>
+    ensures { result ≡ serial_in row pieces.now }
+{
+    for piece in pieces {
+        if piece.bucket == row {
+            return Some(piece.serial);
+        }
+    }
+    None
+}
+
+/// The serial of the piece by which a node showed just the row of a round, if it did; takes no memory.
+fn serial_at(round: &Round, node: u8) -> Option<u64>
+    ensures { result ≡ serial_in round.now.row (pieces_by node round.now.shown) }
+{
+    serial_of(round.row(), round.pieces_of(node))
+}
+
+/// Adds a node to those that showed just the row of a round, if it did. The only error is want of memory.
+#[tactic(auto, using(crate::proofs::Exacts::below_none, crate::proofs::Exacts::below_some))]
+fn add_exact(exact: &mut Vec<Exact>, round: &Round, node: u8) -> Result<(), NoMemory>
+    requires below { AreExactBelow round.now node exact.old.items }
+    ensures below { OnOk result (AreExactBelow round.now (node + 1) exact.new.items) }
+{
+    match serial_at(round, node) {
+        Some(serial) => {
+            exact.push(Exact { node, serial })?;
+            Ok(())
+        }
+        None => Ok(()),
+    }
+}
+
+/// The nodes that showed just the row of a round. The only error is want of memory.
+#[tactic(auto, using(crate::proofs::Exacts::below_first))]
+fn exact_of(alloc: Global, round: &Round) -> Result<Vec<Exact>, NoMemory>
+    ensures { IfOk result (λ exact. AreExactBelow round.now 32 exact.items) }
+{
+    let mut exact = Vec::new(alloc);
+    for node in 0..32 {
+        add_exact(&mut exact, round, node)?;
+    }
+    Ok(exact)
+}
+
+/// How many documents the union of a round has, if there is one.
+fn union_size(round: &Round) -> Option<u64>
+    ensures some { IfSome result (λ documents. documents ≡ documents_of round.now.union) }
+    ensures whole { IfSome result (λ documents. HaveAllShown round.now.readers round.now.shown) }
+    ensures none { IfNone result (HaveAllShown round.now.readers round.now.shown → ⊥) }
+{
+    match round.union() {
+        Some(union) => Some(union.documents()),
+        None => None,
+    }
+}
+
+/// What a round told of its row. The only error is want of memory.
+fn note_of(alloc: Global, round: &Round) -> Result<RowNote, NoMemory>
+    ensures { IfOk result (IsNoteOf round.now) }
+{
+    let exact = exact_of(alloc, round)?;
+    let documents = union_size(round);
+    Ok(RowNote {
+        bucket: round.row(),
+        whole: documents.is_some(),
+        holders: round.holders(),
+        over: over_of(round),
+        inside: inside_of(round),
+        exact,
+        documents: documents.unwrap_or(0),
+    })
+}
+
+/// An error where a node wanted memory for a round.
+fn had_memory(run: &RoundRun) -> Result<(), NoMemory>
+    ensures read { OnOk result (run.now.unread ≡ false) }
+    ensures applied { OnOk result (run.now.unapplied ≡ false) }
+{
+    if run.unread || run.unapplied {
+        return Err(NoMemory);
+    }
+    Ok(())
+}
+
+/// Runs a round in the row of a place to its end, and gives it. The only error is want of memory, before the round
+/// begins or while it runs, which ends it at once.
+fn run_at<C: Carrier>(
+    lane: &mut LaneState,
+    carrier: &mut C,
+    owner: &Owner,
+    at: usize,
+) -> Result<RoundRun, NoMemory>
+    requires passing { IsPassing lane.old owner.now (C.given carrier.old) }
+    requires place { at < length (rows_in lane.old owner.now) }
+    ensures planned { C.planned carrier.new ≡ C.planned carrier.old }
+    ensures kind { C.takes_plans carrier.new ≡ C.takes_plans carrier.old }
+    ensures fates { OnOk result (Extends (C.given carrier.old) (C.given carrier.new)) }
+    ensures passing { IsPassing lane.new owner.now (C.given carrier.new) }
+    ensures on { PassesOn lane.old lane.new owner.now }
+    ensures buckets { buckets_of (rows_in lane.new owner.now) ≡ buckets_of (rows_in lane.old owner.now) }
+    ensures gains { IfOk result (λ run. GainsMarks (part_of lane.old owner.now.distributor)
+        (part_of lane.new owner.now.distributor) at run.round.holders) }
+    ensures row { IfOk result (λ run. (row : Row) → HasRow lane.old owner.now at row → run.round.row ≡ row.bucket) }
+    ensures answers { IfOk result (λ run. KnowsAnswers (journal_of lane.new) owner.now.state run.round) }
+    ensures ran { IfOk result (RanRound lane.old lane.new owner.now at (C.given carrier.old) (C.given carrier.new)) }
+    ensures others { IfOk result (λ run. (other : Note) → other.bucket ≢ run.round.row
+        → KnowsNote (journal_of lane.old) owner.now.state other → KnowsNote (journal_of lane.new) owner.now.state other) }
+{
+    upkeep_leaves_lines();
+    upkeep_leaves_states();
+    upkeep_goes_on();
+    lane.journal.reserve(2 + lane.spare)?;
+    let mut run = lane.begin_round_at(owner.distributor, at);
+    lane.run_round(carrier, &mut run)?;
+    Ok(run)
+}
+
+/// Runs a round in the row of a place to its end, and notes what it told. The only error is want of memory: before
+/// the round begins, while it runs, which ends it at once, at a node, or for the note.
+pub fn run_round_at<C: Carrier>(
+    lane: &mut LaneState,
+    carrier: &mut C,
+    owner: &Owner,
+    at: usize,
+) -> Result<RowNote, NoMemory>
+    requires passing { IsPassing lane.old owner.now (C.given carrier.old) }
+    requires place { at < length (rows_in lane.old owner.now) }
+    ensures planned { C.planned carrier.new ≡ C.planned carrier.old }
+    ensures kind { C.takes_plans carrier.new ≡ C.takes_plans carrier.old }
+    ensures fates { OnOk result (Extends (C.given carrier.old) (C.given carrier.new)) }
+    ensures passing { IsPassing lane.new owner.now (C.given carrier.new) }
+    ensures on { PassesOn lane.old lane.new owner.now }
+    ensures buckets { buckets_of (rows_in lane.new owner.now) ≡ buckets_of (rows_in lane.old owner.now) }
+    ensures gains { IfOk result (λ note. GainsMarks (part_of lane.old owner.now.distributor)
+        (part_of lane.new owner.now.distributor) at note.holders) }
+    ensures row { IfOk result (λ note. (row : Row) → HasRow lane.old owner.now at row → note.bucket ≡ row.bucket) }
+    ensures noted { IfOk result (NotesRound (journal_of lane.new) owner.now.state) }
+    ensures ran { IfOk result (NotesRun lane.old lane.new owner.now at (C.given carrier.old) (C.given carrier.new)) }
+    ensures knows { IfOk result (λ note. KnowsNote (journal_of lane.new) owner.now.state note) }
+    ensures others { IfOk result (λ note. (other : Note) → other.bucket ≢ note.bucket
+        → KnowsNote (journal_of lane.old) owner.now.state other → KnowsNote (journal_of lane.new) owner.now.state other) }
+{
+    let run = run_at(lane, carrier, owner, at)?;
+    had_memory(&run)?;
+    note_of(lane.alloc, &run.round)
+}

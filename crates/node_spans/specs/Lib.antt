@@ -1,0 +1,2 @@
+-- What a caller needs: `Spans`.
+pub mod Spans

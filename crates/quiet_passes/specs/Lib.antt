@@ -1,0 +1,2 @@
+-- What a caller needs: `Telling`.
+pub mod Telling

@@ -1,0 +1,2 @@
+-- What a caller needs: `Rounding`.
+pub mod Rounding

@@ -1,0 +1,2 @@
+-- What a caller needs: `Running`.
+pub mod Running

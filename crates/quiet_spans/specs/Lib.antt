@@ -1,0 +1,2 @@
+-- What a caller needs: `Quiet`.
+pub mod Quiet

@@ -1,0 +1,2 @@
+-- `Places` says which place is kept for a stamp.
+pub mod Places
