@@ -37,6 +37,7 @@ use Rattle.cell_session.specs.Keeping.{IsKept}
 use Rattle.cell_session.specs.Lanes.{Journal, journal_in, AreLegal, AreDurable, AreInOrder, AreTogether, AreComplete}
 use Rattle.cell_session.specs.Operations.{IsCommandAt, WereAsked, HaveOutcomes, HaveFates}
 use Rattle.cell_session.specs.Output.{output_of}
+use Rattle.cell_session.specs.Upkeep.{HaveUpkeeps}
 use Rattle.cell_session.specs.declared.status.Status.{Status}
 use Rattle.cell_session.specs.declared.status.Status.TheVariants as status
 use Rattle.cell_session.proofs.KeptCauses.{AllRefused, AllShort, AllHold, AllHear, kept_causes, kept_heard}
@@ -44,6 +45,7 @@ use Rattle.cell_session.proofs.KeptClauses.{kept_outcomes, kept_fates, kept_toge
 use Rattle.cell_session.proofs.KeptLanes.{in_lanes, kept_legal}
 use Rattle.cell_session.proofs.LaneLists.{journal_is, journal_at}
 use Rattle.cell_session.proofs.Loops.{appends_nothing, first_none, unopened_ends}
+use Rattle.cell_session.proofs.UpkeepLaws.{none_upkept}
 
 -- ---- what is promised of every lane
 
@@ -110,7 +112,7 @@ pub ends_together : (end : Status) (s : Setting) (types : Types) (plans : ℕ �
 ends_together end s types plans text left c before now (inl none) = none_together c none.none
 ends_together end s types plans text left c before now (inr some) = kept_together s plans some.commands c some.kept
 
-all_lanes : (end : Status) (s : Setting) (cs : List Asked) (c : Cell) (before now : Option (List ℕ)) → length (journals_of c) ≡ lane_count s → Writes end s cs c.lanes before now → HasLanes end s (journals_of c)
+all_lanes : (end : Status) (s : Setting) (cs : List Asked) (c : Cell) (before now : Option (List ℕ)) → length (journals_of c) ≡ lane_count s → Writes end s cs c before now → HasLanes end s (journals_of c)
 all_lanes status.Done s cs c before now is wrote = is
 all_lanes status.ReadFault s cs c before now is wrote = is
 all_lanes status.WriteFault s cs c before now is wrote = is
@@ -210,6 +212,23 @@ ends_heard hold hear end s types plans text left c before now (inl none) = none_
 ends_heard hold hear end s types plans text left c before now (inr some) =
     kept_heard hold hear s types plans text some.commands c (were_asked types s.bits text some.commands c.dealt (sym some.kept.dealt) some.first) some.kept
 
+-- ---- upkeep
+
+none_upkeeps : (end : Status) (s : Setting) (types : Types) (text : Option (List ℕ)) (c : Cell) → c.upkeeps ≡ [] → c.dealt ≡ 0 → HaveUpkeeps end s types text c
+none_upkeeps end s types text c none dealt = record {
+  asked = [];
+  were_asked = were_asked types s.bits text [] c.dealt (sym dealt) (told_none types s.bits text);
+  are = none_upkept end s c none;
+}
+
+pub ends_upkeeps : (end : Status) (s : Setting) (types : Types) (plans : ℕ → List Fate) (text left : Option (List ℕ)) (c : Cell) (before now : Option (List ℕ)) → EndsAs end s types plans text left c before now → HaveUpkeeps end s types text c
+ends_upkeeps end s types plans text left c before now (inl none) = none_upkeeps end s types text c none.unkept none.dealt
+ends_upkeeps end s types plans text left c before now (inr some) = record {
+  asked = some.commands;
+  were_asked = were_asked types s.bits text some.commands c.dealt (sym some.kept.dealt) some.first;
+  are = some.upkept;
+}
+
 -- ---- the bytes written
 
 all_told : (text : Option (List ℕ)) (P : Type 0) → P → IfTold text (λ t. P)
@@ -217,17 +236,17 @@ all_told None P holds = tt
 all_told (Some t) P holds = holds
 
 pub ends_written : (end : Status) (s : Setting) (types : Types) (plans : ℕ → List Fate) (text left : Option (List ℕ)) (c : Cell) (before now : Option (List ℕ)) → EndsAs end s types plans text left c before now
-    → IfTold text (λ t. OfFirst types s.bits t c.dealt (λ commands. Writes end s commands c.lanes before now))
-ends_written end s types plans text left c before now (inl none) = subst (λ e. IfTold text (λ t. OfFirst types s.bits t c.dealt (λ commands. Writes e s commands c.lanes before now))) (sym none.memory)
-    (told_first types s.bits text [] c.dealt (λ t commands. Writes status.NoMemory s commands c.lanes before now) (sym none.dealt) (told_none types s.bits text)
-    (all_told text (Writes status.NoMemory s [] c.lanes before now) (inl (appends_nothing before now none.kept))))
+    → IfTold text (λ t. OfFirst types s.bits t c.dealt (λ commands. Writes end s commands c before now))
+ends_written end s types plans text left c before now (inl none) = subst (λ e. IfTold text (λ t. OfFirst types s.bits t c.dealt (λ commands. Writes e s commands c before now))) (sym none.memory)
+    (told_first types s.bits text [] c.dealt (λ t commands. Writes status.NoMemory s commands c before now) (sym none.dealt) (told_none types s.bits text)
+    (all_told text (Writes status.NoMemory s [] c before now) (inl (appends_nothing before now none.kept))))
 ends_written end s types plans text left c before now (inr some) =
-    told_first types s.bits text some.commands c.dealt (λ t commands. Writes end s commands c.lanes before now) (sym some.kept.dealt) some.first (all_told text (Writes end s some.commands c.lanes before now) some.output)
+    told_first types s.bits text some.commands c.dealt (λ t commands. Writes end s commands c before now) (sym some.kept.dealt) some.first (all_told text (Writes end s some.commands c before now) some.output)
 
 -- ---- no session over lines ends with usage
 
-not_usage : (end : Status) (s : Setting) (cs : List Asked) (c : Cell) (before now : Option (List ℕ)) → Writes end s cs c.lanes before now → end ≡ status.Usage → ⊥
-not_usage end s cs c before now wrote is = subst (λ e. Writes e s cs c.lanes before now) is wrote
+not_usage : (end : Status) (s : Setting) (cs : List Asked) (c : Cell) (before now : Option (List ℕ)) → Writes end s cs c before now → end ≡ status.Usage → ⊥
+not_usage end s cs c before now wrote is = subst (λ e. Writes e s cs c before now) is wrote
 
 pub ends_usage : (end : Status) (s : Setting) (types : Types) (plans : ℕ → List Fate) (text left : Option (List ℕ)) (c : Cell) (before now : Option (List ℕ)) → EndsAs end s types plans text left c before now → end ≡ status.Usage → ⊥
 ends_usage end s types plans text left c before now (inl none) is = cc (none.memory, is)
@@ -265,27 +284,32 @@ pub chosen_heard : AllHold → AllHear → (words : List Text) (a x : Choice) (e
 chosen_heard hold hear words a x end plans text left c before now p q ends =
     subst (λ (y : Choice). HaveHeard y.setting y.schema text c.dealt c.lanes) (one_choice words a x p q) (ends_heard hold hear end a.setting a.schema plans text left c before now ends)
 
+pub chosen_upkeeps : (words : List Text) (a x : Choice) (end : Status) (plans : ℕ → List Fate) (text left : Option (List ℕ)) (c : Cell) (before now : Option (List ℕ)) → Chooses words a → Chooses words x
+    → EndsAs end a.setting a.schema plans text left c before now → HaveUpkeeps end x.setting x.schema text c
+chosen_upkeeps words a x end plans text left c before now p q ends =
+    subst (λ (y : Choice). HaveUpkeeps end y.setting y.schema text c) (one_choice words a x p q) (ends_upkeeps end a.setting a.schema plans text left c before now ends)
+
 pub chosen_dealt : (words : List Text) (a x : Choice) (end : Status) (plans : ℕ → List Fate) (text left : Option (List ℕ)) (c : Cell) (before now : Option (List ℕ)) → Chooses words a → Chooses words x
     → EndsAs end a.setting a.schema plans text left c before now → IfTold text (λ t. DealsWith end x.schema (x.setting).bits t c.dealt left)
 chosen_dealt words a x end plans text left c before now p q ends =
     subst (λ (y : Choice). IfTold text (λ t. DealsWith end y.schema (y.setting).bits t c.dealt left)) (one_choice words a x p q) (ends_dealt end a.setting a.schema plans text left c before now ends)
 
 pub chosen_written : (words : List Text) (a x : Choice) (end : Status) (plans : ℕ → List Fate) (text left : Option (List ℕ)) (c : Cell) (before now : Option (List ℕ)) → Chooses words a → Chooses words x
-    → EndsAs end a.setting a.schema plans text left c before now → IfTold text (λ t. OfFirst x.schema (x.setting).bits t c.dealt (λ commands. Writes end x.setting commands c.lanes before now))
+    → EndsAs end a.setting a.schema plans text left c before now → IfTold text (λ t. OfFirst x.schema (x.setting).bits t c.dealt (λ commands. Writes end x.setting commands c before now))
 chosen_written words a x end plans text left c before now p q ends =
-    subst (λ (y : Choice). IfTold text (λ t. OfFirst y.schema (y.setting).bits t c.dealt (λ commands. Writes end y.setting commands c.lanes before now))) (one_choice words a x p q)
+    subst (λ (y : Choice). IfTold text (λ t. OfFirst y.schema (y.setting).bits t c.dealt (λ commands. Writes end y.setting commands c before now))) (one_choice words a x p q)
     (ends_written end a.setting a.schema plans text left c before now ends)
 
 -- a cluster that is empty, as memory wanted before the words were read
-both_zero : (n m : ℕ) → IsTrue (n == 0 && m == 0) → (n ≡ 0) × (m ≡ 0)
-both_zero n m h = grind (arith, nat_tests)
+all_zero : (n m u : ℕ) → IsTrue (n == 0 && (m == 0 && u == 0)) → (n ≡ 0) × ((m ≡ 0) × (u ≡ 0))
+all_zero n m u h = grind (arith, nat_tests)
 
-no_items : (vs : List LaneValue) → length vs ≡ 0 → vs ≡ []
+no_items : {X : Type 0} (vs : List X) → length vs ≡ 0 → vs ≡ []
 no_items [] none = refl
 no_items (v ∷ vs) none = absurd (omega (arith, none))
 
-pub empty_cell : (c : Cell) → IsTrue (is_empty c) → (c.lanes ≡ []) × (c.dealt ≡ 0)
-empty_cell c h = let both = both_zero (length c.lanes) c.dealt h in (no_items c.lanes both.0, both.1)
+pub empty_cell : (c : Cell) → IsTrue (is_empty c) → (c.lanes ≡ []) × ((c.dealt ≡ 0) × (c.upkeeps ≡ []))
+empty_cell c h = let all = all_zero (length c.lanes) c.dealt (length c.upkeeps) h in (no_items c.lanes all.0, (all.1.0, no_items c.upkeeps all.1.1))
 
 pub empty_ends : (s : Setting) (types : Types) (plans : ℕ → List Fate) (text left : Option (List ℕ)) (c : Cell) (before : Option (List ℕ)) → IsTrue (is_empty c) → EndsAs status.NoMemory s types plans text left c before before
 empty_ends s types plans text left c before h = unopened_ends s types plans text left c before (empty_cell c h)
@@ -307,4 +331,4 @@ pub empty_together : (c : Cell) → IsTrue (is_empty c) → AreTogether (journal
 empty_together c h = none_together c (empty_cell c h).0
 
 pub empty_fates : (types : Types) (bits : ℕ) (plans : ℕ → List Fate) (text : Option (List ℕ)) (c : Cell) → IsTrue (is_empty c) → HaveFates types bits plans text c.dealt c.lanes
-empty_fates types bits plans text c h = none_fates types bits plans text c (empty_cell c h).0 (empty_cell c h).1
+empty_fates types bits plans text c h = none_fates types bits plans text c (empty_cell c h).0 (empty_cell c h).1.0

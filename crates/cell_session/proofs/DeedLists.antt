@@ -81,6 +81,7 @@ last_with s lane told line (command.BadState offset) deeds h = omega (arith, h)
 last_with s lane told line (command.Stop node) deeds h = omega (arith, h)
 last_with s lane told line (command.Start node) deeds h = omega (arith, h)
 last_with s lane told line (command.Net at fates) deeds h = omega (arith, h)
+last_with s lane told line command.Maintain deeds h = omega (arith, h)
 
 last_low : (s : Setting) (lane : ℕ) (told : Told) (line : ℕ) (cs : List Asked) (deeds : List Deed) → last_line (lines_of deeds) < line → last_line (lines_of (with_lines s lane told line cs deeds)) < line + length cs
 last_low s lane told line [] deeds h = omega (arith, h)
@@ -111,6 +112,7 @@ states_with s lane told line (command.BadState offset) deeds h = h
 states_with s lane told line (command.Stop node) deeds h = h
 states_with s lane told line (command.Start node) deeds h = h
 states_with s lane told line (command.Net at fates) deeds h = h
+states_with s lane told line command.Maintain deeds h = h
 
 states_by : (s : Setting) (lane : ℕ) (told : Told) (line : ℕ) (cs : List Asked) (deeds : List Deed) → states_in s deeds ≡ told.states → states_in s (with_lines s lane told line cs deeds) ≡ (told_by told cs).states
 states_by s lane told line [] deeds h = h
@@ -130,6 +132,7 @@ acks_next (command.BadState offset) told = refl
 acks_next (command.Stop node) told = refl
 acks_next (command.Start node) told = refl
 acks_next (command.Net at fates) told = refl
+acks_next command.Maintain told = refl
 
 acks_by : (told : Told) (cs : List Asked) → (told_by told cs).acks ≡ told.acks
 acks_by told [] = refl
@@ -163,6 +166,7 @@ events_with s lane other told line (command.BadState offset) ds es h = h
 events_with s lane other told line (command.Stop node) ds es h = ap (stopped_next node) h
 events_with s lane other told line (command.Start node) ds es h = ap (started_next node) h
 events_with s lane other told line (command.Net at fates) ds es h = h
+events_with s lane other told line command.Maintain ds es h = h
 
 events_by : (s : Setting) (lane other : ℕ) (told : Told) (line : ℕ) (cs : List Asked) (ds es : List Deed) → deed_events s ds ≡ deed_events s es
     → deed_events s (with_lines s lane told line cs ds) ≡ deed_events s (with_lines s other told line cs es)

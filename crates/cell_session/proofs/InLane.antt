@@ -1,6 +1,7 @@
 -- The lane of a document, and what may be asked of lanes.
 use Rattle.std.proofs.Common.{◌≡◌, ◌<◌, ◌≤◌, ◌^◌, ◌+◌, ℕ, Bool, List, Option, None, Some, IfSome, refl, sym, ap, ◌∙◌, subst, arith, length, map, slice_get, slice_index_or, set}
 use Rattle.std.specs.Option.{IsSome}
+use Rattle.std.proofs.Math.Pow.{pow_mono}
 use Rattle.std.proofs.lemmas.List.{length-map}
 use Rattle.std.proofs.lemmas.Option.{get_or_from_slice_get}
 use Rattle.bucket_ids.specs.Buckets.{Low, IsIn}
@@ -31,7 +32,8 @@ use Rattle.cell_session.specs.Deeds.{told_with, deeds_of_lane}
 use Rattle.cell_session.specs.Keeping.{IsReady}
 use Rattle.cell_session.specs.Lanes.{lane_of_id}
 use Rattle.cell_session.specs.Output.{state_answer, plan_answer}
-use Rattle.cell_session.specs.Steps.{with_room, after_state, EachLane, IsTelling, IsRoomy, MayAnnounce, MayRun, IsOperatedIn, IsDoneInEach, IsTold, IsToldRoomy, IsPlannedIn}
+use Rattle.cell_session.specs.Spans.{spans_of}
+use Rattle.cell_session.specs.Steps.{with_room, after_state, EachLane, IsTelling, IsRoomy, MayAnnounce, MayMaintain, MayRun, IsOperatedIn, IsDoneInEach, IsTold, IsToldRoomy, IsPlannedIn}
 use Rattle.cell_session.proofs.DeedLists.{deeds_told, lines_low}
 use Rattle.cell_session.proofs.Elements.{element_map, set_there, seen_map}
 use Rattle.cell_session.proofs.KeptLanes.{lane_there}
@@ -118,6 +120,23 @@ all_telling s line c ready lane v at =
     let serving = ready.kept.serving lane v at in
     let deeds = deeds_of_lane s lane ready.commands in
     record { idle = serving.idle; told_is = serving_told s _ lane deeds v serving ∙ deeds_told s lane ready.commands ∙ sym ready.kept.told }
+
+-- ---- what may be kept in order
+
+pub all_may_maintain : (s : Setting) (line : ℕ) (c : Cell) → IsReady s line c → EachLane MayMaintain c.lanes
+all_may_maintain s line c ready lane v at =
+    let serving = ready.kept.serving lane v at in
+    let deeds = deeds_of_lane s lane ready.commands in
+    record { idle = serving.idle; published = some_there (last_state v.journal) (newest_in s deeds) (serving_newest s _ lane deeds v serving) }
+
+few_lanes : (bits : ℕ) → bits ≤ 6 → 2 ^ bits ≤ 64
+few_lanes bits few = pow_mono few
+
+pub few_of : (s : Setting) (line : ℕ) (c : Cell) → IsReady s line c → length c.lanes ≤ 64
+few_of s line c ready = subst (λ n. n ≤ 64) (sym ready.kept.lanes) (few_lanes s.bits ready.setting.most)
+
+pub new_line : (s : Setting) (line : ℕ) (c : Cell) → IsReady s line c → spans_of line c.upkeeps ≡ None
+new_line s line c ready = ready.kept.unkept line (omega (arith, ready.next, ready.kept.dealt))
 
 telling_roomy : (t : Told) (v : LaneValue) → IsTelling t v → IsRoomy (with_room v)
 telling_roomy t v is = record { idle = is.idle; room = refl }

@@ -2,10 +2,13 @@ pub mod Elements
 pub mod LaneLists
 pub mod DeedLists
 pub mod KeptLanes
+pub mod SpanLists
 pub mod SessionSteps
 pub mod Moving
+pub mod UpkeepLaws
 pub mod OutputLaws
 pub mod InLane
+pub mod Passing
 pub mod Openings
 pub mod NodeSizes
 pub mod Reports

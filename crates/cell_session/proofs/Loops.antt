@@ -1,10 +1,12 @@
 -- The lines of a session, one after the other.
-use Rattle.std.proofs.Common.{◌≡◌, ◌==◌, ◌⊎◌, ℕ, zero, suc, ◌+◌, ◌<◌, ◌≤◌, Bool, true, false, cond, List, [], ◌∷◌, ◌++◌, Option, None, Some, inl, inr, refl, sym, ap, ap₂, ◌∙◌, subst, arith, length, append_assoc, length-append, drop, slice_get}
+use Rattle.std.proofs.Common.{◌≡◌, ◌==◌, ◌⊎◌, ℕ, zero, suc, ◌+◌, ◌<◌, ◌≤◌, Bool, true, false, cond, List, [], ◌∷◌, ◌++◌, Option, None, Some, Result, Ok, Err, inl, inr, refl, sym, ap, ap₂, ◌∙◌, subst, arith, length, append_assoc, length-append, drop, slice_get}
 use Rattle.std.proofs.lemmas.Bool.Decides.{nat_tests}
 use Rattle.std.proofs.lemmas.List.Sums.{sum_by-append}
 use Rattle.std.proofs.lemmas.Option.{slice_get_within}
 use Rattle.std.proofs.KnownBytes.{Appends-nil, Appends-trans}
+use Rattle.std.specs.List.{count_by}
 use Rattle.std.specs.Io.KnownBytes.{Appends, Keeps}
+use Rattle.lane_core.specs.LaneValues.{LaneValue}
 use Rattle.io_ends.specs.Causes.{AppendsFront}
 use Rattle.io_ends.specs.Lines.{lines_of, end_of, NoLineFeed}
 use Rattle.io_ends.specs.Reading.{Reading, StandsIn, IsLittle}
@@ -13,13 +15,16 @@ use Rattle.io_ends.specs.declared.next.LimitKind.TheVariants as limit
 use Rattle.io_ends.proofs.FeedPlaces.{NoLineFeed-append}
 use Rattle.io_ends.proofs.ReaderStarts.{start_at}
 use Rattle.doc_types.specs.SchemaCodes.{Types}
-use Rattle.cell_session.specs.Asking.{IsAsked, is_state, state_lines, one_state_more, states_with}
+use Rattle.cell_session.specs.Asking.{IsAsked}
+use Rattle.cell_session.specs.Counting.{is_state, is_maintain, state_lines, maintain_lines, one_more, states_with, maintains_with, counts_with}
+use Rattle.cell_session.specs.declared.counts.Counts.{Counts}
 use Rattle.cell_session.specs.declared.asked.Asked.{Asked}
-use Rattle.cell_session.specs.Answering.{IsAllOrNothing, StopsAs}
+use Rattle.cell_session.specs.declared.asked.Asked.TheVariants as command
+use Rattle.cell_session.specs.Answering.{IsRoomier, IsAllOrNothing, StopsAs}
 use Rattle.cell_session.specs.Cells.{Cell}
 use Rattle.cell_session.specs.Keeping.{IsKept, IsReady}
 use Rattle.cell_session.specs.Dealing.{EndsAs}
-use Rattle.cell_session.specs.Ends.{IfTold, AreFirst, IsReadTo, IsReadNear, PassesStates, PassesLimit, StopsAt, Writes}
+use Rattle.cell_session.specs.Ends.{IfTold, AreFirst, IsReadTo, IsReadNear, PassesKind, PassesLimit, StopsAt, Writes}
 use Rattle.cell_session.specs.Output.{output_of, report_in}
 use Rattle.cell_session.specs.Reads.{Finishes, Shows, HoldsBack, IsReadEnd}
 use Rattle.carriers.specs.declared.fate.Fate.{Fate}
@@ -27,44 +32,134 @@ use Rattle.session_settings.specs.Settings.{IsSetting}
 use Rattle.session_settings.specs.declared.setting.Setting.{Setting}
 use Rattle.cell_session.specs.Operations.{IsCommandAt}
 use Rattle.cell_session.specs.SoFar.{IsBehind, IsSoFar}
-use Rattle.cell_session.specs.Steps.{IsAfter}
+use Rattle.cell_session.specs.Steps.{without_room, IsNoted, IsAfter}
 use Rattle.cell_session.specs.declared.answering.Stop.{Stop}
 use Rattle.cell_session.specs.declared.answering.Stop.TheVariants as stop
-use Rattle.cell_session.specs.declared.limits.TheConstants.{MOST_LINES, MOST_BYTES, MOST_STATES}
+use Rattle.cell_session.specs.declared.limits.TheConstants.{MOST_LINES, MOST_BYTES, MOST_STATES, MOST_MAINTAINS}
 use Rattle.cell_session.specs.declared.next_command.Step.TheVariants as step
 use Rattle.cell_session.specs.declared.status.Status.{Status}
 use Rattle.cell_session.specs.declared.status.Status.TheVariants as status
 use Rattle.cell_session.proofs.OutputLaws.{output_kept, output_more, roomier_output}
+use Rattle.cell_session.proofs.Elements.{element_seen}
 use Rattle.cell_session.proofs.SessionSteps.{kept_more, kept_roomier}
+use Rattle.cell_session.proofs.UpkeepLaws.{upkept_more, noted_last, cut_last, none_upkept, upkept_at, upkept_roomier}
 
--- ---- how many lines are read as states
+-- ---- how many lines are read as states, and how many as upkeep
 
-states_push : (cs : List Asked) (c : Asked) → state_lines (cs ++ c ∷ []) ≡ state_lines cs + (0 + cond (is_state c) 1 0)
-states_push cs c = sum_by-append (λ x. cond (is_state x) 1 0) cs (c ∷ [])
+-- what is counted of a line
+abbrev one_if : Bool → ℕ
+one_if t = cond t 1 0
 
-one_more_state : (states counted : ℕ) (t : Bool) → states ≤ MOST_STATES → (states == MOST_STATES) ≡ t → cond t None (Some (states + 1)) ≡ Some counted → (counted ≡ states + 1) × (counted ≤ MOST_STATES)
-one_more_state states counted true few is h = cc h
-one_more_state states counted false few is h = let same : states + 1 ≡ counted = cc h in (sym same, grind (arith, nat_tests, few, is, same))
+kind_push : (of_kind : Asked → Bool) (cs : List Asked) (c : Asked) → count_by of_kind (cs ++ c ∷ []) ≡ count_by of_kind cs + (0 + one_if (of_kind c))
+kind_push of_kind cs c = sum_by-append (λ x. cond (of_kind x) 1 0) cs (c ∷ [])
 
-by_state : (states counted : ℕ) (t : Bool) → states ≤ MOST_STATES → cond t (one_state_more states) (Some states) ≡ Some counted → (counted ≡ states + cond t 1 0) × (counted ≤ MOST_STATES)
-by_state states counted true few h = one_more_state states counted (states == MOST_STATES) few refl h
-by_state states counted false few h = let same : states ≡ counted = cc h in (omega (arith, same), omega (arith, same, few))
+more_is : (most count next : ℕ) (t : Bool) → count ≤ most → (count == most) ≡ t → cond t None (Some (count + 1)) ≡ Some next → (next ≡ count + 1) × (next ≤ most)
+more_is most count next true few is h = cc h
+more_is most count next false few is h = let same : count + 1 ≡ next = cc h in (sym same, grind (arith, nat_tests, few, is, same))
+
+full_is : (most count : ℕ) (t : Bool) → (count == most) ≡ t → cond t None (Some (count + 1)) ≡ None → count ≡ most
+full_is most count true is h = grind (arith, nat_tests, is)
+full_is most count false is h = cc h
+
+-- the counts are those of so many lines
+record AreCounts (counts : Counts) (states maintains : ℕ) : Type 0 where
+  states_are : counts.states ≡ states
+  few_states : counts.states ≤ MOST_STATES
+  maintains_are : counts.maintains ≡ maintains
+  few_maintains : counts.maintains ≤ MOST_MAINTAINS
+
+-- with a line that is neither
+same_counts : (counts counted : Counts) (states maintains : ℕ) → AreCounts counts states maintains → ◌≡◌ {A = Result Counts LimitKind} (Ok counts) (Ok counted) → AreCounts counted (states + (0 + 0)) (maintains + (0 + 0))
+same_counts counts counted states maintains are h =
+    let same : counts ≡ counted = is_same h in
+    subst (λ (x : Counts). AreCounts x (states + (0 + 0)) (maintains + (0 + 0))) same (record {
+      states_are = omega (arith, are.states_are);
+      few_states = are.few_states;
+      maintains_are = omega (arith, are.maintains_are);
+      few_maintains = are.few_maintains;
+    })
+  where
+    is_same : ◌≡◌ {A = Result Counts LimitKind} (Ok counts) (Ok counted) → counts ≡ counted
+    is_same h = cc h
+
+state_counts : (counts counted : Counts) (states maintains : ℕ) (o : Option ℕ) → AreCounts counts states maintains → one_more MOST_STATES counts.states ≡ o → states_with counts o ≡ Ok counted → AreCounts counted (states + (0 + 1)) (maintains + (0 + 0))
+state_counts counts counted states maintains None are is h = cc h
+state_counts counts counted states maintains (Some next) are is h =
+    let grown = more_is MOST_STATES counts.states next (counts.states == MOST_STATES) are.few_states refl is in
+    subst (λ (x : Counts). AreCounts x (states + (0 + 1)) (maintains + (0 + 0))) (is_same h) (record {
+      states_are = omega (arith, grown.0, are.states_are);
+      few_states = grown.1;
+      maintains_are = omega (arith, are.maintains_are);
+      few_maintains = are.few_maintains;
+    })
+  where
+    is_same : ◌≡◌ {A = Result Counts LimitKind} (Ok (record { states = next; maintains = counts.maintains })) (Ok counted) → ◌≡◌ {A = Counts} (record { states = next; maintains = counts.maintains }) counted
+    is_same h = cc h
+
+maintain_counts : (counts counted : Counts) (states maintains : ℕ) (o : Option ℕ) → AreCounts counts states maintains → one_more MOST_MAINTAINS counts.maintains ≡ o → maintains_with counts o ≡ Ok counted → AreCounts counted (states + (0 + 0)) (maintains + (0 + 1))
+maintain_counts counts counted states maintains None are is h = cc h
+maintain_counts counts counted states maintains (Some next) are is h =
+    let grown = more_is MOST_MAINTAINS counts.maintains next (counts.maintains == MOST_MAINTAINS) are.few_maintains refl is in
+    subst (λ (x : Counts). AreCounts x (states + (0 + 0)) (maintains + (0 + 1))) (is_same h) (record {
+      states_are = omega (arith, are.states_are);
+      few_states = are.few_states;
+      maintains_are = omega (arith, grown.0, are.maintains_are);
+      few_maintains = grown.1;
+    })
+  where
+    is_same : ◌≡◌ {A = Result Counts LimitKind} (Ok (record { states = counts.states; maintains = next })) (Ok counted) → ◌≡◌ {A = Counts} (record { states = counts.states; maintains = next }) counted
+    is_same h = cc h
+
+counts_by : (counts counted : Counts) (states maintains : ℕ) (c : Asked) → AreCounts counts states maintains → counts_with counts c ≡ Ok counted → AreCounts counted (states + (0 + one_if (is_state c))) (maintains + (0 + one_if (is_maintain c)))
+counts_by counts counted states maintains command.Blank are h = same_counts counts counted states maintains are h
+counts_by counts counted states maintains command.TooLong are h = same_counts counts counted states maintains are h
+counts_by counts counted states maintains (command.Bad why) are h = same_counts counts counted states maintains are h
+counts_by counts counted states maintains (command.Feed op via) are h = same_counts counts counted states maintains are h
+counts_by counts counted states maintains (command.State state deaf) are h = state_counts counts counted states maintains (one_more MOST_STATES counts.states) are refl h
+counts_by counts counted states maintains (command.BadState offset) are h = state_counts counts counted states maintains (one_more MOST_STATES counts.states) are refl h
+counts_by counts counted states maintains (command.Stop node) are h = same_counts counts counted states maintains are h
+counts_by counts counted states maintains (command.Start node) are h = same_counts counts counted states maintains are h
+counts_by counts counted states maintains (command.Net lane fates) are h = same_counts counts counted states maintains are h
+counts_by counts counted states maintains command.Maintain are h = maintain_counts counts counted states maintains (one_more MOST_MAINTAINS counts.maintains) are refl h
 
 -- with one line more
-states_more : (states counted : ℕ) (cs : List Asked) (c : Asked) → states ≡ state_lines cs → states ≤ MOST_STATES → states_with states c ≡ Some counted
-    → (counted ≡ state_lines (cs ++ c ∷ [])) × (counted ≤ MOST_STATES)
-states_more states counted cs c are few with =
-    let grown = by_state states counted (is_state c) few with in
-    (omega (arith, grown.0, are, states_push cs c), grown.1)
+counts_more : (counts counted : Counts) (cs : List Asked) (c : Asked) → AreCounts counts (state_lines cs) (maintain_lines cs) → counts_with counts c ≡ Ok counted → AreCounts counted (state_lines (cs ++ c ∷ [])) (maintain_lines (cs ++ c ∷ []))
+counts_more counts counted cs c are with =
+    subst (λ n. AreCounts counted n (maintain_lines (cs ++ c ∷ []))) (sym (kind_push is_state cs c))
+    (subst (λ n. AreCounts counted (state_lines cs + (0 + one_if (is_state c))) n) (sym (kind_push is_maintain cs c)) (counts_by counts counted (state_lines cs) (maintain_lines cs) c are with))
 
-full_states : (states : ℕ) (t : Bool) → (states == MOST_STATES) ≡ t → cond t None (Some (states + 1)) ≡ None → states ≡ MOST_STATES
-full_states states true is h = grind (arith, nat_tests, is)
-full_states states false is h = cc h
+-- where a session may not have one more of its kind
+abbrev IsFull : LimitKind → Counts → Asked → Type 0
+IsFull limit.Lines counts c = ⊥
+IsFull limit.Bytes counts c = ⊥
+IsFull limit.States counts c = (is_state c ≡ true) × (counts.states ≡ MOST_STATES)
+IsFull limit.Maintains counts c = (is_maintain c ≡ true) × (counts.maintains ≡ MOST_MAINTAINS)
 
--- where a session may not have one more
-states_full : (states : ℕ) (t : Bool) → cond t (one_state_more states) (Some states) ≡ None → (t ≡ true) × (states ≡ MOST_STATES)
-states_full states true h = (refl, full_states states (states == MOST_STATES) refl h)
-states_full states false h = cc h
+state_full : (counts : Counts) (c : Asked) (which : LimitKind) (o : Option ℕ) → is_state c ≡ true → one_more MOST_STATES counts.states ≡ o → states_with counts o ≡ Err which → IsFull which counts c
+state_full counts c which (Some next) kind is h = cc h
+state_full counts c which None kind is h = subst (λ w. IsFull w counts c) (same h) (kind, full_is MOST_STATES counts.states (counts.states == MOST_STATES) refl is)
+  where
+    same : ◌≡◌ {A = Result Counts LimitKind} (Err limit.States) (Err which) → limit.States ≡ which
+    same h = cc h
+
+maintain_full : (counts : Counts) (c : Asked) (which : LimitKind) (o : Option ℕ) → is_maintain c ≡ true → one_more MOST_MAINTAINS counts.maintains ≡ o → maintains_with counts o ≡ Err which → IsFull which counts c
+maintain_full counts c which (Some next) kind is h = cc h
+maintain_full counts c which None kind is h = subst (λ w. IsFull w counts c) (same h) (kind, full_is MOST_MAINTAINS counts.maintains (counts.maintains == MOST_MAINTAINS) refl is)
+  where
+    same : ◌≡◌ {A = Result Counts LimitKind} (Err limit.Maintains) (Err which) → limit.Maintains ≡ which
+    same h = cc h
+
+counts_full : (counts : Counts) (c : Asked) (which : LimitKind) → counts_with counts c ≡ Err which → IsFull which counts c
+counts_full counts command.Blank which h = cc h
+counts_full counts command.TooLong which h = cc h
+counts_full counts (command.Bad why) which h = cc h
+counts_full counts (command.Feed op via) which h = cc h
+counts_full counts (command.State state deaf) which h = state_full counts (command.State state deaf) which (one_more MOST_STATES counts.states) refl refl h
+counts_full counts (command.BadState offset) which h = state_full counts (command.BadState offset) which (one_more MOST_STATES counts.states) refl refl h
+counts_full counts (command.Stop node) which h = cc h
+counts_full counts (command.Start node) which h = cc h
+counts_full counts (command.Net lane fates) which h = cc h
+counts_full counts command.Maintain which h = maintain_full counts command.Maintain which (one_more MOST_MAINTAINS counts.maintains) refl refl h
 
 -- ---- the commands of the first lines of a text
 
@@ -84,8 +179,8 @@ pushed (y ∷ cs) c (suc k) x h = elim (pushed cs c k x h) [
 
 -- one line more
 first_more : (types : Types) (bits : ℕ) (text : List ℕ) (cs : List Asked) (c : Asked) → AreFirst types bits text cs → IsCommandAt types bits (Some text) (length cs) c → length cs < MOST_LINES
-    → end_of (length cs + 1) text ≤ MOST_BYTES → state_lines (cs ++ c ∷ []) ≤ MOST_STATES → AreFirst types bits text (cs ++ c ∷ [])
-first_more types bits text cs c first last few within few_states =
+    → end_of (length cs + 1) text ≤ MOST_BYTES → state_lines (cs ++ c ∷ []) ≤ MOST_STATES → maintain_lines (cs ++ c ∷ []) ≤ MOST_MAINTAINS → AreFirst types bits text (cs ++ c ∷ [])
+first_more types bits text cs c first last few within few_states few_maintains =
     let longer : length (cs ++ c ∷ []) ≡ length cs + 1 = length-append cs (c ∷ []) in
     record {
       asked = λ at x there. elim (pushed cs c at x there) [
@@ -96,20 +191,21 @@ first_more types bits text cs c first last few within few_states =
       few = omega (arith, longer, few);
       within = subst (λ k. end_of k text ≤ MOST_BYTES) (sym longer) within;
       few_states = few_states;
+      few_maintains = few_maintains;
     }
 
 told_more : (types : Types) (bits : ℕ) (text : Option (List ℕ)) (reader reader' : Reading) (left left' : Option (List ℕ)) (cs : List Asked) (number : ℕ) (c : Asked)
     → IfTold text (IsBehind types bits reader left cs) → length cs ≡ reader.lines → reader.max_lines ≡ MOST_LINES → reader.max_bytes ≡ MOST_BYTES
     → ((t : List ℕ) → StandsIn t reader left → Shows types bits t reader (step.Command number c))
     → ((t : List ℕ) → StandsIn t reader left → StandsIn t reader' left')
-    → state_lines (cs ++ c ∷ []) ≤ MOST_STATES
+    → state_lines (cs ++ c ∷ []) ≤ MOST_STATES → maintain_lines (cs ++ c ∷ []) ≤ MOST_MAINTAINS
     → IfTold text (IsBehind types bits reader' left' (cs ++ c ∷ []))
-told_more types bits None reader reader' left left' cs number c told count lines bytes shows stands few_states = tt
-told_more types bits (Some text) reader reader' left left' cs number c told count lines bytes shows stands few_states =
+told_more types bits None reader reader' left left' cs number c told count lines bytes shows stands few_states few_maintains = tt
+told_more types bits (Some text) reader reader' left left' cs number c told count lines bytes shows stands few_states few_maintains =
     let shown = shows text told.1 in
     let within = shown.1 in
     let first = first_more types bits text cs c told.0 (subst (λ k. IsCommandAt types bits (Some text) k c) (sym count) shown.0)
-    (omega (arith, within.lines, count, lines)) (subst (λ k. end_of (k + 1) text ≤ MOST_BYTES) (sym count) (omega (arith, within.bytes, bytes))) few_states in
+    (omega (arith, within.lines, count, lines)) (subst (λ k. end_of (k + 1) text ≤ MOST_BYTES) (sym count) (omega (arith, within.bytes, bytes))) few_states few_maintains in
     (first, stands text told.1)
 
 first_of : (types : Types) (bits : ℕ) (text : Option (List ℕ)) (cs : List Asked) (reader : Reading) (left : Option (List ℕ)) → IfTold text (IsBehind types bits reader left cs) → IfTold text (λ t. AreFirst types bits t cs)
@@ -123,7 +219,7 @@ first_reading = record { ahead = []; passed = 0; lines = 0; given = 0; max_lines
 
 pub first_none : (types : Types) (bits : ℕ) (text : List ℕ) → AreFirst types bits text []
 unfolding end_of
-first_none types bits text = record { asked = λ at c there. absurd (no_item at c there); some = omega arith; few = omega arith; within = omega arith; few_states = omega arith }
+first_none types bits text = record { asked = λ at c there. absurd (no_item at c there); some = omega arith; few = omega arith; within = omega arith; few_states = omega arith; few_maintains = omega arith }
   where
     no_item : (k : ℕ) (x : Asked) → slice_get [] k ≡ Some x → ⊥
     no_item zero x h = cc h
@@ -133,71 +229,78 @@ told_none : (types : Types) (bits : ℕ) (text : Option (List ℕ)) → IfTold t
 told_none types bits None = tt
 told_none types bits (Some t) = (first_none types bits t, start_at t MOST_LINES MOST_BYTES)
 
-pub so_far_new : (s : Setting) (types : Types) (plans : ℕ → List Fate) (text before : Option (List ℕ)) (reader : Reading) (c : Cell) → IsSetting s → reader ≡ first_reading → IsKept s plans [] c → IsSoFar s types plans text reader text 0 c before before
-so_far_new s types plans text before reader c setting is kept = subst (λ r. IsSoFar s types plans text r text 0 c before before) (sym is) (record {
+abbrev pub no_counts : Counts
+no_counts = record { states = 0; maintains = 0 }
+
+pub so_far_new : (s : Setting) (types : Types) (plans : ℕ → List Fate) (text before : Option (List ℕ)) (reader : Reading) (c : Cell) → IsSetting s → reader ≡ first_reading → IsKept s plans [] c → c.upkeeps ≡ [] → IsSoFar s types plans text reader text no_counts c before before
+so_far_new s types plans text before reader c setting is kept none = subst (λ r. IsSoFar s types plans text r text no_counts c before before) (sym is) (record {
   setting = setting;
   commands = [];
   count = refl;
   states_are = refl;
   few_states = omega arith;
+  maintains_are = refl;
+  few_maintains = omega arith;
   kept = kept;
   output = Appends-nil before;
+  upkept = none_upkept status.Done s c none;
   told = told_none types s.bits text;
 })
 
-pub so_far_ready : (s : Setting) (types : Types) (plans : ℕ → List Fate) (text left : Option (List ℕ)) (reader : Reading) (states : ℕ) (c : Cell) (before now : Option (List ℕ)) (number : ℕ)
-    → IsSoFar s types plans text reader left states c before now → number ≡ reader.lines + 1 → IsReady s number c
-so_far_ready s types plans text left reader states c before now number so is = record { setting = so.setting; plans = plans; commands = so.commands; kept = so.kept; next = omega (arith, is, so.count) }
+pub so_far_ready : (s : Setting) (types : Types) (plans : ℕ → List Fate) (text left : Option (List ℕ)) (reader : Reading) (counts : Counts) (c : Cell) (before now : Option (List ℕ)) (number : ℕ)
+    → IsSoFar s types plans text reader left counts c before now → number ≡ reader.lines + 1 → IsReady s number c
+so_far_ready s types plans text left reader counts c before now number so is = record { setting = so.setting; plans = plans; commands = so.commands; kept = so.kept; next = omega (arith, is, so.count) }
 
 -- what one line more keeps, whatever was written
-record IsMore (s : Setting) (types : Types) (plans : ℕ → List Fate) (text left' : Option (List ℕ)) (reader reader' : Reading) (counted : ℕ) (cs : List Asked) (old new : Cell) (number : ℕ) (c : Asked) : Type 0 where
+record IsMore (s : Setting) (types : Types) (plans : ℕ → List Fate) (text left' : Option (List ℕ)) (reader reader' : Reading) (counted : Counts) (cs : List Asked) (old new : Cell) (number : ℕ) (c : Asked) : Type 0 where
   count : length (cs ++ c ∷ []) ≡ number
-  states_are : counted ≡ state_lines (cs ++ c ∷ [])
-  few_states : counted ≤ MOST_STATES
+  counts_are : AreCounts counted (state_lines (cs ++ c ∷ [])) (maintain_lines (cs ++ c ∷ []))
   kept : IsKept s plans (cs ++ c ∷ []) new
   told : IfTold text (IsBehind types s.bits reader' left' (cs ++ c ∷ []))
-  earlier : output_of s cs new.lanes ≡ output_of s cs old.lanes
-  output : output_of s (cs ++ c ∷ []) new.lanes ≡ output_of s cs old.lanes ++ report_in s old.told number c new.lanes
+  earlier : output_of s cs new ≡ output_of s cs old
+  output : output_of s (cs ++ c ∷ []) new ≡ output_of s cs old ++ report_in s old.told number c new
 
-one_more : (s : Setting) (types : Types) (plans : ℕ → List Fate) (text left left' : Option (List ℕ)) (reader reader' : Reading) (states counted : ℕ) (old new : Cell) (before now : Option (List ℕ)) (number : ℕ) (c : Asked)
-    → (so : IsSoFar s types plans text reader left states old before now) → reader.max_lines ≡ MOST_LINES → reader.max_bytes ≡ MOST_BYTES
+line_more : (s : Setting) (types : Types) (plans : ℕ → List Fate) (text left left' : Option (List ℕ)) (reader reader' : Reading) (counts counted : Counts) (old new : Cell) (before now : Option (List ℕ)) (number : ℕ) (c : Asked)
+    → (so : IsSoFar s types plans text reader left counts old before now) → reader.max_lines ≡ MOST_LINES → reader.max_bytes ≡ MOST_BYTES
     → ((t : List ℕ) → StandsIn t reader left → Shows types s.bits t reader (step.Command number c))
     → ((t : List ℕ) → StandsIn t reader left → StandsIn t reader' left')
-    → states_with states c ≡ Some counted → number ≡ reader.lines + 1 → IsAfter s number c old new
+    → counts_with counts c ≡ Ok counted → number ≡ reader.lines + 1 → IsAfter s number c old new
     → IsMore s types plans text left' reader reader' counted so.commands old new number c
-one_more s types plans text left left' reader reader' states counted old new before now number c so lines bytes shows stands with is after =
+line_more s types plans text left left' reader reader' counts counted old new before now number c so lines bytes shows stands with is after =
     let cs = so.commands in
-    let grown = states_more states counted cs c so.states_are so.few_states with in
+    let grown = counts_more counts counted cs c (record { states_are = so.states_are; few_states = so.few_states; maintains_are = so.maintains_are; few_maintains = so.few_maintains }) with in
     let k : number ≡ length cs + 1 = omega (arith, is, so.count) in
     record {
       count = omega (arith, length-append cs (c ∷ []), k);
-      states_are = grown.0;
-      few_states = grown.1;
+      counts_are = grown;
       kept = kept_more s plans cs c old new number so.kept k after;
-      told = told_more types s.bits text reader reader' left left' cs number c so.told so.count lines bytes shows stands (subst (λ n. n ≤ MOST_STATES) grown.0 grown.1);
+      told = told_more types s.bits text reader reader' left left' cs number c so.told so.count lines bytes shows stands (subst (λ n. n ≤ MOST_STATES) grown.states_are grown.few_states) (subst (λ n. n ≤ MOST_MAINTAINS) grown.maintains_are grown.few_maintains);
       earlier = output_kept s plans cs c old new number so.kept k after;
       output = output_more s plans cs c old new number so.kept k after;
     }
 
-pub so_far_more : (s : Setting) (types : Types) (plans : ℕ → List Fate) (text left left' : Option (List ℕ)) (reader reader' : Reading) (states counted : ℕ) (old new : Cell) (before now now' : Option (List ℕ)) (number : ℕ) (c : Asked)
-    → IsSoFar s types plans text reader left states old before now → reader.max_lines ≡ MOST_LINES → reader.max_bytes ≡ MOST_BYTES
+pub so_far_more : (s : Setting) (types : Types) (plans : ℕ → List Fate) (text left left' : Option (List ℕ)) (reader reader' : Reading) (counts counted : Counts) (old new : Cell) (before now now' : Option (List ℕ)) (number : ℕ) (c : Asked)
+    → IsSoFar s types plans text reader left counts old before now → reader.max_lines ≡ MOST_LINES → reader.max_bytes ≡ MOST_BYTES
     → ((t : List ℕ) → StandsIn t reader left → Shows types s.bits t reader (step.Command number c))
     → ((t : List ℕ) → StandsIn t reader left → StandsIn t reader' left')
-    → states_with states c ≡ Some counted → number ≡ reader.lines + 1 → reader'.lines ≡ reader.lines + 1
-    → IsAfter s number c old new → Appends now now' (report_in s old.told number c new.lanes)
+    → counts_with counts c ≡ Ok counted → number ≡ reader.lines + 1 → reader'.lines ≡ reader.lines + 1
+    → IsAfter s number c old new → IsNoted number c old new → Appends now now' (report_in s old.told number c new)
     → IsSoFar s types plans text reader' left' counted new before now'
-so_far_more s types plans text left left' reader reader' states counted old new before now now' number c so lines bytes shows stands with is grows grown wrote =
+so_far_more s types plans text left left' reader reader' counts counted old new before now now' number c so lines bytes shows stands with is grows grown noted wrote =
     let cs = so.commands in
-    let more = one_more s types plans text left left' reader reader' states counted old new before now number c so lines bytes shows stands with is grown in
+    let more = line_more s types plans text left left' reader reader' counts counted old new before now number c so lines bytes shows stands with is grown in
     record {
       setting = so.setting;
       commands = cs ++ c ∷ [];
       count = omega (arith, more.count, is, grows);
-      states_are = more.states_are;
-      few_states = more.few_states;
+      states_are = (more.counts_are).states_are;
+      few_states = (more.counts_are).few_states;
+      maintains_are = (more.counts_are).maintains_are;
+      few_maintains = (more.counts_are).few_maintains;
       kept = more.kept;
-      output = subst (Appends before now') (sym more.output) (Appends-trans before now now' (output_of s cs old.lanes) (report_in s old.told number c new.lanes) so.output wrote);
+      output = subst (Appends before now') (sym more.output) (Appends-trans before now now' (output_of s cs old) (report_in s old.told number c new) so.output wrote);
       told = more.told;
+      upkept = upkept_more s plans cs c old new number so.kept (omega (arith, is, so.count)) grown status.Done so.upkept (noted_last s c old new number status.Done noted);
     }
 
 -- ---- why no further line is dealt with
@@ -236,22 +339,23 @@ stops_of (status.Limit which) types bits (Some text) left left' reader reader' c
 
 -- ---- the ends
 
-over_with : (end : Status) (s : Setting) (types : Types) (plans : ℕ → List Fate) (text left left' : Option (List ℕ)) (reader reader' : Reading) (states : ℕ) (c : Cell) (before now : Option (List ℕ))
-    → (so : IsSoFar s types plans text reader left states c before now) → reader.max_lines ≡ MOST_LINES → reader.max_bytes ≡ MOST_BYTES
+over_with : (end : Status) (s : Setting) (types : Types) (plans : ℕ → List Fate) (text left left' : Option (List ℕ)) (reader reader' : Reading) (counts : Counts) (c : Cell) (before now : Option (List ℕ))
+    → (so : IsSoFar s types plans text reader left counts c before now) → reader.max_lines ≡ MOST_LINES → reader.max_bytes ≡ MOST_BYTES
     → ((t : List ℕ) → StandsIn t reader left → Finishes t reader end)
     → ((t : List ℕ) → StandsIn t reader left → StandsIn t reader' left')
     → HoldsBack reader reader' end → (last : Option ℕ) (a b : ℕ) → IsReadEnd end last a b
-    → Writes end s so.commands c.lanes before now → EndsAs end s types plans text left' c before now
+    → Writes end s so.commands c before now → EndsAs end s types plans text left' c before now
 over_with end s types plans text left left' reader reader' states c before now so lines bytes finishes stands holds last a b may wrote = inr (record {
   commands = so.commands;
   kept = so.kept;
   first = first_of types s.bits text so.commands reader left so.told;
   stops = stops_of end types s.bits text left left' reader reader' so.commands so.told so.count lines bytes finishes stands holds last a b may;
   output = wrote;
+  upkept = upkept_at end s so.commands c so.upkept;
 })
 
-written_by : (end : Status) (s : Setting) (cs : List Asked) (c : Cell) (before now : Option (List ℕ)) (last : Option ℕ) (a b : ℕ) → IsReadEnd end last a b → Appends before now (output_of s cs c.lanes)
-    → Writes end s cs c.lanes before now
+written_by : (end : Status) (s : Setting) (cs : List Asked) (c : Cell) (before now : Option (List ℕ)) (last : Option ℕ) (a b : ℕ) → IsReadEnd end last a b → Appends before now (output_of s cs c)
+    → Writes end s cs c before now
 written_by status.Done s cs c before now last a b may wrote = wrote
 written_by status.ReadFault s cs c before now last a b may wrote = wrote
 written_by status.Usage s cs c before now last a b may wrote = absurd may
@@ -260,8 +364,8 @@ written_by status.NoMemory s cs c before now last a b may wrote = inl wrote
 written_by (status.Limit which) s cs c before now last a b may wrote = wrote
 
 -- where no line is left to deal with
-pub over_ends : (end : Status) (s : Setting) (types : Types) (plans : ℕ → List Fate) (text left left' : Option (List ℕ)) (reader reader' : Reading) (states : ℕ) (c : Cell) (before now : Option (List ℕ))
-    → IsSoFar s types plans text reader left states c before now → reader.max_lines ≡ MOST_LINES → reader.max_bytes ≡ MOST_BYTES
+pub over_ends : (end : Status) (s : Setting) (types : Types) (plans : ℕ → List Fate) (text left left' : Option (List ℕ)) (reader reader' : Reading) (counts : Counts) (c : Cell) (before now : Option (List ℕ))
+    → IsSoFar s types plans text reader left counts c before now → reader.max_lines ≡ MOST_LINES → reader.max_bytes ≡ MOST_BYTES
     → ((t : List ℕ) → StandsIn t reader left → Finishes t reader end)
     → ((t : List ℕ) → StandsIn t reader left → StandsIn t reader' left')
     → HoldsBack reader reader' end → (last : Option ℕ) (a b : ℕ) → IsReadEnd end last a b
@@ -269,13 +373,13 @@ pub over_ends : (end : Status) (s : Setting) (types : Types) (plans : ℕ → Li
 over_ends end s types plans text left left' reader reader' states c before now so lines bytes finishes stands holds last a b may =
     over_with end s types plans text left left' reader reader' states c before now so lines bytes finishes stands holds last a b may (written_by end s so.commands c before now last a b may so.output)
 
--- where one more line is read as a state than a session may have
-passes_states : (types : Types) (bits : ℕ) (text : Option (List ℕ)) (reader : Reading) (left : Option (List ℕ)) (states : ℕ) (cs : List Asked) (number : ℕ) (c : Asked)
+-- where one more line is of a kind than a session may have
+passes_kind : (of_kind : Asked → Bool) (most : ℕ) (types : Types) (bits : ℕ) (text : Option (List ℕ)) (reader : Reading) (left : Option (List ℕ)) (cs : List Asked) (number : ℕ) (c : Asked)
     → IfTold text (IsBehind types bits reader left cs) → length cs ≡ reader.lines → reader.max_lines ≡ MOST_LINES → reader.max_bytes ≡ MOST_BYTES
     → ((t : List ℕ) → StandsIn t reader left → Shows types bits t reader (step.Command number c))
-    → (is_state c ≡ true) × (states ≡ MOST_STATES) → states ≡ state_lines cs → IfTold text (λ t. PassesStates types bits t cs)
-passes_states types bits None reader left states cs number c told count lines bytes shows full are = tt
-passes_states types bits (Some text) reader left states cs number c told count lines bytes shows full are =
+    → of_kind c ≡ true → count_by of_kind cs ≡ most → IfTold text (λ t. PassesKind of_kind most types bits t cs)
+passes_kind of_kind most types bits None reader left cs number c told count lines bytes shows kind before = tt
+passes_kind of_kind most types bits (Some text) reader left cs number c told count lines bytes shows kind before =
     let shown = shows text told.1 in
     record {
       bytes = shown.0.0;
@@ -284,20 +388,32 @@ passes_states types bits (Some text) reader left states cs number c told count l
       within = subst (λ k. end_of (k + 1) text ≤ MOST_BYTES) (sym count) (omega (arith, shown.1.bytes, bytes));
       command = c;
       asked = shown.0.1.1;
-      state = full.0;
-      before = sym are ∙ full.1;
+      kind = kind;
+      before = before;
     }
 
-pub states_end : (s : Setting) (types : Types) (plans : ℕ → List Fate) (text left left' : Option (List ℕ)) (reader : Reading) (states : ℕ) (c : Cell) (before now : Option (List ℕ)) (number : ℕ) (command : Asked)
-    → IsSoFar s types plans text reader left states c before now → reader.max_lines ≡ MOST_LINES → reader.max_bytes ≡ MOST_BYTES
+full_passes : (which : LimitKind) (s : Setting) (types : Types) (plans : ℕ → List Fate) (text left : Option (List ℕ)) (reader : Reading) (counts : Counts) (c : Cell) (before now : Option (List ℕ)) (number : ℕ) (command : Asked)
+    → (so : IsSoFar s types plans text reader left counts c before now) → reader.max_lines ≡ MOST_LINES → reader.max_bytes ≡ MOST_BYTES
     → ((t : List ℕ) → StandsIn t reader left → Shows types s.bits t reader (step.Command number command))
-    → states_with states command ≡ None → EndsAs (status.Limit limit.States) s types plans text left' c before now
-states_end s types plans text left left' reader states c before now number command so lines bytes shows full = inr (record {
+    → IsFull which counts command → IfTold text (λ t. PassesLimit which types s.bits t so.commands)
+full_passes limit.Lines s types plans text left reader counts c before now number command so lines bytes shows full = absurd full
+full_passes limit.Bytes s types plans text left reader counts c before now number command so lines bytes shows full = absurd full
+full_passes limit.States s types plans text left reader counts c before now number command so lines bytes shows full =
+    passes_kind is_state MOST_STATES types s.bits text reader left so.commands number command so.told so.count lines bytes shows full.0 (sym so.states_are ∙ full.1)
+full_passes limit.Maintains s types plans text left reader counts c before now number command so lines bytes shows full =
+    passes_kind is_maintain MOST_MAINTAINS types s.bits text reader left so.commands number command so.told so.count lines bytes shows full.0 (sym so.maintains_are ∙ full.1)
+
+pub full_end : (s : Setting) (types : Types) (plans : ℕ → List Fate) (text left left' : Option (List ℕ)) (reader : Reading) (counts : Counts) (c : Cell) (before now : Option (List ℕ)) (number : ℕ) (command : Asked) (which : LimitKind)
+    → IsSoFar s types plans text reader left counts c before now → reader.max_lines ≡ MOST_LINES → reader.max_bytes ≡ MOST_BYTES
+    → ((t : List ℕ) → StandsIn t reader left → Shows types s.bits t reader (step.Command number command))
+    → counts_with counts command ≡ Err which → EndsAs (status.Limit which) s types plans text left' c before now
+full_end s types plans text left left' reader counts c before now number command which so lines bytes shows full = inr (record {
   commands = so.commands;
   kept = so.kept;
   first = first_of types s.bits text so.commands reader left so.told;
-  stops = passes_states types s.bits text reader left states so.commands number command so.told so.count lines bytes shows (states_full states (is_state command) full) so.states_are;
+  stops = full_passes which s types plans text left reader counts c before now number command so lines bytes shows (counts_full counts command which full);
   output = so.output;
+  upkept = upkept_at (status.Limit which) s so.commands c so.upkept;
 })
 
 -- the reader holds less than a piece
@@ -321,19 +437,19 @@ no_claim types bits None left cs = tt
 no_claim types bits (Some text) left cs = tt
 
 -- where the sink failed
-pub fault_ends : (why : Stop) (s : Setting) (types : Types) (plans : ℕ → List Fate) (text left left' : Option (List ℕ)) (reader reader' : Reading) (states counted : ℕ) (old new : Cell) (before now now' : Option (List ℕ)) (number : ℕ) (c : Asked)
-    → IsSoFar s types plans text reader left states old before now → reader.max_lines ≡ MOST_LINES → reader.max_bytes ≡ MOST_BYTES
+pub fault_ends : (why : Stop) (s : Setting) (types : Types) (plans : ℕ → List Fate) (text left left' : Option (List ℕ)) (reader reader' : Reading) (counts counted : Counts) (old new : Cell) (before now now' : Option (List ℕ)) (number : ℕ) (c : Asked)
+    → IsSoFar s types plans text reader left counts old before now → reader.max_lines ≡ MOST_LINES → reader.max_bytes ≡ MOST_BYTES
     → ((t : List ℕ) → StandsIn t reader left → Shows types s.bits t reader (step.Command number c))
     → ((t : List ℕ) → StandsIn t reader left → StandsIn t reader' left')
-    → states_with states c ≡ Some counted → number ≡ reader.lines + 1 → reader'.lines ≡ reader.lines + 1 → IsLittle reader' → why ≡ stop.Fault → StopsAs why s number c old new now now'
+    → counts_with counts c ≡ Ok counted → number ≡ reader.lines + 1 → reader'.lines ≡ reader.lines + 1 → IsLittle reader' → why ≡ stop.Fault → StopsAs why s number c old new now now'
     → EndsAs status.WriteFault s types plans text left' new before now'
-fault_ends why s types plans text left left' reader reader' states counted old new before now now' number c so lines bytes shows stands with is grows little fault stopped =
+fault_ends why s types plans text left left' reader reader' counts counted old new before now now' number c so lines bytes shows stands with is grows little fault stopped =
     ended (subst (λ w. StopsAs w s number c old new now now') fault stopped)
   where
-    ended : (IsAfter s number c old new) × AppendsFront now now' (report_in s old.told number c new.lanes) → EndsAs status.WriteFault s types plans text left' new before now'
-    ended (grown, (front, (rest, (whole, wrote)))) =
+    ended : (IsAfter s number c old new) × (IsNoted number c old new × AppendsFront now now' (report_in s old.told number c new)) → EndsAs status.WriteFault s types plans text left' new before now'
+    ended (grown, (noted, (front, (rest, (whole, wrote))))) =
         let cs = so.commands in
-        let more = one_more s types plans text left left' reader reader' states counted old new before now number c so lines bytes shows stands with is grown in
+        let more = line_more s types plans text left left' reader reader' counts counted old new before now number c so lines bytes shows stands with is grown in
         inr (record {
           commands = cs ++ c ∷ [];
           kept = more.kept;
@@ -345,9 +461,10 @@ fault_ends why s types plans text left left' reader reader' states counted old n
             all = refl;
             front = front;
             rest = rest;
-            report = ap₂ (λ told k. report_in s told k c new.lanes) (sym so.kept.told) more.count ∙ whole;
-            output = subst (λ x. Appends before now' (x ++ front)) (sym more.earlier) (Appends-trans before now now' (output_of s cs old.lanes) front so.output wrote);
+            report = ap₂ (λ told k. report_in s told k c new) (sym so.kept.told) more.count ∙ whole;
+            output = subst (λ x. Appends before now' (x ++ front)) (sym more.earlier) (Appends-trans before now now' (output_of s cs old) front so.output wrote);
           };
+          upkept = upkept_more s plans cs c old new number so.kept (omega (arith, is, so.count)) grown status.WriteFault so.upkept (noted_last s c old new number status.WriteFault noted);
         })
 
 appends_kept : (a b c : Option (List ℕ)) (bs : List ℕ) → Appends a b bs → Keeps b c → Appends a c bs
@@ -360,34 +477,42 @@ appends_kept (Some x) (Some y) (Some z) bs p q = q ∙ p
 pub appends_nothing : (a b : Option (List ℕ)) → Keeps a b → Appends a b []
 appends_nothing a b kept = appends_kept a a b [] (Appends-nil a) kept
 
+-- what lanes are alike but for room
+roomier_seen : (old new : Cell) → IsRoomier old new → (lane : ℕ) (w : LaneValue) → slice_get new.lanes lane ≡ Some w → (v : LaneValue) × ((slice_get old.lanes lane ≡ Some v) × (w.journal ≡ v.journal))
+roomier_seen old new r lane w at =
+    let found = element_seen without_room old.lanes new.lanes lane w r.lanes at in
+    (found.0, (found.1.0, ap (λ (x : LaneValue). x.journal) found.1.1))
+
 -- where memory wanted before a line's report was written
-pub memory_ends : (why : Stop) (s : Setting) (types : Types) (plans : ℕ → List Fate) (text left left' : Option (List ℕ)) (reader reader' : Reading) (states counted : ℕ) (old new : Cell) (before now now' : Option (List ℕ)) (number : ℕ) (c : Asked)
-    → IsSoFar s types plans text reader left states old before now → reader.max_lines ≡ MOST_LINES → reader.max_bytes ≡ MOST_BYTES
+pub memory_ends : (why : Stop) (s : Setting) (types : Types) (plans : ℕ → List Fate) (text left left' : Option (List ℕ)) (reader reader' : Reading) (counts counted : Counts) (old new : Cell) (before now now' : Option (List ℕ)) (number : ℕ) (c : Asked)
+    → IsSoFar s types plans text reader left counts old before now → reader.max_lines ≡ MOST_LINES → reader.max_bytes ≡ MOST_BYTES
     → ((t : List ℕ) → StandsIn t reader left → Shows types s.bits t reader (step.Command number c))
     → ((t : List ℕ) → StandsIn t reader left → StandsIn t reader' left')
-    → states_with states c ≡ Some counted → number ≡ reader.lines + 1 → why ≡ stop.Memory → StopsAs why s number c old new now now'
+    → counts_with counts c ≡ Ok counted → number ≡ reader.lines + 1 → why ≡ stop.Memory → StopsAs why s number c old new now now'
     → EndsAs status.NoMemory s types plans text left' new before now'
-memory_ends why s types plans text left left' reader reader' states counted old new before now now' number c so lines bytes shows stands with is memory stopped =
+memory_ends why s types plans text left left' reader reader' counts counted old new before now now' number c so lines bytes shows stands with is memory stopped =
     let told = subst (λ w. StopsAs w s number c old new now now') memory stopped in
-    ended told.0 (appends_kept before now now' (output_of s so.commands old.lanes) so.output told.1)
+    ended told.0 (appends_kept before now now' (output_of s so.commands old) so.output told.1)
   where
-    ended : IsAllOrNothing s number c old new → Appends before now' (output_of s so.commands old.lanes) → EndsAs status.NoMemory s types plans text left' new before now'
+    ended : IsAllOrNothing s number c old new → Appends before now' (output_of s so.commands old) → EndsAs status.NoMemory s types plans text left' new before now'
     ended (inl roomier) wrote = inr (record {
       commands = so.commands;
       kept = kept_roomier s plans so.commands old new roomier so.kept;
       first = first_of types s.bits text so.commands reader left so.told;
       stops = no_claim types s.bits text left' so.commands;
       output = inl (subst (Appends before now') (sym (roomier_output s so.commands old new roomier)) wrote);
+      upkept = upkept_at status.NoMemory s so.commands new (upkept_roomier s so.commands old new (ap (λ (x : Cell). x.upkeeps) roomier.rest) (roomier_seen old new roomier) so.upkept);
     })
     ended (inr grown) wrote =
         let cs = so.commands in
-        let more = one_more s types plans text left left' reader reader' states counted old new before now number c so lines bytes shows stands with is grown in
+        let more = line_more s types plans text left left' reader reader' counts counted old new before now number c so lines bytes shows stands with is grown in
         inr (record {
           commands = cs ++ c ∷ [];
           kept = more.kept;
           first = first_of types s.bits text (cs ++ c ∷ []) reader' left' more.told;
           stops = no_claim types s.bits text left' (cs ++ c ∷ []);
           output = inr (record { earlier = cs; last = c; all = refl; output = subst (Appends before now') (sym more.earlier) wrote });
+          upkept = upkept_more s plans cs c old new number so.kept (omega (arith, is, so.count)) grown status.NoMemory so.upkept (cut_last s c old new number grown);
         })
 
 -- where memory wanted before the first line
@@ -399,14 +524,15 @@ keeps_same : (a : Option (List ℕ)) → Keeps a a
 keeps_same None = tt
 keeps_same (Some x) = refl
 
-pub opened_ends : (s : Setting) (types : Types) (plans : ℕ → List Fate) (text left : Option (List ℕ)) (c : Cell) (before : Option (List ℕ)) → IsKept s plans [] c → EndsAs status.NoMemory s types plans text left c before before
-opened_ends s types plans text left c before kept = inr (record {
+pub opened_ends : (s : Setting) (types : Types) (plans : ℕ → List Fate) (text left : Option (List ℕ)) (c : Cell) (before : Option (List ℕ)) → IsKept s plans [] c → c.upkeeps ≡ [] → EndsAs status.NoMemory s types plans text left c before before
+opened_ends s types plans text left c before kept none = inr (record {
   commands = [];
   kept = kept;
   first = firsts_none types s.bits text;
   stops = no_claim types s.bits text left [];
   output = inl (Appends-nil before);
+  upkept = none_upkept status.NoMemory s c none;
 })
 
-pub unopened_ends : (s : Setting) (types : Types) (plans : ℕ → List Fate) (text left : Option (List ℕ)) (c : Cell) (before : Option (List ℕ)) → (c.lanes ≡ []) × (c.dealt ≡ 0) → EndsAs status.NoMemory s types plans text left c before before
-unopened_ends s types plans text left c before is = inl (record { memory = refl; none = is.0; dealt = is.1; kept = keeps_same before })
+pub unopened_ends : (s : Setting) (types : Types) (plans : ℕ → List Fate) (text left : Option (List ℕ)) (c : Cell) (before : Option (List ℕ)) → (c.lanes ≡ []) × ((c.dealt ≡ 0) × (c.upkeeps ≡ [])) → EndsAs status.NoMemory s types plans text left c before before
+unopened_ends s types plans text left c before is = inl (record { memory = refl; none = is.0; dealt = is.1.0; unkept = is.1.1; kept = keeps_same before })

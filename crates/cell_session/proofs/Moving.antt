@@ -13,21 +13,23 @@ use Rattle.bucket_ids.specs.Buckets.{Low}
 use Rattle.distributor_part.specs.declared.rules.Rules.{Rules}
 use Rattle.lane_core.specs.LaneValues.{LaneValue}
 use Rattle.session_settings.specs.declared.setting.Setting.{Setting}
-use Rattle.session_lanes.specs.Lives.{FeedLine, Deed, Announces, Stops, Starts, Runs, IsCarriedOut, outcome_in}
+use Rattle.session_lanes.specs.Lives.{FeedLine, Deed, Announces, Stops, Starts, Runs, Maintains, IsCarriedOut, outcome_in}
 use Rattle.session_lanes.specs.Serving.{bucket_in}
 use Rattle.session_lanes.proofs.OneLine.{IsLine, deed_is}
+use Rattle.session_lanes.proofs.Upkept.{pass_made}
+use Rattle.reports.specs.declared.answer.Answer.TheVariants as answer
 use Rattle.cell_session.specs.Cells.{Cell, journals}
 use Rattle.cell_session.specs.Deeds.{deeds_of_lane, planned_for}
 use Rattle.cell_session.specs.Keeping.{IsKept}
 use Rattle.cell_session.specs.Lanes.{lane_of_id, journal_in}
 use Rattle.cell_session.specs.Output.{plan_answer}
-use Rattle.cell_session.specs.Steps.{with_room, without_room, after_state, after_stop, after_start, IsOperatedIn, IsDoneInEach, IsTold, IsPlannedIn, IsAfter}
+use Rattle.cell_session.specs.Steps.{with_room, without_room, after_state, after_stop, after_start, IsOperatedIn, IsDoneInEach, IsTold, IsPlannedIn, MayHavePassed, MayHaveAllPassed, IsAfter}
 use Rattle.cell_session.specs.declared.asked.Asked.{Asked}
 use Rattle.cell_session.specs.declared.asked.Asked.TheVariants as command
 use Rattle.cell_session.proofs.Elements.{map_there, element_seen}
 use Rattle.cell_session.proofs.KeptLanes.{lane_there}
 use Rattle.cell_session.proofs.LaneLists.{journal_is, journal_at, journal_past, journal_set, journal_other}
-use Rattle.cell_session.proofs.SessionSteps.{after_plan}
+use Rattle.cell_session.proofs.SessionSteps.{after_plan, takes_same}
 
 -- in each lane the line came, or nothing changed; and whether its carrier takes plans is as it was
 pub record Moves (k : ℕ) (vs ws : List LaneValue) : Type 0 where
@@ -115,6 +117,47 @@ operation_moves : (s : Setting) (plans : ℕ → List Fate) (cs : List Asked) (o
 operation_moves s plans cs op via old new k at x kept d =
     one_moves k old.lanes new.lanes at d.before d.after (ap (λ (c : Cell). c.lanes) d.now) d.there (ap (λ (v : LaneValue). v.takes_plans) (d.ran).after) (inl (line_there s plans cs op via old new k at x kept d))
 
+-- ---- upkeep
+
+passed_line : (k : ℕ) (s : Setting) (v w : LaneValue) → MayHavePassed v w → IsLine k v.journal w.journal ⊎ (w.journal ≡ v.journal)
+passed_line k s v w (inl same) = inr (ap (λ (x : LaneValue). x.journal) same)
+passed_line k s v w (inr m) = inl (deed_is s v.lane Maintains k tt v.journal w.journal (inr (pass_made v w m.0)))
+
+-- a lane that isn't there stays out
+none_there : (vs ws : List LaneValue) (lane : ℕ) → length ws ≡ length vs → length vs ≤ lane → plan_answer (slice_get ws lane) ≡ plan_answer (slice_get vs lane)
+none_there [] [] lane count past = refl
+none_there [] (w ∷ ws) lane count past = absurd (omega (arith, count))
+none_there (v ∷ vs) [] lane count past = absurd (omega (arith, count))
+none_there (v ∷ vs) (w ∷ ws) zero count past = absurd (omega (arith, past))
+none_there (v ∷ vs) (w ∷ ws) (suc lane) count past = none_there vs ws lane (omega (arith, count)) (omega (arith, past))
+
+plan_same : (v w : LaneValue) → w.takes_plans ≡ v.takes_plans → plan_answer (Some w) ≡ plan_answer (Some v)
+plan_same v w takes = ap (λ t. Some (answer.Planned t)) takes
+
+all_move : (s : Setting) (k : ℕ) (vs ws : List LaneValue) → MayHaveAllPassed vs ws → Moves k vs ws
+all_move s k vs ws d = record {
+  journal = λ lane. elim (cases_lt lane (length vs)) [
+    | inl there ↦
+        let v = lane_there vs lane there in
+        let w = lane_there ws lane (omega (arith, there, d.count)) in
+        by_step lane v.0 w.0 v.1 w.1 (passed_line k s v.0 w.0 (d.each lane v.0 w.0 v.1 w.1))
+    | inr past ↦ inr (journal_past ws lane (omega (arith, past, d.count)) ∙ sym (journal_past vs lane (omega (arith, past))))
+  ];
+  plans = λ lane. elim (cases_lt lane (length vs)) [
+    | inl there ↦
+        let v = lane_there vs lane there in
+        let w = lane_there ws lane (omega (arith, there, d.count)) in
+        ap plan_answer w.1 ∙ plan_same v.0 w.0 (takes_same v.0 w.0 (d.each lane v.0 w.0 v.1 w.1)) ∙ sym (ap plan_answer v.1)
+    | inr past ↦ none_there vs ws lane d.count (omega (arith, past))
+  ];
+}
+  where
+    by_step : (lane : ℕ) (v w : LaneValue) → slice_get vs lane ≡ Some v → slice_get ws lane ≡ Some w → IsLine k v.journal w.journal ⊎ (w.journal ≡ v.journal)
+        → IsLine k (journal_in lane (journals vs)) (journal_in lane (journals ws)) ⊎ (journal_in lane (journals ws) ≡ journal_in lane (journals vs))
+    by_step lane v w was is (inl line) =
+        inl (subst (λ J. IsLine k J (journal_in lane (journals ws))) (sym (journal_at vs lane v was)) (subst (IsLine k v.journal) (sym (journal_at ws lane w is)) line))
+    by_step lane v w was is (inr same) = inr (journal_at ws lane w is ∙ same ∙ sym (journal_at vs lane v was))
+
 -- ---- any line
 
 pub moves : (s : Setting) (plans : ℕ → List Fate) (cs : List Asked) (c : Asked) (old new : Cell) (k : ℕ) → IsKept s plans cs old → IsAfter s k c old new → Moves k old.lanes new.lanes
@@ -130,6 +173,7 @@ moves s plans cs (command.Start node) old new k kept now =
     each_moves k (after_start node) old.lanes new.lanes (ap (λ (x : Cell). x.lanes) now.now) (λ v. refl) (λ lane v. inl (deed_is s (bucket_in s lane) (Starts node) k tt v.journal (after_start node v).journal refl))
 moves s plans cs (command.Net at fates) old new k kept now =
     one_moves k old.lanes new.lanes at now.before (after_plan fates now.before) (ap (λ (x : Cell). x.lanes) now.now) now.there refl (inr refl)
+moves s plans cs command.Maintain old new k kept now = all_move s k old.lanes new.lanes now.lanes
 
 -- ---- room alone
 

@@ -58,6 +58,7 @@ by_once (Ok (said.State text deaf)) a b p q = of_text_once text deaf a b p q
 by_once (Ok (said.Stop node)) a b p q = p ∙ sym q
 by_once (Ok (said.Start node)) a b p q = p ∙ sym q
 by_once (Ok (said.Net lane fates)) a b p q = p ∙ sym q
+by_once (Ok said.Maintain) a b p q = p ∙ sym q
 by_once (Err why) a b p q = p ∙ sym q
 
 pub asked_once : (types : Types) (bits : ℕ) (bytes : List ℕ) (a b : Asked) → IsAsked types bits bytes a → IsAsked types bits bytes b → a ≡ b

@@ -13,16 +13,18 @@ use Rattle.session_lanes.specs.Serving.{bucket_in}
 use Rattle.session_lanes.proofs.Answered.{found_written}
 use Rattle.session_lanes.proofs.OneLine.{IsLine}
 use Rattle.cell_session.specs.Answering.{IsRoomier}
-use Rattle.cell_session.specs.Cells.{Cell, journals}
+use Rattle.cell_session.specs.Cells.{Cell, journals, journals_of}
 use Rattle.cell_session.specs.Deeds.{first_told, told_next, told_by, told_of}
 use Rattle.cell_session.specs.Keeping.{IsKept}
 use Rattle.cell_session.specs.Lanes.{Journal, lane_of_id, journal_in, AreLegal}
-use Rattle.cell_session.specs.Output.{outcome_answer, closed_answer, operation_answer, bytes_of, report_in, output_from, output_of}
+use Rattle.cell_session.specs.Output.{outcome_answer, closed_answer, operation_answer, upkeep_answer, bytes_of, report_in, output_from, output_of}
+use Rattle.cell_session.specs.Spans.{spans_of}
 use Rattle.cell_session.specs.Steps.{without_room, IsAfter}
 use Rattle.cell_session.specs.declared.asked.Asked.{Asked}
 use Rattle.cell_session.specs.declared.asked.Asked.TheVariants as command
 use Rattle.cell_session.proofs.KeptLanes.{kept_legal}
 use Rattle.cell_session.proofs.Moving.{Moves, moves, journals_seen, plans_seen}
+use Rattle.cell_session.proofs.SessionSteps.{LeavesSpans, leaves_spans}
 
 -- an earlier line's answer stays
 closed_same : (s : Setting) (lane k j : ℕ) (J K : Journal) (o : Option Outcome) → IsLegal (setting_of (bucket_in s lane) s.rules) J → IsLine k J K → outcome_in j J ≡ o → closed_answer o K ≡ closed_answer o J
@@ -46,26 +48,27 @@ moved_answer s lane k j J K (inr same) legal h = ap (λ x. closed_answer (outcom
 operation_stays : (s : Setting) (j k : ℕ) (id : List ℕ) (vs ws : List LaneValue) → Moves k vs ws → AreLegal s (journals vs) → j ≢ k → operation_answer s j id (journals ws) ≡ operation_answer s j id (journals vs)
 operation_stays s j k id vs ws m legal h = let lane = lane_of_id s.bits id in moved_answer s lane k j (journal_in lane (journals vs)) (journal_in lane (journals ws)) (m.journal lane) (legal lane) h
 
-report_stays : (s : Setting) (told : Told) (j k : ℕ) (c : Asked) (vs ws : List LaneValue) → Moves k vs ws → AreLegal s (journals vs) → j ≢ k → report_in s told j c ws ≡ report_in s told j c vs
-report_stays s told j k command.Blank vs ws m legal h = refl
-report_stays s told j k command.TooLong vs ws m legal h = refl
-report_stays s told j k (command.Bad why) vs ws m legal h = refl
-report_stays s told j k (command.Feed op via) vs ws m legal h = ap (bytes_of j) (operation_stays s j k op.id vs ws m legal h)
-report_stays s told j k (command.State state deaf) vs ws m legal h = refl
-report_stays s told j k (command.BadState offset) vs ws m legal h = refl
-report_stays s told j k (command.Stop node) vs ws m legal h = refl
-report_stays s told j k (command.Start node) vs ws m legal h = refl
-report_stays s told j k (command.Net lane fates) vs ws m legal h = ap (bytes_of j) (m.plans lane)
+report_stays : (s : Setting) (told : Told) (j k : ℕ) (c : Asked) (vs ws : Cell) → Moves k vs.lanes ws.lanes → LeavesSpans k vs ws → AreLegal s (journals_of vs) → j ≢ k → report_in s told j c ws ≡ report_in s told j c vs
+report_stays s told j k command.Blank vs ws m spans legal h = refl
+report_stays s told j k command.TooLong vs ws m spans legal h = refl
+report_stays s told j k (command.Bad why) vs ws m spans legal h = refl
+report_stays s told j k (command.Feed op via) vs ws m spans legal h = ap (bytes_of j) (operation_stays s j k op.id vs.lanes ws.lanes m legal h)
+report_stays s told j k (command.State state deaf) vs ws m spans legal h = refl
+report_stays s told j k (command.BadState offset) vs ws m spans legal h = refl
+report_stays s told j k (command.Stop node) vs ws m spans legal h = refl
+report_stays s told j k (command.Start node) vs ws m spans legal h = refl
+report_stays s told j k (command.Net lane fates) vs ws m spans legal h = ap (bytes_of j) (m.plans lane)
+report_stays s told j k command.Maintain vs ws m spans legal h = ap (λ o. bytes_of j (upkeep_answer o)) (spans j (λ e. h (sym e)))
 
 below_apart : (start n k : ℕ) → start + suc n ≤ k → start ≢ k
 below_apart start n k h e = omega arith
 
-output_stays : (s : Setting) (told : Told) (start k : ℕ) (cs : List Asked) (vs ws : List LaneValue) → Moves k vs ws → AreLegal s (journals vs) → start + length cs ≤ k → output_from s told start cs ws ≡ output_from s told start cs vs
-output_stays s told start k [] vs ws m legal h = refl
-output_stays s told start k (c ∷ cs) vs ws m legal h =
-    ap₂ (λ a b. a ++ b) (report_stays s told start k c vs ws m legal (below_apart start (length cs) k h)) (output_stays s (told_next c told) (suc start) k cs vs ws m legal (omega arith))
+output_stays : (s : Setting) (told : Told) (start k : ℕ) (cs : List Asked) (vs ws : Cell) → Moves k vs.lanes ws.lanes → LeavesSpans k vs ws → AreLegal s (journals_of vs) → start + length cs ≤ k → output_from s told start cs ws ≡ output_from s told start cs vs
+output_stays s told start k [] vs ws m spans legal h = refl
+output_stays s told start k (c ∷ cs) vs ws m spans legal h =
+    ap₂ (λ a b. a ++ b) (report_stays s told start k c vs ws m spans legal (below_apart start (length cs) k h)) (output_stays s (told_next c told) (suc start) k cs vs ws m spans legal (omega arith))
 
-output-push : (s : Setting) (told : Told) (start : ℕ) (cs : List Asked) (c : Asked) (vs : List LaneValue)
+output-push : (s : Setting) (told : Told) (start : ℕ) (cs : List Asked) (c : Asked) (vs : Cell)
     → output_from s told start (cs ++ c ∷ []) vs ≡ output_from s told start cs vs ++ report_in s (told_by told cs) (start + length cs) c vs
 output-push s told start [] c vs = append-nil (report_in s told start c vs) ∙ ap (λ n. report_in s told n c vs) (omega arith)
 output-push s told start (x ∷ cs) c vs =
@@ -74,30 +77,31 @@ output-push s told start (x ∷ cs) c vs =
     ∙ sym (append_assoc (report_in s told start x vs) (output_from s next (suc start) cs vs) (report_in s (told_by next cs) (start + suc (length cs)) c vs))
 
 -- the output of the earlier lines stays
-pub output_kept : (s : Setting) (plans : ℕ → List Fate) (cs : List Asked) (c : Asked) (old new : Cell) (k : ℕ) → IsKept s plans cs old → k ≡ length cs + 1 → IsAfter s k c old new → output_of s cs new.lanes ≡ output_of s cs old.lanes
-output_kept s plans cs c old new k kept is after = output_stays s (first_told s) 1 k cs old.lanes new.lanes (moves s plans cs c old new k kept after) (kept_legal s plans cs old kept) (omega (arith, is))
+pub output_kept : (s : Setting) (plans : ℕ → List Fate) (cs : List Asked) (c : Asked) (old new : Cell) (k : ℕ) → IsKept s plans cs old → k ≡ length cs + 1 → IsAfter s k c old new → output_of s cs new ≡ output_of s cs old
+output_kept s plans cs c old new k kept is after = output_stays s (first_told s) 1 k cs old new (moves s plans cs c old new k kept after) (leaves_spans s c old new k after) (kept_legal s plans cs old kept) (omega (arith, is))
 
 pub output_more : (s : Setting) (plans : ℕ → List Fate) (cs : List Asked) (c : Asked) (old new : Cell) (k : ℕ) → IsKept s plans cs old → k ≡ length cs + 1 → IsAfter s k c old new
-    → output_of s (cs ++ c ∷ []) new.lanes ≡ output_of s cs old.lanes ++ report_in s old.told k c new.lanes
+    → output_of s (cs ++ c ∷ []) new ≡ output_of s cs old ++ report_in s old.told k c new
 output_more s plans cs c old new k kept is after =
-    output-push s (first_told s) 1 cs c new.lanes ∙ ap₂ (λ a n. a ++ report_in s (told_of s cs) n c new.lanes) (output_kept s plans cs c old new k kept is after) (omega (arith, is))
-    ∙ ap (λ t. output_of s cs old.lanes ++ report_in s t k c new.lanes) (sym kept.told)
+    output-push s (first_told s) 1 cs c new ∙ ap₂ (λ a n. a ++ report_in s (told_of s cs) n c new) (output_kept s plans cs c old new k kept is after) (omega (arith, is))
+    ∙ ap (λ t. output_of s cs old ++ report_in s t k c new) (sym kept.told)
 
 -- room alone changes no report
-report_seen : (s : Setting) (told : Told) (j : ℕ) (c : Asked) (vs ws : List LaneValue) → map without_room ws ≡ map without_room vs → report_in s told j c ws ≡ report_in s told j c vs
-report_seen s told j command.Blank vs ws same = refl
-report_seen s told j command.TooLong vs ws same = refl
-report_seen s told j (command.Bad why) vs ws same = refl
-report_seen s told j (command.Feed op via) vs ws same = ap (λ Js. bytes_of j (operation_answer s j op.id Js)) (journals_seen vs ws same)
-report_seen s told j (command.State state deaf) vs ws same = refl
-report_seen s told j (command.BadState offset) vs ws same = refl
-report_seen s told j (command.Stop node) vs ws same = refl
-report_seen s told j (command.Start node) vs ws same = refl
-report_seen s told j (command.Net lane fates) vs ws same = ap (bytes_of j) (plans_seen vs ws same lane)
+report_seen : (s : Setting) (told : Told) (j : ℕ) (c : Asked) (vs ws : Cell) → map without_room ws.lanes ≡ map without_room vs.lanes → ws.upkeeps ≡ vs.upkeeps → report_in s told j c ws ≡ report_in s told j c vs
+report_seen s told j command.Blank vs ws same spans = refl
+report_seen s told j command.TooLong vs ws same spans = refl
+report_seen s told j (command.Bad why) vs ws same spans = refl
+report_seen s told j (command.Feed op via) vs ws same spans = ap (λ Js. bytes_of j (operation_answer s j op.id Js)) (journals_seen vs.lanes ws.lanes same)
+report_seen s told j (command.State state deaf) vs ws same spans = refl
+report_seen s told j (command.BadState offset) vs ws same spans = refl
+report_seen s told j (command.Stop node) vs ws same spans = refl
+report_seen s told j (command.Start node) vs ws same spans = refl
+report_seen s told j (command.Net lane fates) vs ws same spans = ap (bytes_of j) (plans_seen vs.lanes ws.lanes same lane)
+report_seen s told j command.Maintain vs ws same spans = ap (λ us. bytes_of j (upkeep_answer (spans_of j us))) spans
 
-output_seen : (s : Setting) (told : Told) (start : ℕ) (cs : List Asked) (vs ws : List LaneValue) → map without_room ws ≡ map without_room vs → output_from s told start cs ws ≡ output_from s told start cs vs
-output_seen s told start [] vs ws same = refl
-output_seen s told start (c ∷ cs) vs ws same = ap₂ (λ a b. a ++ b) (report_seen s told start c vs ws same) (output_seen s (told_next c told) (suc start) cs vs ws same)
+output_seen : (s : Setting) (told : Told) (start : ℕ) (cs : List Asked) (vs ws : Cell) → map without_room ws.lanes ≡ map without_room vs.lanes → ws.upkeeps ≡ vs.upkeeps → output_from s told start cs ws ≡ output_from s told start cs vs
+output_seen s told start [] vs ws same spans = refl
+output_seen s told start (c ∷ cs) vs ws same spans = ap₂ (λ a b. a ++ b) (report_seen s told start c vs ws same spans) (output_seen s (told_next c told) (suc start) cs vs ws same spans)
 
-pub roomier_output : (s : Setting) (cs : List Asked) (old new : Cell) → IsRoomier old new → output_of s cs new.lanes ≡ output_of s cs old.lanes
-roomier_output s cs old new r = output_seen s (first_told s) 1 cs old.lanes new.lanes r.lanes
+pub roomier_output : (s : Setting) (cs : List Asked) (old new : Cell) → IsRoomier old new → output_of s cs new ≡ output_of s cs old
+roomier_output s cs old new r = output_seen s (first_told s) 1 cs old new r.lanes (ap (λ (x : Cell). x.upkeeps) r.rest)

@@ -6,7 +6,7 @@ use Rattle.session_settings.specs.declared.setting.Setting.{Setting}
 use Rattle.cell_session.specs.declared.asked.Asked.{Asked}
 use Rattle.cell_session.specs.Cells.{Cell}
 use Rattle.cell_session.specs.Output.{report_in}
-use Rattle.cell_session.specs.Steps.{IsAfter, without_room}
+use Rattle.cell_session.specs.Steps.{IsAfter, IsNoted, without_room}
 use Rattle.cell_session.specs.declared.answering.Stop.{Stop}
 use Rattle.cell_session.specs.declared.answering.Stop.TheVariants as stop
 
@@ -22,5 +22,6 @@ IsAllOrNothing s line asked old new = IsRoomier old new ⊎ IsAfter s line asked
 -- a fault comes after the line was dealt with, and a front of the report was written; want of memory
 -- comes before anything is written
 abbrev pub StopsAs : Stop → Setting → ℕ → Asked → Cell → Cell → Option (List ℕ) → Option (List ℕ) → Type 0
-StopsAs stop.Fault s line asked old new before now = IsAfter s line asked old new × AppendsFront before now (report_in s old.told line asked new.lanes)
+StopsAs stop.Fault s line asked old new before now =
+    IsAfter s line asked old new × (IsNoted line asked old new × AppendsFront before now (report_in s old.told line asked new))
 StopsAs stop.Memory s line asked old new before now = IsAllOrNothing s line asked old new × Keeps before now

@@ -1,6 +1,5 @@
 -- What a line of a session asks for.
-use Rattle.std.specs.Prelude.{◌≡◌, ◌==◌, ◌⊎◌, ℕ, ◌+◌, ◌<◌, ◌≤◌, ◌^◌, Bool, true, false, List, length, Option, None, Some, Result, Ok, Err, IfSome, if◌then◌else◌}
-use Rattle.std.specs.List.{count_by}
+use Rattle.std.specs.Prelude.{◌≡◌, ◌⊎◌, ℕ, ◌<◌, ◌≤◌, ◌^◌, List, length, Result, Ok, Err, IfSome}
 use Rattle.text_scanners.specs.Refusals.{IsRefusedAt}
 use Rattle.cluster_states.specs.StateTexts.{IsStateText}
 use Rattle.cluster_states.specs.declared.cluster_state.ClusterState.{ClusterState}
@@ -14,7 +13,6 @@ use Rattle.feed_lines.specs.declared.command.Command.{Command}
 use Rattle.feed_lines.specs.declared.command.Command.TheVariants as said
 use Rattle.cell_session.specs.declared.asked.Asked.{Asked}
 use Rattle.cell_session.specs.declared.asked.Asked.TheVariants as asked
-use Rattle.cell_session.specs.declared.limits.TheConstants.{MOST_STATES}
 
 -- the text says this state, or is that of none, up to this place
 abbrev pub IsOfText : List ℕ → ℕ → Asked → Type 0
@@ -30,6 +28,7 @@ IsAskedBy (Ok (said.State text deaf)) a = IsOfText text deaf a
 IsAskedBy (Ok (said.Stop node)) a = a ≡ asked.Stop node
 IsAskedBy (Ok (said.Start node)) a = a ≡ asked.Start node
 IsAskedBy (Ok (said.Net lane fates)) a = a ≡ asked.Net lane fates
+IsAskedBy (Ok said.Maintain) a = a ≡ asked.Maintain
 IsAskedBy (Err why) a = a ≡ asked.Bad why
 
 -- what a line asks for under a schema in a session of 2^bits lanes: a long one is too long, whatever its bytes
@@ -48,29 +47,4 @@ IsOwnAsked bits (asked.BadState offset) = Unit {0}
 IsOwnAsked bits (asked.Stop node) = node < 32
 IsOwnAsked bits (asked.Start node) = node < 32
 IsOwnAsked bits (asked.Net lane fates) = lane < 2 ^ bits
-
--- ---- lines that are read as states
-
--- whether or not its text is that of a state
-abbrev pub is_state : Asked → Bool
-is_state asked.Blank = false
-is_state asked.TooLong = false
-is_state (asked.Bad why) = false
-is_state (asked.Feed op via) = false
-is_state (asked.State state deaf) = true
-is_state (asked.BadState offset) = true
-is_state (asked.Stop node) = false
-is_state (asked.Start node) = false
-is_state (asked.Net lane fates) = false
-
--- how many lines are read as states
-abbrev pub state_lines : List Asked → ℕ
-state_lines commands = count_by is_state commands
-
--- how many lines were read as states, with one more that is; none where a session may not have so many
-abbrev pub one_state_more : ℕ → Option ℕ
-one_state_more states = if states == MOST_STATES then None else Some (states + 1)
-
--- how many lines were read as states, with this one
-abbrev pub states_with : ℕ → Asked → Option ℕ
-states_with states command = if is_state command then one_state_more states else Some states
+IsOwnAsked bits asked.Maintain = Unit {0}

@@ -8,6 +8,7 @@ use Rattle.cell_session.specs.declared.asked.Asked.{Asked}
 use Rattle.cell_session.specs.Cells.{Cell}
 use Rattle.cell_session.specs.Ends.{IfTold, AreFirst, StopsAt, Writes}
 use Rattle.cell_session.specs.Keeping.{IsKept}
+use Rattle.cell_session.specs.Upkeep.{AreUpkept}
 use Rattle.cell_session.specs.declared.status.Status.{Status}
 use Rattle.cell_session.specs.declared.status.Status.TheVariants as status
 
@@ -17,13 +18,15 @@ pub record HasDealt (end : Status) (s : Setting) (types : Types) (plans : ℕ �
   pub kept : IsKept s plans commands c
   pub first : IfTold text (λ t. AreFirst types s.bits t commands)
   pub stops : IfTold text (λ t. StopsAt end types s.bits t left commands)
-  pub output : Writes end s commands c.lanes before now
+  pub output : Writes end s commands c before now
+  pub upkept : AreUpkept end s commands c
 
 -- no lane was made
 pub record HasNothing (end : Status) (c : Cell) (before now : Option (List ℕ)) : Type 0 where
   pub memory : end ≡ status.NoMemory
   pub none : c.lanes ≡ []
   pub dealt : c.dealt ≡ 0
+  pub unkept : c.upkeeps ≡ []
   pub kept : Keeps before now
 
 abbrev pub EndsAs : Status → Setting → Types → (ℕ → List Fate) → Option (List ℕ) → Option (List ℕ) → Cell

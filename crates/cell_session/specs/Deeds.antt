@@ -7,7 +7,7 @@ use Rattle.cluster_states.specs.declared.cluster_state.ClusterState.{ClusterStat
 use Rattle.cluster_states.specs.declared.states.PublishFault.{PublishFault}
 use Rattle.messages.specs.declared.operation.Operation.{Operation}
 use Rattle.session_settings.specs.declared.setting.Setting.{Setting}
-use Rattle.session_lanes.specs.Lives.{Deed, Announces, Stops, Starts, Runs}
+use Rattle.session_lanes.specs.Lives.{Deed, Announces, Stops, Starts, Runs, Maintains}
 use Rattle.cell_session.specs.Lanes.{lane_of_id}
 use Rattle.cell_session.specs.declared.asked.Asked.{Asked}
 use Rattle.cell_session.specs.declared.asked.Asked.TheVariants as command
@@ -34,6 +34,7 @@ told_next (command.BadState offset) told = told
 told_next (command.Stop node) told = told
 told_next (command.Start node) told = told
 told_next (command.Net at fates) told = told
+told_next command.Maintain told = told
 
 -- once these lines are dealt with, the oldest first
 abbrev pub told_by : Told → List Asked → Told
@@ -52,8 +53,8 @@ abbrev pub with_state : Option PublishFault → ClusterState → ℕ → List De
 with_state None state deaf deeds = Announces state deaf ∷ deeds
 with_state (Some why) state deaf deeds = deeds
 
--- with what this line does there, where these states are told: a state is announced, a node stops or starts in every
--- lane, and an operation runs in that of its document
+-- with what this line does there, where these states are told: a state is announced, a node stops or starts and upkeep
+-- is made in every lane, and an operation runs in that of its document
 abbrev pub with_line : Setting → ℕ → Told → ℕ → Asked → List Deed → List Deed
 with_line s lane told line command.Blank deeds = deeds
 with_line s lane told line command.TooLong deeds = deeds
@@ -64,6 +65,7 @@ with_line s lane told line (command.BadState offset) deeds = deeds
 with_line s lane told line (command.Stop node) deeds = Stops node ∷ deeds
 with_line s lane told line (command.Start node) deeds = Starts node ∷ deeds
 with_line s lane told line (command.Net at fates) deeds = deeds
+with_line s lane told line command.Maintain deeds = Maintains ∷ deeds
 
 -- with these lines, the oldest first, of which the first has this number
 abbrev pub with_lines : Setting → ℕ → Told → ℕ → List Asked → List Deed → List Deed
@@ -87,6 +89,7 @@ planned_next lane takes (command.BadState offset) planned = planned
 planned_next lane takes (command.Stop node) planned = planned
 planned_next lane takes (command.Start node) planned = planned
 planned_next lane takes (command.Net at fates) planned = if at == lane then planned_with takes planned fates else planned
+planned_next lane takes command.Maintain planned = planned
 
 -- behind these, once lines are dealt with, the oldest first
 abbrev pub planned_for : ℕ → Bool → List Fate → List Asked → List Fate

@@ -1,23 +1,25 @@
 -- What each status says.
-use Rattle.std.specs.Prelude.{◌≡◌, ◌⊎◌, ℕ, ◌+◌, ◌<◌, ◌≤◌, true, List, [], ◌∷◌, ◌++◌, length, drop, Option, None, Some, slice_get}
+use Rattle.std.specs.Prelude.{◌≡◌, ◌⊎◌, ℕ, ◌+◌, ◌<◌, ◌≤◌, Bool, true, List, [], ◌∷◌, ◌++◌, length, drop, Option, None, Some, slice_get}
 use Rattle.std.specs.Io.KnownBytes.{Appends, Keeps}
+use Rattle.std.specs.List.{count_by}
 use Rattle.io_ends.specs.Causes.{AppendsFront}
 use Rattle.io_ends.specs.Lines.{lines_of, end_of, NoLineFeed}
 use Rattle.io_ends.specs.declared.next.LimitKind.{LimitKind}
 use Rattle.io_ends.specs.declared.next.LimitKind.TheVariants as limit
 use Rattle.io_ends.specs.declared.sizes.TheConstants.{PIECE}
 use Rattle.doc_types.specs.SchemaCodes.{Types}
-use Rattle.cell_session.specs.Asking.{IsAsked, is_state, state_lines}
+use Rattle.cell_session.specs.Asking.{IsAsked}
+use Rattle.cell_session.specs.Counting.{is_state, is_maintain, state_lines, maintain_lines}
 use Rattle.cell_session.specs.Operations.{IsCommandAt}
 use Rattle.cell_session.specs.declared.asked.Asked.{Asked}
 use Rattle.reports.specs.ReportText.{usage_text}
-use Rattle.lane_core.specs.LaneValues.{LaneValue}
+use Rattle.cell_session.specs.Cells.{Cell}
 use Rattle.cell_session.specs.Deeds.{told_of}
 use Rattle.cell_session.specs.Output.{report_in, output_of}
 use Rattle.cell_session.specs.Lanes.{Journal}
 use Rattle.session_settings.specs.Settings.{lane_count}
 use Rattle.session_settings.specs.declared.setting.Setting.{Setting}
-use Rattle.cell_session.specs.declared.limits.TheConstants.{MOST_LINES, MOST_BYTES, MOST_STATES}
+use Rattle.cell_session.specs.declared.limits.TheConstants.{MOST_LINES, MOST_BYTES, MOST_STATES, MOST_MAINTAINS}
 use Rattle.cell_session.specs.declared.status.Status.{Status}
 use Rattle.cell_session.specs.declared.status.Status.TheVariants as status
 
@@ -27,13 +29,14 @@ IfTold None P = Unit {0}
 IfTold (Some bytes) P = P bytes
 
 -- these are what the first lines of a text ask for under a schema in a session of 2^bits lanes; the lines end within
--- the limits, and no more of them are read as states than a session may have
+-- the limits, and no more of them are read as states, and as upkeep, than a session may have
 pub record AreFirst (types : Types) (bits : ℕ) (text : List ℕ) (commands : List Asked) : Type 0 where
   pub asked : (at : ℕ) (c : Asked) → slice_get commands at ≡ Some c → IsCommandAt types bits (Some text) at c
   pub some : length commands ≤ length (lines_of text)
   pub few : length commands ≤ MOST_LINES
   pub within : end_of (length commands) text ≤ MOST_BYTES
   pub few_states : state_lines commands ≤ MOST_STATES
+  pub few_maintains : maintain_lines commands ≤ MOST_MAINTAINS
 
 -- the first so many lines ask for commands of which this holds
 abbrev pub OfFirst : Types → ℕ → List ℕ → ℕ → (List Asked → Type 0) → Type 0
@@ -63,26 +66,26 @@ abbrev pub IsReadNear : List ℕ → ℕ → List ℕ → Type 0
 IsReadNear text count left =
     (held : List ℕ) × ((length held < PIECE) × (drop (end_of count text) text ≡ held ++ left))
 
--- there is one line more, which ends within the limits and is read as a state, and as many lines before it were as a
--- session may have
-pub record PassesStates (types : Types) (bits : ℕ) (text : List ℕ) (commands : List Asked) : Type 0 where
+-- there is one line more, which ends within the limits and is of a kind, and as many lines before it were as a session
+-- may have
+pub record PassesKind (of_kind : Asked → Bool) (most : ℕ) (types : Types) (bits : ℕ) (text : List ℕ) (commands : List Asked) : Type 0 where
   pub bytes : List ℕ
   pub line : slice_get (lines_of text) (length commands) ≡ Some bytes
   pub few : length commands < MOST_LINES
   pub within : end_of (length commands + 1) text ≤ MOST_BYTES
   pub command : Asked
   pub asked : IsAsked types bits bytes command
-  pub state : is_state command ≡ true
-  pub before : state_lines commands ≡ MOST_STATES
+  pub kind : of_kind command ≡ true
+  pub before : count_by of_kind commands ≡ most
 
--- there is one line more, and it is past the limit; no line is read as upkeep yet
+-- there is one line more, and it is past the limit
 abbrev pub PassesLimit : LimitKind → Types → ℕ → List ℕ → List Asked → Type 0
 PassesLimit limit.Lines types bits text commands =
     (length commands < length (lines_of text)) × (length commands ≡ MOST_LINES)
 PassesLimit limit.Bytes types bits text commands = (length commands < length (lines_of text))
     × ((length commands < MOST_LINES) × (MOST_BYTES < end_of (length commands + 1) text))
-PassesLimit limit.States types bits text commands = PassesStates types bits text commands
-PassesLimit limit.Maintains types bits text commands = ⊥
+PassesLimit limit.States types bits text commands = PassesKind is_state MOST_STATES types bits text commands
+PassesLimit limit.Maintains types bits text commands = PassesKind is_maintain MOST_MAINTAINS types bits text commands
 
 -- why no line was dealt with behind those that asked for these
 abbrev pub StopsAt : Status → Types → ℕ → List ℕ → Option (List ℕ) → List Asked → Type 0
@@ -101,32 +104,32 @@ DealsWith end types bits text count left = OfFirst types bits text count (StopsA
 -- ---- the bytes written
 
 -- the sink took the reports of all lines but the last, and a front of that one's
-pub record TakesFront (s : Setting) (commands : List Asked) (lanes : List LaneValue)
+pub record TakesFront (s : Setting) (commands : List Asked) (cell : Cell)
     (before now : Option (List ℕ)) : Type 0 where
   pub earlier : List Asked
   pub last : Asked
   pub all : commands ≡ earlier ++ last ∷ []
   pub front : List ℕ
   pub rest : List ℕ
-  pub report : report_in s (told_of s earlier) (length commands) last lanes ≡ front ++ rest
-  pub output : Appends before now (output_of s earlier lanes ++ front)
+  pub report : report_in s (told_of s earlier) (length commands) last cell ≡ front ++ rest
+  pub output : Appends before now (output_of s earlier cell ++ front)
 
 -- the sink took the reports of all lines but the last
-pub record TakesAllButOne (s : Setting) (commands : List Asked) (lanes : List LaneValue)
+pub record TakesAllButOne (s : Setting) (commands : List Asked) (cell : Cell)
     (before now : Option (List ℕ)) : Type 0 where
   pub earlier : List Asked
   pub last : Asked
   pub all : commands ≡ earlier ++ last ∷ []
-  pub output : Appends before now (output_of s earlier lanes)
+  pub output : Appends before now (output_of s earlier cell)
 
-abbrev pub Writes : Status → Setting → List Asked → List LaneValue → Option (List ℕ) → Option (List ℕ) → Type 0
-Writes status.Done s commands lanes before now = Appends before now (output_of s commands lanes)
-Writes status.ReadFault s commands lanes before now = Appends before now (output_of s commands lanes)
-Writes (status.Limit which) s commands lanes before now = Appends before now (output_of s commands lanes)
-Writes status.WriteFault s commands lanes before now = TakesFront s commands lanes before now
-Writes status.NoMemory s commands lanes before now =
-    Appends before now (output_of s commands lanes) ⊎ TakesAllButOne s commands lanes before now
-Writes status.Usage s commands lanes before now = ⊥
+abbrev pub Writes : Status → Setting → List Asked → Cell → Option (List ℕ) → Option (List ℕ) → Type 0
+Writes status.Done s commands cell before now = Appends before now (output_of s commands cell)
+Writes status.ReadFault s commands cell before now = Appends before now (output_of s commands cell)
+Writes (status.Limit which) s commands cell before now = Appends before now (output_of s commands cell)
+Writes status.WriteFault s commands cell before now = TakesFront s commands cell before now
+Writes status.NoMemory s commands cell before now =
+    Appends before now (output_of s commands cell) ⊎ TakesAllButOne s commands cell before now
+Writes status.Usage s commands cell before now = ⊥
 
 -- ---- wrong words
 

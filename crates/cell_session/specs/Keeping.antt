@@ -1,5 +1,5 @@
 -- What holds of the lanes between two lines.
-use Rattle.std.specs.Prelude.{◌≡◌, ℕ, ◌+◌, List, [], length, Some, slice_get}
+use Rattle.std.specs.Prelude.{◌≡◌, ◌<◌, ℕ, ◌+◌, List, [], length, None, Some, slice_get}
 use Rattle.carriers.specs.declared.fate.Fate.{Fate}
 use Rattle.lane_core.specs.LaneValues.{LaneValue}
 use Rattle.session_settings.specs.Settings.{lane_count, IsSetting}
@@ -7,6 +7,7 @@ use Rattle.session_settings.specs.declared.setting.Setting.{Setting}
 use Rattle.session_lanes.specs.Serving.{IsServing}
 use Rattle.cell_session.specs.Cells.{Cell}
 use Rattle.cell_session.specs.Deeds.{told_of, deeds_of_lane, planned_for}
+use Rattle.cell_session.specs.Spans.{spans_of}
 use Rattle.cell_session.specs.declared.asked.Asked.{Asked}
 
 -- all lanes are there, and in each just the deeds of the lines so far were done, and these fates planned
@@ -17,6 +18,8 @@ pub record IsKept (s : Setting) (plans : ℕ → List Fate) (commands : List Ask
   pub lanes : length c.lanes ≡ lane_count s
   pub serving : (lane : ℕ) (v : LaneValue) → slice_get c.lanes lane ≡ Some v
       → IsServing s (planned_for lane v.takes_plans (plans lane) commands) lane (deeds_of_lane s lane commands) v
+  -- no line that is still to come has spans of upkeep
+  pub unkept : (line : ℕ) → c.dealt < line → spans_of line c.upkeeps ≡ None
 
 -- the next line may be dealt with
 pub record IsReady (s : Setting) (line : ℕ) (c : Cell) : Type 0 where

@@ -1,10 +1,13 @@
--- For a reader: Cells, Lanes, Deeds, Operations, Output and Ends. The others serve the calls below the top one.
+-- For a reader: Cells, Lanes, Deeds, Operations, Upkeep, Output and Ends. The others serve the calls below the top one.
 pub mod StatusNumbers
 pub mod Cells
 pub mod Lanes
 pub mod Asking
+pub mod Counting
 pub mod Deeds
 pub mod Operations
+pub mod Spans
+pub mod Upkeep
 pub mod Causes
 pub mod Hearing
 pub mod Output

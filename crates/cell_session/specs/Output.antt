@@ -1,5 +1,5 @@
--- The bytes that answer the lines, read off the lanes.
-use Rattle.std.specs.Prelude.{ℕ, suc, List, [], ◌∷◌, ◌++◌, Option, None, Some, slice_get}
+-- The bytes that answer the lines, read off the lanes and the spans of upkeep.
+use Rattle.std.specs.Prelude.{ℕ, suc, List, [], ◌∷◌, ◌++◌, length, Option, None, Some, slice_get}
 use Rattle.stamps.specs.declared.stamp.Stamp.{Stamp}
 use Rattle.cluster_states.specs.Publishing.{Told, publish_fault}
 use Rattle.cluster_states.specs.declared.cluster_state.ClusterState.{ClusterState}
@@ -18,9 +18,11 @@ use Rattle.messages.specs.declared.outcome.Outcome.TheVariants as outcome
 use Rattle.reports.specs.ReportText.{report_text}
 use Rattle.reports.specs.declared.answer.Answer.{Answer}
 use Rattle.reports.specs.declared.answer.Answer.TheVariants as answer
-use Rattle.cell_session.specs.Cells.{journals}
+use Rattle.cell_session.specs.Cells.{Cell, journals}
 use Rattle.cell_session.specs.Deeds.{first_told, told_next}
 use Rattle.cell_session.specs.Lanes.{Journal, lane_of_id, journal_in}
+use Rattle.cell_session.specs.Spans.{spans_of, is_rested, is_blocked, is_disturbed, count_of}
+use Rattle.session_lanes.specs.declared.spans.UpkeepSpan.{UpkeepSpan}
 
 -- a found document is that of the entry with the stamp
 abbrev pub body_answer : List ℕ → Option Contents → Stamp → Option Answer
@@ -81,31 +83,37 @@ abbrev pub plan_answer : Option LaneValue → Option Answer
 plan_answer None = None
 plan_answer (Some v) = Some (answer.Planned v.takes_plans)
 
+-- how the upkeep of a line went in the lanes
+abbrev pub upkeep_answer : Option (List UpkeepSpan) → Option Answer
+upkeep_answer None = None
+upkeep_answer (Some spans) = Some (answer.Maintained (length spans) (count_of is_rested spans) (count_of is_blocked spans) (count_of is_disturbed spans))
+
 -- the answer of a line, where these states are told before it; a blank line has none
-abbrev pub answer_in : Setting → Told → ℕ → Asked → List LaneValue → Option Answer
-answer_in s told line command.Blank vs = None
-answer_in s told line command.TooLong vs = Some answer.TooLong
-answer_in s told line (command.Bad why) vs = Some (answer.BadLine why)
-answer_in s told line (command.Feed op via) vs = operation_answer s line op.id (journals vs)
-answer_in s told line (command.State state deaf) vs = state_answer (publish_fault told state) state
-answer_in s told line (command.BadState offset) vs = Some (answer.BadState offset)
-answer_in s told line (command.Stop node) vs = Some (answer.Stopped node)
-answer_in s told line (command.Start node) vs = Some (answer.Started node)
-answer_in s told line (command.Net lane fates) vs = plan_answer (slice_get vs lane)
+abbrev pub answer_in : Setting → Told → ℕ → Asked → Cell → Option Answer
+answer_in s told line command.Blank cell = None
+answer_in s told line command.TooLong cell = Some answer.TooLong
+answer_in s told line (command.Bad why) cell = Some (answer.BadLine why)
+answer_in s told line (command.Feed op via) cell = operation_answer s line op.id (journals cell.lanes)
+answer_in s told line (command.State state deaf) cell = state_answer (publish_fault told state) state
+answer_in s told line (command.BadState offset) cell = Some (answer.BadState offset)
+answer_in s told line (command.Stop node) cell = Some (answer.Stopped node)
+answer_in s told line (command.Start node) cell = Some (answer.Started node)
+answer_in s told line (command.Net lane fates) cell = plan_answer (slice_get cell.lanes lane)
+answer_in s told line command.Maintain cell = upkeep_answer (spans_of line cell.upkeeps)
 
 -- the report of what may be an answer
 abbrev pub bytes_of : ℕ → Option Answer → List ℕ
 bytes_of line None = []
 bytes_of line (Some a) = report_text line a
 
-abbrev pub report_in : Setting → Told → ℕ → Asked → List LaneValue → List ℕ
-report_in s told line c vs = bytes_of line (answer_in s told line c vs)
+abbrev pub report_in : Setting → Told → ℕ → Asked → Cell → List ℕ
+report_in s told line c cell = bytes_of line (answer_in s told line c cell)
 
 -- the reports of lines from a number on, in order
-abbrev pub output_from : Setting → Told → ℕ → List Asked → List LaneValue → List ℕ
-output_from s told line [] vs = []
-output_from s told line (c ∷ commands) vs = report_in s told line c vs ++ output_from s (told_next c told) (suc line) commands vs
+abbrev pub output_from : Setting → Told → ℕ → List Asked → Cell → List ℕ
+output_from s told line [] cell = []
+output_from s told line (c ∷ commands) cell = report_in s told line c cell ++ output_from s (told_next c told) (suc line) commands cell
 
 -- the reports of the first lines
-abbrev pub output_of : Setting → List Asked → List LaneValue → List ℕ
-output_of s commands vs = output_from s (first_told s) 1 commands vs
+abbrev pub output_of : Setting → List Asked → Cell → List ℕ
+output_of s commands cell = output_from s (first_told s) 1 commands cell

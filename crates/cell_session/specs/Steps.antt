@@ -1,5 +1,5 @@
 -- The cluster after one line.
-use Rattle.std.specs.Prelude.{◌≡◌, ℕ, true, false, List, map, Option, None, Some, IfSome, IsSome, slice_get, slice_set}
+use Rattle.std.specs.Prelude.{◌≡◌, ◌⊎◌, ℕ, true, false, List, [], ◌∷◌, ◌++◌, length, map, Option, None, Some, IfSome, IsSome, slice_get, slice_set}
 use Rattle.bucket_ids.specs.Buckets.{IsIn}
 use Rattle.carriers.specs.Fates.{planned_with}
 use Rattle.carriers.specs.declared.fate.Fate.{Fate}
@@ -15,9 +15,12 @@ use Rattle.lane_journals.specs.Readers.{held}
 use Rattle.lane_keeping.specs.LaneKeeping.{setting_of}
 use Rattle.lane_states.specs.Growing.{announced, stopped_next, started_next, last_state}
 use Rattle.lane_core.specs.LaneValues.{LaneValue, IsLaneValue}
+use Rattle.lane_core.specs.Upkept.{Maintains}
 use Rattle.lane_operations.specs.OperationKeeping.{IsFresh}
 use Rattle.session_settings.specs.declared.setting.Setting.{Setting}
 use Rattle.session_lanes.specs.Runs.{IsLineRun}
+use Rattle.session_lanes.specs.Upkeep.{IsSpan}
+use Rattle.session_lanes.specs.declared.spans.UpkeepSpan.{UpkeepSpan}
 use Rattle.cell_session.specs.Cells.{Cell}
 use Rattle.cell_session.specs.Deeds.{told_with}
 use Rattle.cell_session.specs.Lanes.{lane_of_id}
@@ -107,6 +110,47 @@ pub record IsPlannedIn (line lane : ℕ) (fates : List Fate) (old new : Cell) : 
   pub there : slice_get old.lanes lane ≡ Some before
   pub now : new ≡ record old { lanes = slice_set old.lanes lane (record before { planned = planned_with before.takes_plans before.planned fates }); dealt = line }
 
+-- ---- upkeep
+
+-- upkeep may be made in a lane
+pub record MayMaintain (v : LaneValue) : Type 0 where
+  pub idle : v.under_way ≡ None
+  pub published : IsSome (last_state v.journal)
+
+-- nothing was done in a lane, or a pass of upkeep was made, of which want of memory may have left out the rest
+abbrev pub MayHavePassed : LaneValue → LaneValue → Type 0
+MayHavePassed v w = (w ≡ v) ⊎ (Maintains v w × IsLaneValue w)
+
+-- that is so of each lane
+pub record MayHaveAllPassed (vs ws : List LaneValue) : Type 0 where
+  pub count : length ws ≡ length vs
+  pub each : (lane : ℕ) (v w : LaneValue) → slice_get vs lane ≡ Some v → slice_get ws lane ≡ Some w → MayHavePassed v w
+
+-- each lane made the pass that its span tells
+pub record AreSpans (vs ws : List LaneValue) (spans : List UpkeepSpan) : Type 0 where
+  pub count : length spans ≡ length vs
+  pub each : (lane : ℕ) (v w : LaneValue) (span : UpkeepSpan) → slice_get vs lane ≡ Some v → slice_get ws lane ≡ Some w
+      → slice_get spans lane ≡ Some span → IsSpan span v w
+
+-- these spans are noted for the line
+pub record HasSpans (line : ℕ) (old new : Cell) : Type 0 where
+  pub spans : List UpkeepSpan
+  pub are : AreSpans old.lanes new.lanes spans
+  pub noted : new.upkeeps ≡ old.upkeeps ++ record { line = line; spans = spans } ∷ []
+
+-- the lanes may have made passes, and spans of all of them are noted, or none
+pub record IsMaintained (line : ℕ) (old new : Cell) : Type 0 where
+  pub lanes : MayHaveAllPassed old.lanes new.lanes
+  pub now : new ≡ record old { lanes = new.lanes; dealt = line; upkeeps = new.upkeeps }
+  pub spans : (new.upkeeps ≡ old.upkeeps) ⊎ HasSpans line old new
+
+-- a line that asked for upkeep has its spans
+abbrev pub IsNoted : ℕ → Asked → Cell → Cell → Type 0
+IsNoted line command.Maintain old new = HasSpans line old new
+IsNoted line _ old new = Unit {0}
+
+-- ---- any line
+
 -- the line was dealt with
 abbrev pub IsAfter : Setting → ℕ → Asked → Cell → Cell → Type 0
 IsAfter s line command.Blank old new = new ≡ record old { dealt = line }
@@ -118,3 +162,4 @@ IsAfter s line (command.BadState offset) old new = new ≡ record old { dealt = 
 IsAfter s line (command.Stop node) old new = IsDoneInEach line (after_stop node) old new
 IsAfter s line (command.Start node) old new = IsDoneInEach line (after_start node) old new
 IsAfter s line (command.Net lane fates) old new = IsPlannedIn line lane fates old new
+IsAfter s line command.Maintain old new = IsMaintained line old new

@@ -5,7 +5,7 @@ ghost use Rattle.cell_session.specs.Answering.{StopsAs};
 ghost use Rattle.cell_session.specs.Asking.{IsOwnAsked};
 ghost use Rattle.cell_session.specs.Output.{bytes_of, report_in};
 ghost use Rattle.cell_session.specs.Keeping.{IsReady};
-ghost use Rattle.cell_session.specs.Steps.{IsAfter};
+ghost use Rattle.cell_session.specs.Steps.{IsAfter, IsNoted};
 ghost use Rattle.cell_session.specs.declared.answering.Stop.TheVariants as stop;
 
 use crate::asked::Asked;
@@ -55,8 +55,9 @@ pub fn answer_line<K: Sink, C: Carrier + Drop>(
     requires ready { IsReady setting.now line cluster.old }
     requires own { IsOwnAsked setting.now.bits command }
     ensures dealt { OnOk result (IsAfter setting.now line command cluster.old cluster.new) }
+    ensures noted { OnOk result (IsNoted line command cluster.old cluster.new) }
     ensures written { OnOk result (Appends (K.written sink.old) (K.written sink.new)
-        (report_in setting.now cluster.old.told line command cluster.new.lanes)) }
+        (report_in setting.now cluster.old.told line command cluster.new)) }
     ensures stopped { IfErr result (λ why.
         StopsAs why setting.now line command cluster.old cluster.new (K.written sink.old) (K.written sink.new)) }
     ensures count { K.faults sink.old ≤ K.faults sink.new }

@@ -1,9 +1,7 @@
-ghost use Rattle.std.specs.Prelude.{◌≡◌, ◌<◌, ◌≤◌, ℕ, IfOk};
-ghost use Rattle.cell_session.specs.Asking.{IsOfText, IsAskedBy, IsAsked, IsOwnAsked, one_state_more, states_with};
-ghost use Rattle.cell_session.specs.declared.limits.TheConstants.{MOST_STATES};
+ghost use Rattle.std.specs.Prelude.{◌≡◌, ◌<◌, ℕ, IfOk};
+ghost use Rattle.cell_session.specs.Asking.{IsOfText, IsAskedBy, IsAsked, IsOwnAsked};
 ghost use Rattle.feed_lines.specs.Meaning.{line_said};
 
-use crate::limits::MOST_STATES;
 use carriers::FateList;
 use cluster_states::ClusterState;
 use doc_types::Schema;
@@ -53,6 +51,8 @@ pub enum Asked {
         lane: u8,
         fates: FateList,
     },
+    /// Upkeep is made in every lane.
+    Maintain,
 }
 
 /// What a line asks for that publishes the state of a text.
@@ -80,6 +80,7 @@ fn short_asked(alloc: Global, schema: &Schema, bits: u8, bytes: &[u8]) -> Result
         Ok(Command::Stop { node }) => Ok(Asked::Stop { node }),
         Ok(Command::Start { node }) => Ok(Asked::Start { node }),
         Ok(Command::Net { lane, fates }) => Ok(Asked::Net { lane, fates }),
+        Ok(Command::Maintain) => Ok(Asked::Maintain),
         Err(LineFault::BadLine { cause }) => Ok(Asked::Bad { cause }),
         Err(LineFault::NoMemory) => Err(NoMemory),
     }
@@ -96,33 +97,4 @@ pub fn asked_of(alloc: Global, schema: &Schema, bits: u8, bytes: &[u8]) -> Resul
         return Ok(Asked::TooLong);
     }
     short_asked(alloc, schema, bits, bytes)
-}
-
-/// How many lines were read as states, with one more that is; none where a session may not have so many.
-fn one_state_more(states: u8) -> Option<u8>
-    requires { states ≤ MOST_STATES }
-    ensures { result ≡ one_state_more states }
-{
-    if states == MOST_STATES {
-        None
-    } else {
-        Some(states + 1)
-    }
-}
-
-/// How many lines were read as states, with this one; none where a session may not have so many.
-pub fn states_with(states: u8, command: &Asked) -> Option<u8>
-    requires { states ≤ MOST_STATES }
-    ensures { result ≡ states_with states command.now }
-{
-    match command {
-        Asked::State { .. } | Asked::BadState { .. } => one_state_more(states),
-        Asked::Blank
-        | Asked::TooLong
-        | Asked::Bad { .. }
-        | Asked::Feed { .. }
-        | Asked::Stop { .. }
-        | Asked::Start { .. }
-        | Asked::Net { .. } => Some(states),
-    }
 }

@@ -1,4 +1,4 @@
-ghost use Rattle.std.specs.Prelude.{◌≡◌, ◌==◌, ◌<◌, ◌≤◌, ◌^◌, [], Some, length, IsTrue, slice_get};
+ghost use Rattle.std.specs.Prelude.{◌≡◌, ◌==◌, ◌<◌, ◌≤◌, ◌^◌, [], Some, length, option_map, IsTrue, slice_get};
 ghost use Rattle.std.specs.Option.{option_copied};
 ghost use Rattle.cluster_states.specs.Publishing.{newest_of};
 ghost use Rattle.lane_journals.specs.KeptJournals.{past};
@@ -9,7 +9,10 @@ ghost use Rattle.cell_session.specs.Deeds.{first_told};
 ghost use Rattle.cell_session.specs.Lanes.{journal_in};
 ghost use Rattle.cell_session.specs.Rows.{ShowsRows, ShowsRowsUnder, AreRowsAt};
 ghost use Rattle.cell_session.specs.Sizes.{HasSize};
+ghost use Rattle.cell_session.specs.Spans.{is_of, spans_of};
+ghost use Rattle.std.specs.List.{find};
 
+use crate::spans::LineSpans;
 use bucket_db::Row;
 use bucket_ids::Bucket;
 use carriers::Carrier;
@@ -18,6 +21,7 @@ use entry_maps::Entry;
 use ideal_nodes::owner;
 use lane_core::Lane;
 use lane_journals::LaneEvent;
+use session_lanes::UpkeepSpan;
 use session_settings::Setting;
 use stamps::Stamp;
 use std::alloc::Global;
@@ -31,6 +35,8 @@ pub struct Cluster<C: Carrier + Drop> {
     pub(crate) states: States,
     pub(crate) lanes: Vec<Lane<C>>,
     pub(crate) dealt: u32,
+    /// How the upkeep went that lines asked for, in line order.
+    pub(crate) upkeeps: Vec<LineSpans>,
 }
 
 impl<C: Carrier + Drop> Model for Cluster<C> {
@@ -41,7 +47,7 @@ impl<C: Carrier + Drop> Model for Cluster<C> {
 
     ghost coded = { cell_code };
 
-    ghost view = { λ c. record { bits = c.bits; told = c.states; lanes = c.lanes.items; dealt = c.dealt } };
+    ghost view = { λ c. record { bits = c.bits; told = c.states; lanes = c.lanes.items; dealt = c.dealt; upkeeps = c.upkeeps.items } };
 
     ghost invariant = { λ c. IsCluster c.bits (length c.lanes.items) };
 }
@@ -56,14 +62,15 @@ impl<C: Carrier + Drop> Cluster<C> {
             states: States::new(1),
             lanes: Vec::new(alloc),
             dealt: 0,
+            upkeeps: Vec::new(alloc),
         }
     }
 
-    /// Whether there is no lane, and no line was dealt with.
+    /// Whether there is no lane, no line was dealt with, and no upkeep was made.
     pub fn is_empty(&self) -> bool
         ensures { result ≡ is_empty self.now }
     {
-        self.lanes.is_empty() && self.dealt == 0
+        self.lanes.is_empty() && self.dealt == 0 && self.upkeeps.is_empty()
     }
 
     /// How many lanes there are.
@@ -123,6 +130,17 @@ impl<C: Carrier + Drop> Cluster<C> {
         size
     }
 
+    /// How the upkeep went in each lane that a line asked for, in lane order; none for another line, and where want
+    /// of memory cut it.
+    pub fn upkeeps(&self, line: u32) -> Option<&[UpkeepSpan]>
+        ensures { option_map (λ spans. spans.now) result ≡ spans_of line self.now.upkeeps }
+    {
+        match spans_at(&self.upkeeps, line) {
+            Some(upkeep) => Some(upkeep.spans.items()),
+            None => None,
+        }
+    }
+
     /// Takes these lanes, in which no line was dealt with.
     pub fn take(&mut self, setting: &Setting, lanes: Vec<Lane<C>>)
         requires setting { IsSetting setting.now }
@@ -132,12 +150,14 @@ impl<C: Carrier + Drop> Cluster<C> {
           told = first_told setting.now;
           lanes = lanes.items;
           dealt = 0;
+          upkeeps = [];
         } }
     {
         self.bits = setting.bits;
         self.states = first_states(setting);
         self.lanes = lanes;
         self.dealt = 0;
+        self.upkeeps.clear();
     }
 
     /// The entry that was written in a lane with a stamp.
@@ -147,6 +167,13 @@ impl<C: Carrier + Drop> Cluster<C> {
     {
         self.lanes.get(usize::from(at))?.entry(stamp)
     }
+}
+
+/// What was noted of a line.
+fn spans_at(upkeeps: &[LineSpans], line: u32) -> Option<&LineSpans>
+    ensures { option_map (λ upkeep. upkeep.now) result ≡ find (is_of line) upkeeps.now }
+{
+    upkeeps.iter().find(|upkeep| upkeep.line == line)
 }
 
 /// The states as the first one is published.

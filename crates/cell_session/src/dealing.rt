@@ -15,7 +15,7 @@ ghost use Rattle.cell_session.specs.Cells.{journals_of};
 ghost use Rattle.cell_session.specs.Keeping.{IsReady};
 ghost use Rattle.cell_session.specs.Lanes.{lane_of_id, journal_in};
 ghost use Rattle.cell_session.specs.Output.{body_answer, found_answer, outcome_answer, entry_of, operation_answer, fault_answer, state_answer, plan_answer, answer_in};
-ghost use Rattle.cell_session.specs.Steps.{with_room, after_stop, after_start, EachLane, IsTelling, IsRoomy, MayAnnounce, MayRun, IsOperatedIn, IsDoneInEach, IsTold, IsToldRoomy, IsPlannedIn, IsAfter};
+ghost use Rattle.cell_session.specs.Steps.{with_room, after_stop, after_start, EachLane, IsTelling, IsRoomy, MayAnnounce, MayRun, IsOperatedIn, IsDoneInEach, IsTold, IsToldRoomy, IsPlannedIn, IsNoted, IsAfter};
 
 use crate::asked::Asked;
 use crate::cluster::Cluster;
@@ -56,7 +56,8 @@ impl<C: Carrier + Drop> Cluster<C> {
         requires ready { IsReady setting.now line self.old }
         requires own { IsOwnAsked setting.now.bits command }
         ensures ok { IfOk result (λ answer. IsAfter setting.now line command self.old self.new
-            × (answer ≡ answer_in setting.now self.old.told line command self.new.lanes)) }
+            × (answer ≡ answer_in setting.now self.old.told line command self.new)) }
+        ensures noted { OnOk result (IsNoted line command self.old self.new) }
         ensures err { OnErr result (IsAllOrNothing setting.now line command self.old self.new) }
     {
         match command {
@@ -83,6 +84,7 @@ impl<C: Carrier + Drop> Cluster<C> {
             Asked::Stop { node } => self.stop(line, node),
             Asked::Start { node } => self.start(line, node),
             Asked::Net { lane, fates } => self.plan(line, lane, &fates),
+            Asked::Maintain => self.maintain(alloc, line),
         }
     }
 

@@ -1,15 +1,15 @@
 //! What all lanes do at once: they make room, which may want memory, and then announce a state, or let a node stop
-//! or start, which takes none.
+//! or start, which takes none; and they make upkeep.
 
-ghost use Rattle.std.specs.Prelude.{◌≡◌, ◌<◌, map, OnOk, OnErr};
+ghost use Rattle.std.specs.Prelude.{◌≡◌, ◌<◌, [], map, OnOk, OnErr};
 ghost use Rattle.lane_core.specs.LaneValues.{LaneValue, IsLaneValue};
-ghost use Rattle.cell_session.specs.Steps.{with_room, without_room, after_state, after_stop, after_start, EachLane, IsRoomy, MayAnnounce};
+ghost use Rattle.cell_session.specs.Steps.{with_room, without_room, after_state, after_stop, after_start, EachLane, IsRoomy, MayAnnounce, MayMaintain, MayHaveAllPassed, AreSpans};
 
 use carriers::Carrier;
 use cluster_states::ClusterState;
 use lane_core::Lane;
 use node_sets::NodeSet;
-use session_lanes::{announce, start, stop};
+use session_lanes::{UpkeepSpan, announce, maintain, start, stop};
 use value_lists::NoMemory;
 
 /// Makes room in each lane for a state, a stop or a start. The only error is want of memory, and then there is room in
@@ -57,4 +57,22 @@ pub fn start_all<C: Carrier + Drop>(lanes: &mut [Lane<C>], node: u8)
     for lane in lanes.iter_mut() {
         start(lane, node);
     }
+}
+
+/// Upkeep is made in each lane, in their order, and how it went is noted. The only error is want of memory; then the
+/// first lanes made theirs, and the next one perhaps a part of it.
+pub fn maintain_all<C: Carrier + Drop>(
+    lanes: &mut [Lane<C>],
+    spans: &mut Vec<UpkeepSpan>,
+) -> Result<(), NoMemory>
+    requires may { EachLane MayMaintain lanes.old }
+    requires none { spans.old.items ≡ [] }
+    ensures passed { MayHaveAllPassed lanes.old lanes.new }
+    ensures spans { OnOk result (AreSpans lanes.old lanes.new spans.new.items) }
+{
+    for lane in lanes.iter_mut() {
+        let span = maintain(lane)?;
+        spans.push(span)?;
+    }
+    Ok(())
 }

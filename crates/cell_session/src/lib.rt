@@ -2,8 +2,9 @@
 //!
 //! `run_one` is the top call; its clauses carry what the product promises, each at a name of its own.
 //! A contract sees a `Cluster` as a `Cell`: the bits that tell its lanes apart, the states that were published,
-//! what each lane is (its journal, newest event first, and the fates of its messages), and how many lines were
-//! dealt with. `specs/Operations.antt` says what each line did, by the deeds of `specs/Deeds.antt`,
+//! what each lane is (its journal, newest event first, and the fates of its messages), how many lines were dealt
+//! with, and how the upkeep went that lines asked for. `specs/Operations.antt` says what each line did, by the deeds of `specs/Deeds.antt`,
+//! `specs/Upkeep.antt` what became of upkeep,
 //! `specs/Output.antt` with which bytes it is answered, read off the lanes, and `specs/Ends.antt` what each
 //! status says.
 //!
@@ -16,6 +17,7 @@
 mod answering;
 pub mod asked;
 pub mod cluster;
+mod counts;
 mod dealing;
 mod every_lane;
 pub mod laws;
@@ -23,9 +25,14 @@ pub mod limits;
 mod next_command;
 pub mod opening;
 pub mod running;
+pub mod spans;
 pub mod status;
+mod upkeep;
 
 pub use asked::Asked;
 pub use cluster::Cluster;
 pub use running::run_one;
+pub use session_lanes::UpkeepSpan;
+pub use spans::{LineSpans, SpanList};
 pub use status::Status;
+pub use upkeep_answers::Upkeep;

@@ -8,3 +8,6 @@ pub const MOST_BYTES: u64 = 67_108_864;
 
 /// The most lines of a session that are read as states.
 pub const MOST_STATES: u8 = 64;
+
+/// The most lines of a session that are read as upkeep.
+pub const MOST_MAINTAINS: u8 = 64;

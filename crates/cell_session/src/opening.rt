@@ -21,6 +21,7 @@ pub fn open_cluster<C: Carriers>(
 ) -> Result<(), NoMemory>
     requires setting { IsSetting setting.now }
     ensures ok { OnOk result (IsKept setting.now (C.plans carriers.old) [] cluster.new) }
+    ensures none { OnOk result (cluster.new.upkeeps ≡ []) }
     ensures err { OnErr result (cluster.new ≡ cluster.old) }
 {
     let lanes = open_lanes(alloc, setting, carriers)?;

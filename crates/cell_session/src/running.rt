@@ -13,10 +13,11 @@ ghost use Rattle.cell_session.specs.Ends.{IfTold, OfFirst, HasLanes, DealsWith, 
 ghost use Rattle.cell_session.specs.Hearing.{HaveHeard};
 ghost use Rattle.cell_session.specs.Lanes.{AreLegal, AreDurable, AreInOrder, AreTogether, AreComplete};
 ghost use Rattle.cell_session.specs.Operations.{HaveOutcomes, HaveFates};
+ghost use Rattle.cell_session.specs.Upkeep.{HaveUpkeeps};
 
 use crate::answering::{Stop, answer_line};
-use crate::asked::states_with;
 use crate::cluster::Cluster;
+use crate::counts::{Counts, counts_with};
 use crate::limits::{MOST_BYTES, MOST_LINES};
 use crate::next_command::{Step, next_command};
 use crate::opening::open_cluster;
@@ -61,8 +62,8 @@ pub fn run_one<S: Source, K: Sink, C: Carriers>(
     ensures lanes { (c : Choice) → Chooses (map string_bytes words.now) c
         → HasLanes result c.setting (journals_of cluster.new) }
 
-    // the lines: which were dealt with, what each of them did, why it was refused or lacked answers, and the bytes
-    // that answer them
+    // the lines: which were dealt with, what each of them did, why it was refused or lacked answers, how upkeep went, and
+    // the bytes that answer them
     ensures dealt_with { (c : Choice) → Chooses (map string_bytes words.now) c
         → IfTold (S.left source.old)
         (λ text. DealsWith result c.schema c.setting.bits text cluster.new.dealt (S.left source.new)) }
@@ -70,11 +71,13 @@ pub fn run_one<S: Source, K: Sink, C: Carriers>(
         → HaveOutcomes c.setting c.schema (S.left source.old) cluster.new.dealt (journals_of cluster.new) }
     ensures causes { (c : Choice) → Chooses (map string_bytes words.now) c
         → HaveCauses c.setting c.schema (S.left source.old) cluster.new.dealt cluster.new.lanes }
+    ensures upkeeps { (c : Choice) → Chooses (map string_bytes words.now) c
+        → HaveUpkeeps result c.setting c.schema (S.left source.old) cluster.new }
     ensures completeness { (c : Choice) → Chooses (map string_bytes words.now) c
         → AreComplete c.setting cluster.new.lanes }
     ensures bytes_written { (c : Choice) → Chooses (map string_bytes words.now) c
         → IfTold (S.left source.old) (λ text. OfFirst c.schema c.setting.bits text cluster.new.dealt
-        (λ commands. Writes result c.setting commands cluster.new.lanes
+        (λ commands. Writes result c.setting commands cluster.new
         (K.written sink.old) (K.written sink.new))) }
 
     // wrong words: the one usage line is written, nothing is read, and the cluster is as it was
@@ -160,20 +163,22 @@ fn run_lines<S: Source, K: Sink, C: Carriers>(
         return Status::NoMemory;
     };
     let mut line = Vec::new(alloc);
-    let mut states = 0u8;
+    let mut counts = Counts {
+        states: 0,
+        maintains: 0,
+    };
     loop {
         let step = next_command(alloc, schema, setting.bits, &mut reader, source, &mut line);
         let (number, command) = match step {
             Step::Command { number, command } => (number, command),
             Step::Over { status } => return status,
         };
-        let Some(counted) = states_with(states, &command) else {
-            return Status::Limit {
-                which: LimitKind::States,
-            };
+        let counted = match counts_with(counts, &command) {
+            Ok(counted) => counted,
+            Err(which) => return Status::Limit { which },
         };
         match answer_line(alloc, setting, number, command, sink, cluster) {
-            Ok(()) => states = counted,
+            Ok(()) => counts = counted,
             Err(Stop::Fault) => return Status::WriteFault,
             Err(Stop::Memory) => return Status::NoMemory,
         }

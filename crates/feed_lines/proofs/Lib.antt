@@ -3,6 +3,7 @@ pub mod TextLaws
 pub mod LineTests
 pub mod LineLaws
 pub mod SettingLaws
+pub mod UpkeepLaws
 pub mod CauseOrder
 pub mod BareLines
 pub mod RangeLaws

@@ -51,15 +51,15 @@ net_is types bits d = net_by (lane_in bits d) (fates_in d)
 
 -- ---- each test holds, and back
 
-two_hold : (a b : Bool) (p q r : Cause) → a ≡ true → b ≡ true → first_cause ((true, p) ∷ (a, q) ∷ (b, r) ∷ []) ≡ None
+pub two_hold : (a b : Bool) (p q r : Cause) → a ≡ true → b ≡ true → first_cause ((true, p) ∷ (a, q) ∷ (b, r) ∷ []) ≡ None
 two_hold a b p q r h k = rw (h, k) refl
 
-each_of_two : (a b : Bool) (p q r : Cause) → first_cause ((true, p) ∷ (a, q) ∷ (b, r) ∷ []) ≡ None → (a ≡ true) × (b ≡ true)
+pub each_of_two : (a b : Bool) (p q r : Cause) → first_cause ((true, p) ∷ (a, q) ∷ (b, r) ∷ []) ≡ None → (a ≡ true) × (b ≡ true)
 each_of_two true true p q r h = (refl, refl)
 each_of_two true false p q r h = cc
 each_of_two false b p q r h = cc
 
-with_true : (a : Bool) → a ≡ true → (a && true) ≡ true
+pub with_true : (a : Bool) → a ≡ true → (a && true) ≡ true
 with_true a h = rw h refl
 
 -- ---- states
@@ -111,6 +111,7 @@ state_by_verb types bits line.State d text deaf verb holds is = state_parts type
 state_by_verb types bits line.Stop d text deaf verb holds is = cc
 state_by_verb types bits line.Start d text deaf verb holds is = cc
 state_by_verb types bits line.Net d text deaf verb holds is = cc
+state_by_verb types bits line.Maintain d text deaf verb holds is = cc
 state_by_verb types bits line.Later d text deaf verb holds is = cc
 
 pub state_means : (types : Types) (bits : ℕ) (d : Data) (text : List ℕ) (deaf : ℕ) → data_said types bits d ≡ Ok (command.State text deaf) → IsState d text deaf
@@ -149,6 +150,7 @@ stop_by_verb types bits line.Stop d node verb holds is =
     node_line line.Stop (codes "stop") d node verb (left _ _ each.0) each.1 cc
 stop_by_verb types bits line.Start d node verb holds is = cc
 stop_by_verb types bits line.Net d node verb holds is = cc
+stop_by_verb types bits line.Maintain d node verb holds is = cc
 stop_by_verb types bits line.Later d node verb holds is = cc
 
 start_by_verb : (types : Types) (bits : ℕ) (v : LineVerb) (d : Data) (node : ℕ) → verb_of d ≡ Some v → first_cause (tests types bits v d) ≡ None → command_in types bits v d ≡ command.Start node
@@ -160,6 +162,7 @@ start_by_verb types bits line.Start d node verb holds is =
     let each = each_of_two (all_stand line.Start (members_of d) && true) (is_some (node_in (codes "start") d)) cause.Unbuilt cause.Key cause.Value holds in
     node_line line.Start (codes "start") d node verb (left _ _ each.0) each.1 cc
 start_by_verb types bits line.Net d node verb holds is = cc
+start_by_verb types bits line.Maintain d node verb holds is = cc
 start_by_verb types bits line.Later d node verb holds is = cc
 
 pub stop_means : (types : Types) (bits : ℕ) (d : Data) (node : ℕ) → data_said types bits d ≡ Ok (command.Stop node) → IsNodeLine line.Stop (codes "stop") d node
@@ -184,7 +187,7 @@ means_start types bits d node p =
 
 -- ---- plans of messages
 
-value_back : {A : Type 0} (f : Data → Option A) (o : Option Data) (x : A) → option_and_then f o ≡ Some x → (d : Data) × (o ≡ Some d) × (f d ≡ Some x)
+pub value_back : {A : Type 0} (f : Data → Option A) (o : Option Data) (x : A) → option_and_then f o ≡ Some x → (d : Data) × (o ≡ Some d) × (f d ≡ Some x)
 value_back f None x h = cc
 value_back f (Some d) x h = (d, refl, h)
 
@@ -218,6 +221,7 @@ net_by_verb types bits line.State d lane fates verb holds is = cc
 net_by_verb types bits line.Stop d lane fates verb holds is = cc
 net_by_verb types bits line.Start d lane fates verb holds is = cc
 net_by_verb types bits line.Net d lane fates verb holds is = net_parts types bits d lane fates verb holds is
+net_by_verb types bits line.Maintain d lane fates verb holds is = cc
 net_by_verb types bits line.Later d lane fates verb holds is = cc
 
 pub net_means : (types : Types) (bits : ℕ) (d : Data) (lane : ℕ) (fates : List Fate) → data_said types bits d ≡ Ok (command.Net lane fates) → IsNet bits d lane fates

@@ -98,6 +98,11 @@ pub record IsNodeLine (v : LineVerb) (key : List ℕ) (d : Data) (node : ℕ) : 
   pub value : get key d ≡ Some said
   pub number : node_of said ≡ Some node
 
+-- the truth value true as the value of the verb
+pub record IsMaintain (d : Data) : Type 0 where
+  pub has_verb : HasVerb line.Maintain d
+  pub value : get (codes "maintain") d ≡ Some (boolean true)
+
 -- the lane whose coming messages are planned, and their fates, in an object with just these two
 pub record IsNet (bits : ℕ) (d : Data) (lane : ℕ) (fates : List Fate) : Type 0 where
   pub has_verb : HasVerb line.Net d

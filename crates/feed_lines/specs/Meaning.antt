@@ -19,7 +19,7 @@ use Rattle.messages.specs.declared.operation.OpKind.{OpKind}
 use Rattle.messages.specs.declared.operation.OpKind.TheVariants as kind
 use Rattle.carriers.specs.declared.fate.Fate.{Fate}
 use Rattle.feed_lines.specs.Values.{node_of}
-use Rattle.feed_lines.specs.Tests.{first_cause, verb_of, id_in, Beside, beside_of, said_in, kinds_for, condition_in, kind_tests, id_tests, feed_tests, own_tests, state_in, deaf_in, node_in, lane_in, fates_in, text_of, tests}
+use Rattle.feed_lines.specs.Tests.{or_false, first_cause, verb_of, id_in, Beside, beside_of, said_in, kinds_for, condition_in, kind_tests, id_tests, feed_tests, own_tests, state_in, deaf_in, node_in, lane_in, fates_in, text_of, tests}
 use Rattle.feed_lines.specs.declared.command.Cause.{Cause}
 use Rattle.feed_lines.specs.declared.command.Cause.TheVariants as cause
 use Rattle.feed_lines.specs.declared.command.Command.{Command}
@@ -44,10 +44,6 @@ kind_in types verb.Put id fields = kind.Put (record { id = id; fields = fields_i
 kind_in types verb.Update id fields = kind.Update (changes_in (kinds_for types id) (said_in fields))
 kind_in types verb.Remove id fields = kind.Remove
 kind_in types verb.Get id fields = kind.Get
-
-abbrev pub or_false : Option Bool → Bool
-or_false None = false
-or_false (Some b) = b
 
 abbrev pub create_in : Option Data → Bool
 create_in None = false
@@ -78,6 +74,7 @@ command_in types bits line.State d = command.State (text_of (state_in d)) (numbe
 command_in types bits line.Stop d = command.Stop (number_of (node_in (codes "stop") d))
 command_in types bits line.Start d = command.Start (number_of (node_in (codes "start") d))
 command_in types bits line.Net d = command.Net (number_of (lane_in bits d)) (list_of (fates_in d))
+command_in types bits line.Maintain d = command.Maintain
 command_in types bits line.Later d = command.Blank
 
 abbrev pub answer_by : {A : Type 0} → Option Cause → A → Result A Cause
@@ -117,7 +114,7 @@ fault_by right fault.NoMemory = fault.NoMemory
 abbrev pub id_said : Types → Verb → List ℕ → Beside → Result Command Cause
 id_said types v id b = answer_by (first_cause (id_tests types v id b)) (feed_in types v id b)
 
--- what an operation, a state, a stop, a start and a plan of messages say behind their keys
+-- what an operation, a state, a stop, a start, a plan of messages and upkeep say behind their keys
 abbrev pub feed_said : Types → Verb → Data → Result Command Cause
 feed_said types v d = answer_by (first_cause (feed_tests types v d)) (feed_in types v (text_of (id_in v d)) (beside_of d))
 
@@ -138,6 +135,10 @@ abbrev pub net_said : Option ℕ → Option (List Fate) → Result Command Cause
 net_said (Some lane) (Some fates) = Ok (command.Net lane fates)
 net_said (Some lane) None = Err cause.Value
 net_said None fates = Err cause.Value
+
+abbrev pub maintain_said : Bool → Result Command Cause
+maintain_said true = Ok command.Maintain
+maintain_said false = Err cause.Value
 
 -- what a line of a verb says that has the right keys
 abbrev pub own_said : Types → ℕ → LineVerb → Data → Result Command Cause

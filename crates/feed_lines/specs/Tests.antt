@@ -43,6 +43,7 @@ is_built line.State = true
 is_built line.Stop = true
 is_built line.Start = true
 is_built line.Net = true
+is_built line.Maintain = true
 is_built line.Later = false
 
 -- the value of `fields`
@@ -77,6 +78,7 @@ has_own_keys line.State d = true
 has_own_keys line.Stop d = true
 has_own_keys line.Start d = true
 has_own_keys line.Net d = has_net_keys (net_of d)
+has_own_keys line.Maintain d = true
 has_own_keys line.Later d = true
 
 -- no key but the verb's own, and those that are wanted
@@ -205,6 +207,15 @@ lane_in bits d = option_and_then (lane_of bits) (in_net (codes "lane") (net_of d
 abbrev pub fates_in : Data → Option (List Fate)
 fates_in d = option_and_then fates_of (in_net (codes "fates") (net_of d))
 
+-- a truth value; false where it isn't there
+abbrev pub or_false : Option Bool → Bool
+or_false None = false
+or_false (Some b) = b
+
+-- the value of a verb is the truth value true
+abbrev pub is_true_in : List ℕ → Data → Bool
+is_true_in key d = or_false (option_and_then as_bool (get key d))
+
 -- what else a line of a verb has to meet
 abbrev pub own_tests : Types → ℕ → LineVerb → Data → List (Bool × Cause)
 own_tests types bits (line.Feed v) d = feed_tests types v d
@@ -212,6 +223,7 @@ own_tests types bits line.State d = (is_some (state_in d) && is_some (deaf_in d)
 own_tests types bits line.Stop d = (is_some (node_in (codes "stop") d), cause.Value) ∷ []
 own_tests types bits line.Start d = (is_some (node_in (codes "start") d), cause.Value) ∷ []
 own_tests types bits line.Net d = (is_some (lane_in bits d) && is_some (fates_in d), cause.Value) ∷ []
+own_tests types bits line.Maintain d = (is_true_in (codes "maintain") d, cause.Value) ∷ []
 own_tests types bits line.Later d = []
 
 -- what a line of a verb has to meet

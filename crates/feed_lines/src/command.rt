@@ -36,6 +36,8 @@ pub enum Command {
         lane: u8,
         fates: FateList,
     },
+    /// Every lane is kept in order: upkeep.
+    Maintain,
 }
 
 /// Why a line is bad; of the causes that a line has, the first in this order.

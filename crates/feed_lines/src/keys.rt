@@ -21,6 +21,7 @@ pub enum LineVerb {
     Stop,
     Start,
     Net,
+    Maintain,
     Later,
 }
 
@@ -28,7 +29,7 @@ pub enum LineVerb {
 fn is_later_verb(key: &str) -> bool
     ensures { result ≡ is_later_verb key.now }
 {
-    key == "search" || key == "maintain" || key == "barrier"
+    key == "search" || key == "barrier"
 }
 
 /// The verb that a key is, if it is one that asks for no document.
@@ -44,6 +45,8 @@ fn other_verb(key: &str) -> Option<LineVerb>
         Some(LineVerb::Start)
     } else if key == "net" {
         Some(LineVerb::Net)
+    } else if key == "maintain" {
+        Some(LineVerb::Maintain)
     } else if is_later_verb(key) {
         Some(LineVerb::Later)
     } else {
@@ -128,6 +131,7 @@ fn may_stand(verb: LineVerb, key: &str) -> bool
         LineVerb::Stop => key == "stop",
         LineVerb::Start => key == "start",
         LineVerb::Net => key == "net",
+        LineVerb::Maintain => key == "maintain",
         LineVerb::Later => true,
     }
 }

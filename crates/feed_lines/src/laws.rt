@@ -12,7 +12,7 @@ ghost use Rattle.conditions.specs.Formulas.{Formula};
 ghost use Rattle.doc_selection.specs.declared.terms.Term.{Term};
 ghost use Rattle.messages.specs.declared.operation.OpKind.TheVariants as kind;
 ghost use Rattle.messages.specs.declared.operation.Operation.{Operation};
-ghost use Rattle.feed_lines.specs.Lines.{Asks, IsLine, IsPut, IsUpdate, IsState, IsNodeLine, IsNet};
+ghost use Rattle.feed_lines.specs.Lines.{Asks, IsLine, IsPut, IsUpdate, IsState, IsNodeLine, IsNet, IsMaintain};
 ghost use Rattle.feed_lines.specs.Meaning.{data_said, line_said};
 ghost use Rattle.feed_lines.specs.Values.{set_of, most_fates, IsFate};
 ghost use Rattle.feed_lines.specs.declared.command.Command.TheVariants as command;
@@ -42,8 +42,8 @@ pub fn lines_are_operations()
         → IsLine types verb.Remove d id condition create via → create ≡ false }
 {}
 
-/// A line asks for a state, a stop, a start or a plan of messages exactly where all that its verb wants holds of
-/// it. The set of the distributors that don't hear has just the numbers of its list.
+/// A line asks for a state, a stop, a start, a plan of messages or upkeep exactly where all that its verb wants
+/// holds of it. The set of the distributors that don't hear has just the numbers of its list.
 pub fn other_lines_are_settings()
     ensures state { (types : Types) (bits : ℕ) (d : Data) (text : List ℕ) (deaf : ℕ)
         → (data_said types bits d ≡ Ok (command.State text deaf)) ↔ IsState d text deaf }
@@ -53,6 +53,8 @@ pub fn other_lines_are_settings()
         → (data_said types bits d ≡ Ok (command.Start node)) ↔ IsNodeLine line.Start (codes "start") d node }
     ensures net { (types : Types) (bits : ℕ) (d : Data) (lane : ℕ) (fates : List Fate)
         → (data_said types bits d ≡ Ok (command.Net lane fates)) ↔ IsNet bits d lane fates }
+    ensures maintain { (types : Types) (bits : ℕ) (d : Data)
+        → (data_said types bits d ≡ Ok command.Maintain) ↔ IsMaintain d }
 
     ensures members { (nodes : List ℕ) (n : ℕ) → n < 32
         → has_node (set_of nodes) n ≡ list_any (λ node. n == node) nodes }

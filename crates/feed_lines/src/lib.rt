@@ -15,6 +15,7 @@
 //! {"stop":3}
 //! {"start":3}
 //! {"net":{"lane":0,"fates":["deliver","lose_request","lose_reply","twice",{"late":2}]}}
+//! {"maintain":true}
 //! ```
 #![tactic(auto)]
 

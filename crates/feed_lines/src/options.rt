@@ -1,9 +1,9 @@
 ghost use Rattle.std.specs.Prelude.{◌≡◌, ◌&&◌, Some, option_map};
 ghost use Rattle.serde_json.specs.Find.{as_bool, as_str};
 ghost use Rattle.serde_json.specs.View.{view};
-ghost use Rattle.feed_lines.specs.Meaning.{or_false, create_in, via_in, text_condition, condition_said, before_size, cause_by, fault_by, Gives};
+ghost use Rattle.feed_lines.specs.Meaning.{create_in, via_in, text_condition, condition_said, before_size, cause_by, fault_by, Gives};
 ghost use Rattle.feed_lines.specs.declared.command.LineFault.TheVariants as line_fault;
-ghost use Rattle.feed_lines.specs.Tests.{is_text_if, is_truth_if, is_node_if};
+ghost use Rattle.feed_lines.specs.Tests.{or_false, is_text_if, is_truth_if, is_node_if};
 
 use crate::command::{Cause, LineFault};
 use crate::values::node_of;
@@ -79,7 +79,8 @@ pub fn create_in(value: Option<&Value>) -> bool
     }
 }
 
-fn or_false(value: Option<bool>) -> bool
+/// A truth value; false where it isn't there.
+pub fn or_false(value: Option<bool>) -> bool
     ensures { result ≡ or_false value }
 {
     match value {

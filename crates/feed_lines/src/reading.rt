@@ -8,7 +8,7 @@ use crate::command::{Cause, Command, LineFault};
 use crate::keys::LineVerb;
 use crate::operations::feed_command;
 use crate::options::bad;
-use crate::settings::{net_command, start_command, state_command, stop_command};
+use crate::settings::{maintain_command, net_command, start_command, state_command, stop_command};
 use crate::shape::{has_right_keys, is_built, verb_of};
 use doc_types::Schema;
 use io_ends::LONGEST;
@@ -51,6 +51,7 @@ fn own_command(
         LineVerb::Stop => stop_command(line),
         LineVerb::Start => start_command(line),
         LineVerb::Net => net_command(alloc, line, bits),
+        LineVerb::Maintain => maintain_command(line),
         LineVerb::Later => Ok(Command::Blank),
     }
 }

@@ -1,10 +1,10 @@
 ghost use Rattle.std.specs.Prelude.{◌≡◌, codes, IfOk};
 ghost use Rattle.serde_json.specs.View.{view};
-ghost use Rattle.feed_lines.specs.Meaning.{state_said, stop_said, start_said, net_said, Gives};
-ghost use Rattle.feed_lines.specs.Tests.{state_in, deaf_in, node_in, lane_in, fates_in};
+ghost use Rattle.feed_lines.specs.Meaning.{state_said, stop_said, start_said, net_said, maintain_said, Gives};
+ghost use Rattle.feed_lines.specs.Tests.{state_in, deaf_in, node_in, lane_in, fates_in, is_true_in};
 
 use crate::command::{Cause, Command, LineFault};
-use crate::options::bad;
+use crate::options::{bad, or_false};
 use crate::shape::{in_net, text_at};
 use crate::values::{fates_of, lane_of, node_of, set_said};
 use carriers::FateList;
@@ -86,5 +86,26 @@ pub fn net_command(alloc: Global, line: &Value, bits: u8) -> Result<Command, Lin
     match fates_in(alloc, line)? {
         Some(fates) => Ok(Command::Net { lane, fates }),
         None => Err(bad(Cause::Value)),
+    }
+}
+
+/// Whether the value of a verb is the truth value true.
+fn is_true_in(key: &str, line: &Value) -> bool
+    ensures { result ≡ is_true_in key.now (view line.now) }
+{
+    match line.get(key) {
+        Some(value) => or_false(value.as_bool()),
+        None => false,
+    }
+}
+
+/// Upkeep, which a line asks for.
+pub fn maintain_command(line: &Value) -> Result<Command, LineFault>
+    ensures { Gives result (maintain_said (is_true_in (codes "maintain") (view line.now))) }
+{
+    if is_true_in("maintain", line) {
+        Ok(Command::Maintain)
+    } else {
+        Err(bad(Cause::Value))
     }
 }

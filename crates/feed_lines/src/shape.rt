@@ -25,9 +25,12 @@ pub fn is_built(verb: LineVerb) -> bool
     ensures { result ≡ is_built verb }
 {
     match verb {
-        LineVerb::Feed(_) | LineVerb::State | LineVerb::Stop | LineVerb::Start | LineVerb::Net => {
-            true
-        }
+        LineVerb::Feed(_)
+        | LineVerb::State
+        | LineVerb::Stop
+        | LineVerb::Start
+        | LineVerb::Net
+        | LineVerb::Maintain => true,
         LineVerb::Later => false,
     }
 }
@@ -87,7 +90,8 @@ fn has_own_keys(verb: LineVerb, line: &Value) -> bool
     match verb {
         LineVerb::Feed(verb) => has_wanted(verb, line),
         LineVerb::Net => has_net_keys(line.get("net")),
-        LineVerb::State | LineVerb::Stop | LineVerb::Start | LineVerb::Later => true,
+        LineVerb::State | LineVerb::Stop | LineVerb::Start | LineVerb::Maintain | LineVerb::Later =>
+            true,
     }
 }
 

@@ -76,6 +76,7 @@ fn told(alloc: Global, schema: &Schema, line: &[u8]) -> Result<String> {
         Ok(Command::Stop { node }) => format!(in alloc; "a stop of {node}")?,
         Ok(Command::Start { node }) => format!(in alloc; "a start of {node}")?,
         Ok(Command::Net { lane, fates }) => told_fates(alloc, lane, fates.items())?,
+        Ok(Command::Maintain) => String::from_str(alloc, "upkeep")?,
         Err(LineFault::NoMemory) => String::from_str(alloc, "no memory")?,
         Err(LineFault::BadLine { cause }) => String::from_str(alloc, word_of_cause(cause))?,
     })

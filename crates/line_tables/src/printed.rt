@@ -17,6 +17,24 @@ fn answers(alloc: Global) -> Result<Vec<(u32, Answer)>> {
         (3, Answer::Planned { taken: true }),
         (50_000, Answer::Planned { taken: false }),
         (
+            1,
+            Answer::Maintained {
+                lanes: 16,
+                rested: 16,
+                blocked: 0,
+                disturbed: 0
+            }
+        ),
+        (
+            50_000,
+            Answer::Maintained {
+                lanes: 64,
+                rested: 60,
+                blocked: 3,
+                disturbed: 1
+            }
+        ),
+        (
             4,
             Answer::TooFew {
                 answered: 0,

@@ -27,7 +27,7 @@ use Rattle.doc_updates.specs.declared.fault.UpdateFault.{UpdateFault}
 use Rattle.doc_updates.specs.declared.fault.UpdateFault.TheVariants as fault
 use Rattle.feed_lines.specs.declared.command.Cause.{Cause}
 use Rattle.feed_lines.specs.declared.command.Cause.TheVariants as cause
-use Rattle.reports.specs.ReportText.{line_text, acked_members, found_members, seen_of, missing_members, condition_failed_members, nothing_members, field_fault_members, size_fault_members, result_members, bad_update_members, too_few_members, owned_elsewhere_members, cause_text, bad_line_members, published_members, not_newer_members, too_few_up_members, too_many_out_members, count_members, planned_members, members_of, report_text}
+use Rattle.reports.specs.ReportText.{line_text, acked_members, found_members, seen_of, missing_members, condition_failed_members, nothing_members, field_fault_members, size_fault_members, result_members, bad_update_members, too_few_members, owned_elsewhere_members, cause_text, bad_line_members, published_members, not_newer_members, too_few_up_members, too_many_out_members, count_members, planned_members, maintained_members, members_of, report_text}
 use Rattle.reports.specs.Telling.{IsCount, IsInt, HasInts, IsStamp, IsStampIf, IsDocument, CanBe}
 use Rattle.reports.specs.declared.answer.Answer.{Answer}
 use Rattle.reports.specs.declared.answer.Answer.TheVariants as answer
@@ -160,6 +160,10 @@ abbrev third_of : List ℕ → ℕ
 third_of [] = 0
 third_of (n ∷ ns) = second_of ns
 
+abbrev fourth_of : List ℕ → ℕ
+fourth_of [] = 0
+fourth_of (n ∷ ns) = third_of ns
+
 abbrev fault_from : List ℕ → List ℕ → ℕ → UpdateFault
 fault_from word field size = cond (bytes_eq word (codes "zerodivisor")) (fault.ZeroDivisor field) (cond (bytes_eq word (codes "overflow")) (fault.Overflow field)
     (cond (bytes_eq word (codes "toomany")) (fault.TooMany field) (fault.TooLarge size)))
@@ -219,7 +223,8 @@ answer_from t =
     cond (bytes_eq t.word (codes "toomanyout")) (answer.TooManyOut (second_of t.numbers) (first_of t.numbers)) (
     cond (bytes_eq t.word (codes "stopped")) (answer.Stopped (first_of t.numbers)) (
     cond (bytes_eq t.word (codes "started")) (answer.Started (first_of t.numbers)) (
-    answer.Planned t.taken))))))))))))))))))
+    cond (bytes_eq t.word (codes "maintained")) (answer.Maintained (third_of t.numbers) (fourth_of t.numbers) (first_of t.numbers) (second_of t.numbers)) (
+    answer.Planned t.taken)))))))))))))))))))
 
 own_document : (types : Types) (id : List ℕ) (document : Contents) → IsDocument types id document → record { id = id; fields = document.fields } ≡ document
 own_document types id document h = ap (λ i. record { id = i; fields = document.fields }) (sym h.own)
@@ -249,6 +254,7 @@ answer_back types (answer.TooManyOut out acks) h = refl
 answer_back types (answer.Stopped node) h = refl
 answer_back types (answer.Started node) h = refl
 answer_back types (answer.Planned taken) h = refl
+answer_back types (answer.Maintained lanes rested blocked disturbed) h = refl
 
 -- ---- numbers, stamps and fields of an answer that can be
 
@@ -277,6 +283,7 @@ counts_be types (answer.TooManyOut out acks) h = (h.1, (h.0, tt))
 counts_be types (answer.Stopped node) h = (h, tt)
 counts_be types (answer.Started node) h = (h, tt)
 counts_be types (answer.Planned taken) h = tt
+counts_be types (answer.Maintained lanes rested blocked disturbed) h = (h.2, (h.3, (h.0, (h.1, tt))))
 
 stamp_be : (types : Types) (a : Answer) → CanBe types a → IsStampIf (stamp_of a)
 stamp_be types (answer.Acked stamp) h = h
@@ -303,6 +310,7 @@ stamp_be types (answer.TooManyOut out acks) h = tt
 stamp_be types (answer.Stopped node) h = tt
 stamp_be types (answer.Started node) h = tt
 stamp_be types (answer.Planned taken) h = tt
+stamp_be types (answer.Maintained lanes rested blocked disturbed) h = tt
 
 -- fields that a type of the schema may have
 record AreFields (types : Types) (id : List ℕ) (fields : FieldMap) : Type 0 where
@@ -338,6 +346,7 @@ fields_be types (answer.TooManyOut out acks) h = tt
 fields_be types (answer.Stopped node) h = tt
 fields_be types (answer.Started node) h = tt
 fields_be types (answer.Planned taken) h = tt
+fields_be types (answer.Maintained lanes rested blocked disturbed) h = tt
 
 same_map : (types : Types) (i j : List ℕ) (f g : FieldMap) → i ≡ j → AreFields types i f → AreFields types j g → outline_of f ≡ outline_of g → f ≡ g
 same_map types i j f g same h k e =

@@ -18,7 +18,7 @@ use Rattle.doc_types.specs.declared.values.FieldValue.TheVariants.{Int, Text, In
 use Rattle.documents.specs.Json.{number_json, value_json, members_json}
 use Rattle.doc_updates.specs.declared.fault.UpdateFault.{UpdateFault}
 use Rattle.doc_updates.specs.declared.fault.UpdateFault.TheVariants as fault
-use Rattle.reports.specs.ReportText.{line_text, acked_members, found_members, seen_of, missing_members, condition_failed_members, nothing_members, field_fault_members, size_fault_members, result_members, bad_update_members, too_few_members, owned_elsewhere_members, bad_line_members, published_members, not_newer_members, too_few_up_members, too_many_out_members, count_members, planned_members, members_of, report_text}
+use Rattle.reports.specs.ReportText.{line_text, acked_members, found_members, seen_of, missing_members, condition_failed_members, nothing_members, field_fault_members, size_fault_members, result_members, bad_update_members, too_few_members, owned_elsewhere_members, bad_line_members, published_members, not_newer_members, too_few_up_members, too_many_out_members, count_members, planned_members, maintained_members, members_of, report_text}
 use Rattle.reports.specs.Telling.{are_rising, IsOneObject, IsCount, IsInt, HasInts, CanBe}
 use Rattle.reports.specs.declared.answer.Answer.{Answer}
 use Rattle.reports.specs.declared.answer.Answer.TheVariants as answer
@@ -72,7 +72,7 @@ seen_text None = tt
 seen_text (Some stamp) = tt
 
 pub have_numbers : (types : Types) (line : ℕ) (a : Answer) → IsCount line → CanBe types a → MembersHaveNumbers (members_outline (members_of line a))
-unfolding acked_members found_members missing_members condition_failed_members nothing_members field_fault_members size_fault_members result_members too_few_members owned_elsewhere_members bad_line_members published_members not_newer_members too_few_up_members too_many_out_members count_members planned_members
+unfolding acked_members found_members missing_members condition_failed_members nothing_members field_fault_members size_fault_members result_members too_few_members owned_elsewhere_members bad_line_members published_members not_newer_members too_few_up_members too_many_out_members count_members planned_members maintained_members
 have_numbers types line (answer.Acked stamp) l h = (IsNumber-decimal line l, (tt, (tt, tt)))
 have_numbers types line (answer.Found id document stamp) l h = (fields_text (fin.entries document.fields) h.0.ints, (tt, (IsNumber-decimal line l, (tt, (tt, tt)))))
 have_numbers types line (answer.Missing seen) l h = (IsNumber-decimal line l, (tt, (seen_text seen, tt)))
@@ -97,13 +97,14 @@ have_numbers types line (answer.TooManyOut out acks) l h = (IsNumber-decimal ack
 have_numbers types line (answer.Stopped node) l h = (IsNumber-decimal line l, (IsNumber-decimal node h, (tt, tt)))
 have_numbers types line (answer.Started node) l h = (IsNumber-decimal line l, (IsNumber-decimal node h, (tt, tt)))
 have_numbers types line (answer.Planned taken) l h = (IsNumber-decimal line l, (tt, (tt, tt)))
+have_numbers types line (answer.Maintained lanes rested blocked disturbed) l h = (IsNumber-decimal blocked h.2, (IsNumber-decimal disturbed h.3, (IsNumber-decimal lanes h.0, (IsNumber-decimal line l, (IsNumber-decimal rested h.1, (tt, tt))))))
 
 seen_depth : (seen : Option Stamp) → depth (outline (seen_of seen)) ≡ 0
 seen_depth None = refl
 seen_depth (Some stamp) = refl
 
 pub is_shallow : (line : ℕ) (a : Answer) → members_depth (members_outline (members_of line a)) ≤ 2
-unfolding acked_members found_members missing_members condition_failed_members nothing_members field_fault_members size_fault_members result_members too_few_members owned_elsewhere_members bad_line_members published_members not_newer_members too_few_up_members too_many_out_members count_members planned_members
+unfolding acked_members found_members missing_members condition_failed_members nothing_members field_fault_members size_fault_members result_members too_few_members owned_elsewhere_members bad_line_members published_members not_newer_members too_few_up_members too_many_out_members count_members planned_members maintained_members
 is_shallow line (answer.Acked stamp) = omega arith
 is_shallow line (answer.Found id document stamp) = omega (arith, fields_depth (fin.entries document.fields))
 is_shallow line (answer.Missing seen) = omega (arith, seen_depth seen)
@@ -128,9 +129,10 @@ is_shallow line (answer.TooManyOut out acks) = omega arith
 is_shallow line (answer.Stopped node) = omega arith
 is_shallow line (answer.Started node) = omega arith
 is_shallow line (answer.Planned taken) = omega arith
+is_shallow line (answer.Maintained lanes rested blocked disturbed) = omega arith
 
 pub is_rising : (line : ℕ) (a : Answer) → are_rising (members_of line a) ≡ true
-unfolding acked_members found_members missing_members condition_failed_members nothing_members field_fault_members size_fault_members result_members too_few_members owned_elsewhere_members bad_line_members published_members not_newer_members too_few_up_members too_many_out_members count_members planned_members
+unfolding acked_members found_members missing_members condition_failed_members nothing_members field_fault_members size_fault_members result_members too_few_members owned_elsewhere_members bad_line_members published_members not_newer_members too_few_up_members too_many_out_members count_members planned_members maintained_members
 is_rising line (answer.Acked stamp) = refl
 is_rising line (answer.Found id document stamp) = refl
 is_rising line (answer.Missing seen) = refl
@@ -155,6 +157,7 @@ is_rising line (answer.TooManyOut out acks) = refl
 is_rising line (answer.Stopped node) = refl
 is_rising line (answer.Started node) = refl
 is_rising line (answer.Planned taken) = refl
+is_rising line (answer.Maintained lanes rested blocked disturbed) = refl
 
 -- ---- the bytes
 

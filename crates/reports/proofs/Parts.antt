@@ -10,7 +10,7 @@ use Rattle.stamps.specs.Printed.{printed}
 use Rattle.documents.specs.Fields.{FieldMap}
 use Rattle.documents.specs.Json.{members_json}
 use Rattle.doc_updates.specs.declared.fault.UpdateFault.TheVariants as fault
-use Rattle.reports.specs.ReportText.{acked_members, found_members, seen_of, missing_members, condition_failed_members, nothing_members, field_fault_members, size_fault_members, result_members, too_few_members, owned_elsewhere_members, cause_text, bad_line_members, published_members, not_newer_members, too_few_up_members, too_many_out_members, count_members, planned_members, members_of}
+use Rattle.reports.specs.ReportText.{acked_members, found_members, seen_of, missing_members, condition_failed_members, nothing_members, field_fault_members, size_fault_members, result_members, too_few_members, owned_elsewhere_members, cause_text, bad_line_members, published_members, not_newer_members, too_few_up_members, too_many_out_members, count_members, planned_members, maintained_members, members_of}
 use Rattle.reports.specs.declared.answer.Answer.{Answer}
 use Rattle.reports.specs.declared.answer.Answer.TheVariants as answer
 
@@ -103,6 +103,7 @@ word_of (answer.TooManyOut out acks) = codes "toomanyout"
 word_of (answer.Stopped node) = codes "stopped"
 word_of (answer.Started node) = codes "started"
 word_of (answer.Planned taken) = codes "planned"
+word_of (answer.Maintained lanes rested blocked disturbed) = codes "maintained"
 
 abbrev pub numbers_of : Answer → List ℕ
 numbers_of (answer.Acked stamp) = []
@@ -129,6 +130,7 @@ numbers_of (answer.TooManyOut out acks) = acks ∷ out ∷ []
 numbers_of (answer.Stopped node) = node ∷ []
 numbers_of (answer.Started node) = node ∷ []
 numbers_of (answer.Planned taken) = []
+numbers_of (answer.Maintained lanes rested blocked disturbed) = blocked ∷ disturbed ∷ lanes ∷ rested ∷ []
 
 abbrev pub stamp_of : Answer → Option Stamp
 stamp_of (answer.Acked stamp) = Some stamp
@@ -155,6 +157,7 @@ stamp_of (answer.TooManyOut out acks) = None
 stamp_of (answer.Stopped node) = None
 stamp_of (answer.Started node) = None
 stamp_of (answer.Planned taken) = None
+stamp_of (answer.Maintained lanes rested blocked disturbed) = None
 
 abbrev pub taken_of : Answer → Bool
 taken_of (answer.Acked stamp) = false
@@ -181,6 +184,7 @@ taken_of (answer.TooManyOut out acks) = false
 taken_of (answer.Stopped node) = false
 taken_of (answer.Started node) = false
 taken_of (answer.Planned taken) = taken
+taken_of (answer.Maintained lanes rested blocked disturbed) = false
 
 abbrev pub fault_of : Answer → List ℕ
 fault_of (answer.Acked stamp) = []
@@ -207,6 +211,7 @@ fault_of (answer.TooManyOut out acks) = []
 fault_of (answer.Stopped node) = []
 fault_of (answer.Started node) = []
 fault_of (answer.Planned taken) = []
+fault_of (answer.Maintained lanes rested blocked disturbed) = []
 
 abbrev pub field_of : Answer → List ℕ
 field_of (answer.Acked stamp) = []
@@ -233,6 +238,7 @@ field_of (answer.TooManyOut out acks) = []
 field_of (answer.Stopped node) = []
 field_of (answer.Started node) = []
 field_of (answer.Planned taken) = []
+field_of (answer.Maintained lanes rested blocked disturbed) = []
 
 abbrev pub cause_of : Answer → List ℕ
 cause_of (answer.Acked stamp) = []
@@ -259,6 +265,7 @@ cause_of (answer.TooManyOut out acks) = []
 cause_of (answer.Stopped node) = []
 cause_of (answer.Started node) = []
 cause_of (answer.Planned taken) = []
+cause_of (answer.Maintained lanes rested blocked disturbed) = []
 
 abbrev pub id_of : Answer → List ℕ
 id_of (answer.Acked stamp) = []
@@ -285,6 +292,7 @@ id_of (answer.TooManyOut out acks) = []
 id_of (answer.Stopped node) = []
 id_of (answer.Started node) = []
 id_of (answer.Planned taken) = []
+id_of (answer.Maintained lanes rested blocked disturbed) = []
 
 abbrev pub fields_of : Answer → Option FieldMap
 fields_of (answer.Acked stamp) = None
@@ -311,11 +319,12 @@ fields_of (answer.TooManyOut out acks) = None
 fields_of (answer.Stopped node) = None
 fields_of (answer.Started node) = None
 fields_of (answer.Planned taken) = None
+fields_of (answer.Maintained lanes rested blocked disturbed) = None
 
 -- ---- each part is read off the report
 
 pub word_read : (line : ℕ) (a : Answer) → text_in (look (codes "result") (members_outline (members_of line a))) ≡ word_of a
-unfolding acked_members found_members missing_members condition_failed_members nothing_members field_fault_members size_fault_members result_members too_few_members owned_elsewhere_members bad_line_members published_members not_newer_members too_few_up_members too_many_out_members count_members planned_members
+unfolding acked_members found_members missing_members condition_failed_members nothing_members field_fault_members size_fault_members result_members too_few_members owned_elsewhere_members bad_line_members published_members not_newer_members too_few_up_members too_many_out_members count_members planned_members maintained_members
 word_read line (answer.Acked stamp) = refl
 word_read line (answer.Found id document stamp) = refl
 word_read line (answer.Missing seen) = refl
@@ -340,13 +349,14 @@ word_read line (answer.TooManyOut out acks) = refl
 word_read line (answer.Stopped node) = refl
 word_read line (answer.Started node) = refl
 word_read line (answer.Planned taken) = refl
+word_read line (answer.Maintained lanes rested blocked disturbed) = refl
 
 pub no_number : (line : ℕ) (word : List ℕ) (seen : Option Stamp) → numbers_in (members_outline (member (codes "line") (number (unsigned line)) (member (codes "result") (string word) (member (codes "seen") (seen_of seen) no_members)))) ≡ []
 no_number line word None = refl
 no_number line word (Some stamp) = refl
 
 pub numbers_read : (line : ℕ) (a : Answer) → numbers_in (members_outline (members_of line a)) ≡ map decimal (numbers_of a)
-unfolding acked_members found_members missing_members condition_failed_members nothing_members field_fault_members size_fault_members result_members too_few_members owned_elsewhere_members bad_line_members published_members not_newer_members too_few_up_members too_many_out_members count_members planned_members
+unfolding acked_members found_members missing_members condition_failed_members nothing_members field_fault_members size_fault_members result_members too_few_members owned_elsewhere_members bad_line_members published_members not_newer_members too_few_up_members too_many_out_members count_members planned_members maintained_members
 numbers_read line (answer.Acked stamp) = refl
 numbers_read line (answer.Found id document stamp) = refl
 numbers_read line (answer.Missing seen) = no_number line (codes "missing") seen
@@ -371,13 +381,14 @@ numbers_read line (answer.TooManyOut out acks) = refl
 numbers_read line (answer.Stopped node) = refl
 numbers_read line (answer.Started node) = refl
 numbers_read line (answer.Planned taken) = refl
+numbers_read line (answer.Maintained lanes rested blocked disturbed) = refl
 
 pub seen_read : (seen : Option Stamp) → some_text (Some (outline (seen_of seen))) ≡ option_map printed seen
 seen_read None = refl
 seen_read (Some stamp) = refl
 
 pub stamp_read : (line : ℕ) (a : Answer) → or_else (some_text (look (codes "stamp") (members_outline (members_of line a)))) (some_text (look (codes "seen") (members_outline (members_of line a)))) ≡ option_map printed (stamp_of a)
-unfolding acked_members found_members missing_members condition_failed_members nothing_members field_fault_members size_fault_members result_members too_few_members owned_elsewhere_members bad_line_members published_members not_newer_members too_few_up_members too_many_out_members count_members planned_members
+unfolding acked_members found_members missing_members condition_failed_members nothing_members field_fault_members size_fault_members result_members too_few_members owned_elsewhere_members bad_line_members published_members not_newer_members too_few_up_members too_many_out_members count_members planned_members maintained_members
 stamp_read line (answer.Acked stamp) = refl
 stamp_read line (answer.Found id document stamp) = refl
 stamp_read line (answer.Missing seen) = seen_read seen
@@ -402,9 +413,10 @@ stamp_read line (answer.TooManyOut out acks) = refl
 stamp_read line (answer.Stopped node) = refl
 stamp_read line (answer.Started node) = refl
 stamp_read line (answer.Planned taken) = refl
+stamp_read line (answer.Maintained lanes rested blocked disturbed) = refl
 
 pub taken_read : (line : ℕ) (a : Answer) → truth_in (look (codes "taken") (members_outline (members_of line a))) ≡ taken_of a
-unfolding acked_members found_members missing_members condition_failed_members nothing_members field_fault_members size_fault_members result_members too_few_members owned_elsewhere_members bad_line_members published_members not_newer_members too_few_up_members too_many_out_members count_members planned_members
+unfolding acked_members found_members missing_members condition_failed_members nothing_members field_fault_members size_fault_members result_members too_few_members owned_elsewhere_members bad_line_members published_members not_newer_members too_few_up_members too_many_out_members count_members planned_members maintained_members
 taken_read line (answer.Acked stamp) = refl
 taken_read line (answer.Found id document stamp) = refl
 taken_read line (answer.Missing seen) = refl
@@ -429,9 +441,10 @@ taken_read line (answer.TooManyOut out acks) = refl
 taken_read line (answer.Stopped node) = refl
 taken_read line (answer.Started node) = refl
 taken_read line (answer.Planned taken) = refl
+taken_read line (answer.Maintained lanes rested blocked disturbed) = refl
 
 pub fault_read : (line : ℕ) (a : Answer) → text_in (look (codes "fault") (members_outline (members_of line a))) ≡ fault_of a
-unfolding acked_members found_members missing_members condition_failed_members nothing_members field_fault_members size_fault_members result_members too_few_members owned_elsewhere_members bad_line_members published_members not_newer_members too_few_up_members too_many_out_members count_members planned_members
+unfolding acked_members found_members missing_members condition_failed_members nothing_members field_fault_members size_fault_members result_members too_few_members owned_elsewhere_members bad_line_members published_members not_newer_members too_few_up_members too_many_out_members count_members planned_members maintained_members
 fault_read line (answer.Acked stamp) = refl
 fault_read line (answer.Found id document stamp) = refl
 fault_read line (answer.Missing seen) = refl
@@ -456,9 +469,10 @@ fault_read line (answer.TooManyOut out acks) = refl
 fault_read line (answer.Stopped node) = refl
 fault_read line (answer.Started node) = refl
 fault_read line (answer.Planned taken) = refl
+fault_read line (answer.Maintained lanes rested blocked disturbed) = refl
 
 pub field_read : (line : ℕ) (a : Answer) → text_in (look (codes "field") (members_outline (members_of line a))) ≡ field_of a
-unfolding acked_members found_members missing_members condition_failed_members nothing_members field_fault_members size_fault_members result_members too_few_members owned_elsewhere_members bad_line_members published_members not_newer_members too_few_up_members too_many_out_members count_members planned_members
+unfolding acked_members found_members missing_members condition_failed_members nothing_members field_fault_members size_fault_members result_members too_few_members owned_elsewhere_members bad_line_members published_members not_newer_members too_few_up_members too_many_out_members count_members planned_members maintained_members
 field_read line (answer.Acked stamp) = refl
 field_read line (answer.Found id document stamp) = refl
 field_read line (answer.Missing seen) = refl
@@ -483,9 +497,10 @@ field_read line (answer.TooManyOut out acks) = refl
 field_read line (answer.Stopped node) = refl
 field_read line (answer.Started node) = refl
 field_read line (answer.Planned taken) = refl
+field_read line (answer.Maintained lanes rested blocked disturbed) = refl
 
 pub cause_read : (line : ℕ) (a : Answer) → text_in (look (codes "cause") (members_outline (members_of line a))) ≡ cause_of a
-unfolding acked_members found_members missing_members condition_failed_members nothing_members field_fault_members size_fault_members result_members too_few_members owned_elsewhere_members bad_line_members published_members not_newer_members too_few_up_members too_many_out_members count_members planned_members
+unfolding acked_members found_members missing_members condition_failed_members nothing_members field_fault_members size_fault_members result_members too_few_members owned_elsewhere_members bad_line_members published_members not_newer_members too_few_up_members too_many_out_members count_members planned_members maintained_members
 cause_read line (answer.Acked stamp) = refl
 cause_read line (answer.Found id document stamp) = refl
 cause_read line (answer.Missing seen) = refl
@@ -510,9 +525,10 @@ cause_read line (answer.TooManyOut out acks) = refl
 cause_read line (answer.Stopped node) = refl
 cause_read line (answer.Started node) = refl
 cause_read line (answer.Planned taken) = refl
+cause_read line (answer.Maintained lanes rested blocked disturbed) = refl
 
 pub id_read : (line : ℕ) (a : Answer) → text_in (look (codes "id") (members_outline (members_of line a))) ≡ id_of a
-unfolding acked_members found_members missing_members condition_failed_members nothing_members field_fault_members size_fault_members result_members too_few_members owned_elsewhere_members bad_line_members published_members not_newer_members too_few_up_members too_many_out_members count_members planned_members
+unfolding acked_members found_members missing_members condition_failed_members nothing_members field_fault_members size_fault_members result_members too_few_members owned_elsewhere_members bad_line_members published_members not_newer_members too_few_up_members too_many_out_members count_members planned_members maintained_members
 id_read line (answer.Acked stamp) = refl
 id_read line (answer.Found id document stamp) = refl
 id_read line (answer.Missing seen) = refl
@@ -537,9 +553,10 @@ id_read line (answer.TooManyOut out acks) = refl
 id_read line (answer.Stopped node) = refl
 id_read line (answer.Started node) = refl
 id_read line (answer.Planned taken) = refl
+id_read line (answer.Maintained lanes rested blocked disturbed) = refl
 
 pub fields_read : (line : ℕ) (a : Answer) → some_object (look (codes "fields") (members_outline (members_of line a))) ≡ option_map outline_of (fields_of a)
-unfolding acked_members found_members missing_members condition_failed_members nothing_members field_fault_members size_fault_members result_members too_few_members owned_elsewhere_members bad_line_members published_members not_newer_members too_few_up_members too_many_out_members count_members planned_members
+unfolding acked_members found_members missing_members condition_failed_members nothing_members field_fault_members size_fault_members result_members too_few_members owned_elsewhere_members bad_line_members published_members not_newer_members too_few_up_members too_many_out_members count_members planned_members maintained_members
 fields_read line (answer.Acked stamp) = refl
 fields_read line (answer.Found id document stamp) = refl
 fields_read line (answer.Missing seen) = refl
@@ -564,3 +581,4 @@ fields_read line (answer.TooManyOut out acks) = refl
 fields_read line (answer.Stopped node) = refl
 fields_read line (answer.Started node) = refl
 fields_read line (answer.Planned taken) = refl
+fields_read line (answer.Maintained lanes rested blocked disturbed) = refl

@@ -111,6 +111,11 @@ count_members line name count result = member (codes "line") (number (unsigned l
 unfoldable pub planned_members : ℕ → Bool → Members
 planned_members line taken = with_result line (codes "planned") (member (codes "taken") (boolean taken) no_members)
 
+unfoldable pub maintained_members : ℕ → ℕ → ℕ → ℕ → ℕ → Members
+maintained_members line lanes rested blocked disturbed =
+    member (codes "blocked") (number (unsigned blocked)) (member (codes "disturbed") (number (unsigned disturbed)) (member (codes "lanes") (number (unsigned lanes))
+    (member (codes "line") (number (unsigned line)) (member (codes "rested") (number (unsigned rested)) (member (codes "result") (string (codes "maintained")) no_members)))))
+
 -- what is told of an answer
 abbrev pub members_of : ℕ → Answer → Members
 members_of line (answer.Acked stamp) = acked_members line stamp
@@ -133,6 +138,7 @@ members_of line (answer.TooManyOut out acks) = too_many_out_members line out ack
 members_of line (answer.Stopped node) = count_members line (codes "node") node (codes "stopped")
 members_of line (answer.Started node) = count_members line (codes "node") node (codes "started")
 members_of line (answer.Planned taken) = planned_members line taken
+members_of line (answer.Maintained lanes rested blocked disturbed) = maintained_members line lanes rested blocked disturbed
 
 -- the report of an answer
 abbrev pub report_text : ℕ → Answer → List ℕ

@@ -91,3 +91,4 @@ CanBe types (answer.TooManyOut out acks) = IsCount out × IsCount acks
 CanBe types (answer.Stopped node) = IsCount node
 CanBe types (answer.Started node) = IsCount node
 CanBe types (answer.Planned taken) = Unit {0}
+CanBe types (answer.Maintained lanes rested blocked disturbed) = IsCount lanes × IsCount rested × IsCount blocked × IsCount disturbed

@@ -88,4 +88,12 @@ pub enum Answer {
     Planned {
         taken: bool,
     },
+    /// Upkeep was made in so many lanes: in so many of them to the end, in so many an answer was missing, and in so
+    /// many a late message came.
+    Maintained {
+        lanes: u8,
+        rested: u8,
+        blocked: u8,
+        disturbed: u8,
+    },
 }

@@ -3,7 +3,7 @@ ghost use Rattle.std.specs.String.{string_bytes};
 ghost use Rattle.json.specs.Token.{begin_object, key, string, number, boolean};
 ghost use Rattle.serde_json.specs.Written.{compact_text};
 ghost use Rattle.stamps.specs.Printed.{printed};
-ghost use Rattle.reports.specs.ReportText.{fields_of, acked_members, found_members, missing_members, condition_failed_members, nothing_members, field_fault_members, size_fault_members, result_members, bad_update_members, too_few_members, owned_elsewhere_members, cause_text, published_members, not_newer_members, too_few_up_members, too_many_out_members, count_members, planned_members, bad_line_members, report_text, usage_text, line_text};
+ghost use Rattle.reports.specs.ReportText.{fields_of, acked_members, found_members, missing_members, condition_failed_members, nothing_members, field_fault_members, size_fault_members, result_members, bad_update_members, too_few_members, owned_elsewhere_members, cause_text, published_members, not_newer_members, too_few_up_members, too_many_out_members, count_members, planned_members, maintained_members, bad_line_members, report_text, usage_text, line_text};
 ghost use Rattle.reports.specs.Writing.{Puts, result_tokens, seen_tokens, IsWhole, IsBehindFields, fields_front};
 
 use crate::answer::Answer;
@@ -377,6 +377,29 @@ fn planned_report(alloc: Global, line: u32, taken: bool) -> Result<Vec<u8>, NoMe
     ended(out)
 }
 
+/// `{"blocked":0,"disturbed":0,"lanes":16,"line":1,"rested":16,"result":"maintained"}`.
+#[tactic(auto, unfolding(crate::specs::ReportText::maintained_members))]
+fn maintained_report(
+    alloc: Global,
+    line: u32,
+    lanes: u8,
+    rested: u8,
+    blocked: u8,
+    disturbed: u8,
+) -> Result<Vec<u8>, NoMemory>
+    ensures { IfOk result (λ bytes. bytes.items
+        ≡ line_text (maintained_members line lanes rested blocked disturbed)) }
+{
+    let mut out = begun(alloc)?;
+    put_count(&mut out, "blocked", u64::from(blocked))?;
+    put_count(&mut out, "disturbed", u64::from(disturbed))?;
+    put_count(&mut out, "lanes", u64::from(lanes))?;
+    put_count(&mut out, "line", u64::from(line))?;
+    put_count(&mut out, "rested", u64::from(rested))?;
+    put_text(&mut out, "result", "maintained")?;
+    ended(out)
+}
+
 /// The report of a line. The only error is want of memory.
 pub fn report(alloc: Global, line: u32, answer: &Answer) -> Result<Vec<u8>, NoMemory>
     ensures { IfOk result (λ bytes. bytes.items ≡ report_text line answer.now) }
@@ -414,6 +437,12 @@ pub fn report(alloc: Global, line: u32, answer: &Answer) -> Result<Vec<u8>, NoMe
         Answer::Stopped { node } => count_report(alloc, line, "node", u64::from(*node), "stopped"),
         Answer::Started { node } => count_report(alloc, line, "node", u64::from(*node), "started"),
         Answer::Planned { taken } => planned_report(alloc, line, *taken),
+        Answer::Maintained {
+            lanes,
+            rested,
+            blocked,
+            disturbed,
+        } => maintained_report(alloc, line, *lanes, *rested, *blocked, *disturbed),
     }
 }
 

@@ -14,15 +14,16 @@ use Rattle.lane_journals.specs.Places as places
 use Rattle.lane_journals.specs.KeptJournals.{IsLegal}
 use Rattle.lane_journals.specs.declared.event.LaneEvent.{LaneEvent}
 use Rattle.lane_journals.specs.declared.event.LaneEvent.TheVariants as event
-use Rattle.lane_carriage.specs.Carriage.{IsOther}
+use Rattle.lane_carriage.specs.Carriage.{IsOther, IsCarried, Other}
 use Rattle.lane_completeness.specs.Completeness.{NoneStops}
 use Rattle.lane_wants.specs.Wants.{IsRun, Same, More, IsCutRun}
 use Rattle.lane_states.specs.Growing.{heard_next, announced, stopped_next, started_next}
 use Rattle.session_settings.specs.declared.setting.Setting.{Setting}
-use Rattle.session_lanes.specs.Lives.{FeedLine, RunsTo, begun_at, IsRunAt, IsRefused, IsCarriedOut, Deed, Announces, Stops, Starts, Runs, Does}
-use Rattle.session_lanes.proofs.CarriedBefore.{IsCarriedThen, carried_then, then_trans, other_before}
+use Rattle.session_lanes.specs.Lives.{FeedLine, RunsTo, begun_at, IsRunAt, IsRefused, IsCarriedOut, Deed, Announces, Stops, Starts, Runs, Maintains, Does, IsMaintained}
+use Rattle.session_lanes.proofs.CarriedBefore.{IsCarriedThen, carried_then}
 use Rattle.session_lanes.proofs.Quiet.{AddsFor, wanted_adds, cut_adds}
 use Rattle.session_lanes.proofs.Told.{heard_down, next_down}
+use Rattle.session_lanes.proofs.Upkept.{upkeep_down}
 
 -- ---- down a run
 
@@ -94,54 +95,74 @@ legal_begun S lane rules line d state J K c legal =
     let a = runs_add lane rules line.number line.operation (begun_at line d state J) c.run c.outcome c.runs in
     legal_tail S a.events (begun_at line d state J) (subst (IsLegal S) a.are closing.0)
 
--- ---- a deed that sends nothing
+-- ---- what holds before each event holds before all of a deed's
 
-module _ (P : List LaneEvent → Type 0) (step : (e : LaneEvent) (L : List LaneEvent) → IsOther e → P (e ∷ L) → P L) where
+module _ (P : List LaneEvent → Type 0) (step : (e : LaneEvent) (L : List LaneEvent) → P (e ∷ L) → P L) where
   before_announced : (deaf : ℕ) (s : ClusterState) (J : List LaneEvent) → P (announced deaf s J) → P J
-  before_announced deaf s J p = step (event.Published s) J tt (heard_down P (λ e v L q. step (event.Heard e v) L tt q) 32 deaf s (event.Published s ∷ J) p)
+  before_announced deaf s J p = step (event.Published s) J (heard_down P (λ e v L q. step (event.Heard e v) L q) 32 deaf s (event.Published s ∷ J) p)
 
   before_stop : (n : ℕ) (J : List LaneEvent) → P (stopped_next n J) → P J
   before_stop n J p = by_test (stopped n (history J)) p
     where
       by_test : (t : Bool) → P (if t then J else event.Stopped n ∷ J) → P J
       by_test true p = p
-      by_test false p = step (event.Stopped n) J tt p
+      by_test false p = step (event.Stopped n) J p
 
   before_start : (n : ℕ) (J : List LaneEvent) → P (started_next n J) → P J
   before_start n J p = by_test (stopped n (history J)) p
     where
       by_test : (t : Bool) → P (if t then event.Started n ∷ J else J) → P J
-      by_test true p = step (event.Started n) J tt p
+      by_test true p = step (event.Started n) J p
       by_test false p = p
 
-  pub before_next : (d : ℕ) (s : ClusterState) (J : List LaneEvent) → P (heard_next d (Some s) J) → P J
-  before_next d s J p = next_down P (λ e v L q. step (event.Heard e v) L tt q) d s J p
+  before_next : (d : ℕ) (s : ClusterState) (J : List LaneEvent) → P (heard_next d (Some s) J) → P J
+  before_next d s J p = next_down P (λ e v L q. step (event.Heard e v) L q) d s J p
 
-  -- where it is so of what a line ran
-  module _ (ran : (lane : Low) (rules : Rules) (line : FeedLine) (d : ℕ) (state : ClusterState) (J K : List LaneEvent) → IsRunAt lane rules line d state J K → P K → P J) where
-    before_line : (lane : Low) (rules : Rules) (line : FeedLine) (via : Option ℕ) (J K : List LaneEvent) → IsCarriedOut lane rules line via J K → P K → P J
-    before_line lane rules line None J K c p = before_next c.owner c.state J (ran lane rules line c.owner c.state _ K c.run p)
-    before_line lane rules line (Some d) J K c p = by_end c.ends
-      where
-        by_end : (IsOwner lane c.state d × IsRunAt lane rules line d c.state J K) ⊎ IsRefused lane line d c.state J K → P J
-        by_end (inl r) = ran lane rules line d c.state J K r.1 p
-        by_end (inr r) = step (event.Refused line.number d _) J tt (subst P r.refused p)
+  before_run : (lane : Low) (rules : Rules) (line : FeedLine) (d : ℕ) (state : ClusterState) (J K : List LaneEvent) → IsRunAt lane rules line d state J K → P K → P J
+  before_run lane rules line d state J K c p =
+      let ran = step (event.Closed line.number c.outcome) c.run (subst P c.closed p) in
+      step _ J (runs_down lane rules line.number line.operation P (λ e L adds q. step e L q) (begun_at line d state J) c.run c.outcome c.runs ran)
 
-    pub before_deed : (s : Setting) (lane : Low) (deed : Deed) (J K : List LaneEvent) → Does s lane deed J K → P K → P J
-    before_deed s lane (Announces state deaf) J K does p = before_announced deaf state J (subst P does p)
-    before_deed s lane (Stops n) J K does p = before_stop n J (subst P does p)
-    before_deed s lane (Starts n) J K does p = before_start n J (subst P does p)
-    before_deed s lane (Runs line) J K does p = before_line lane s.rules line line.via J K does p
+  pub before_line : (lane : Low) (rules : Rules) (line : FeedLine) (via : Option ℕ) (J K : List LaneEvent) → IsCarriedOut lane rules line via J K → P K → P J
+  before_line lane rules line None J K c p = before_next c.owner c.state J (before_run lane rules line c.owner c.state _ K c.run p)
+  before_line lane rules line (Some d) J K c p = by_end c.ends
+    where
+      by_end : (IsOwner lane c.state d × IsRunAt lane rules line d c.state J K) ⊎ IsRefused lane line d c.state J K → P J
+      by_end (inl r) = before_run lane rules line d c.state J K r.1 p
+      by_end (inr r) = step (event.Refused line.number d _) J (subst P r.refused p)
 
-pub legal_step : (S : places.Setting) (e : LaneEvent) (L : List LaneEvent) → IsOther e → IsLegal S (e ∷ L) → IsLegal S L
-legal_step S e L other legal = legal.0
+  before_upkeep : (lane : Low) (J K : List LaneEvent) → (K ≡ J) ⊎ IsMaintained lane J K → P K → P J
+  before_upkeep lane J K (inl same) p = subst P same p
+  before_upkeep lane J K (inr m) p = before_next m.owner m.state J (upkeep_down P m.owner (m.state).version (λ e L is q. step e L q) _ K m.pass p)
+
+  pub before_deed : (s : Setting) (lane : Low) (deed : Deed) (J K : List LaneEvent) → Does s lane deed J K → P K → P J
+  before_deed s lane (Announces state deaf) J K does p = before_announced deaf state J (subst P does p)
+  before_deed s lane (Stops n) J K does p = before_stop n J (subst P does p)
+  before_deed s lane (Starts n) J K does p = before_start n J (subst P does p)
+  before_deed s lane (Runs line) J K does p = before_line lane s.rules line line.via J K does p
+  before_deed s lane Maintains J K does p = before_upkeep lane J K does p
 
 pub legal_before : (S : places.Setting) (s : Setting) (lane : Low) (deed : Deed) (J K : List LaneEvent) → Does s lane deed J K → IsLegal S K → IsLegal S J
-legal_before S = before_deed (IsLegal S) (legal_step S) (λ lane rules line d state J K c legal. (legal_begun S lane rules line d state J K c legal).0)
+legal_before S = before_deed (IsLegal S) (λ e L legal. legal.0)
 
--- ---- the messages before
+-- ---- what it added
 
--- the messages of its run, and those before its beginning
+-- the whole journal grew from this one
+abbrev pub Grown : List LaneEvent → List LaneEvent → Type 0
+Grown whole J = (M : List LaneEvent) × (whole ≡ M ++ J)
+
+grown_before : (whole : List LaneEvent) (e : LaneEvent) (J : List LaneEvent) → Grown whole (e ∷ J) → Grown whole J
+grown_before whole e J h = (h.0 ++ e ∷ [], h.1 ∙ sym (append_assoc h.0 (e ∷ []) J))
+
+pub grown_deed : (whole : List LaneEvent) (s : Setting) (lane : Low) (deed : Deed) (J K : List LaneEvent) → Does s lane deed J K → Grown whole K → Grown whole J
+grown_deed whole = before_deed (Grown whole) (grown_before whole)
+
+pub grown_line : (whole : List LaneEvent) (lane : Low) (rules : Rules) (line : FeedLine) (via : Option ℕ) (J K : List LaneEvent) → IsCarriedOut lane rules line via J K → Grown whole K → Grown whole J
+grown_line whole = before_line (Grown whole) (grown_before whole)
+
+-- ---- the messages of a line, where the whole journal's were carried
+
+-- those of its run, and those before its beginning
 pub run_carried : (given : List Fate) (lane : Low) (rules : Rules) (line : FeedLine) (d : ℕ) (state : ClusterState) (J K : List LaneEvent) (c : IsRunAt lane rules line d state J K) (t : IsCarriedThen given K) → IsCarriedThen t.first c.run
 run_carried given lane rules line d state J K c t = carried_then t.first K t.carried [] (event.Closed line.number c.outcome) c.run tt c.closed
 
@@ -150,29 +171,17 @@ begun_carried given lane rules line d state J K c r =
     let a = runs_add lane rules line.number line.operation (begun_at line d state J) c.run c.outcome c.runs in
     carried_then r.first c.run r.carried a.events _ J tt a.are
 
-pub carried_before : (given : List Fate) (s : Setting) (lane : Low) (deed : Deed) (J K : List LaneEvent) → Does s lane deed J K → IsCarriedThen given K → IsCarriedThen given J
-carried_before given = before_deed (IsCarriedThen given) (λ e L other t. other_before given e L other t) ran
+-- a journal whose newest event carries nothing
+carried_to : (given : List Fate) (whole : List LaneEvent) (e : LaneEvent) (L K : List LaneEvent) → IsOther e → IsCarried given whole → Grown whole K → K ≡ e ∷ L → IsCarriedThen given K
+carried_to given whole e L K other carried grown is =
+    let t = carried_then given whole carried grown.0 e L other (grown.1 ∙ ap (λ M. grown.0 ++ M) is) in
+    record { first = t.first; rest = t.rest; carried = subst (IsCarried t.first) (sym is) (Other t.first L e other t.carried); are = t.are }
+
+-- as the line ended
+pub carried_line : (given : List Fate) (whole : List LaneEvent) (lane : Low) (rules : Rules) (line : FeedLine) (via : Option ℕ) (J K : List LaneEvent) → IsCarriedOut lane rules line via J K → IsCarried given whole → Grown whole K → IsCarriedThen given K
+carried_line given whole lane rules line None J K c carried grown = carried_to given whole (event.Closed line.number (c.run).outcome) (c.run).run K tt carried grown (c.run).closed
+carried_line given whole lane rules line (Some d) J K c carried grown = by_end c.ends
   where
-    ran : (lane : Low) (rules : Rules) (line : FeedLine) (d : ℕ) (state : ClusterState) (J K : List LaneEvent) → IsRunAt lane rules line d state J K → IsCarriedThen given K → IsCarriedThen given J
-    ran lane rules line d state J K c t =
-        let r = run_carried given lane rules line d state J K c t in
-        then_trans given K J t (then_trans t.first c.run J r (begun_carried t.first lane rules line d state J K c r))
-
--- ---- what it added
-
--- the whole journal grew from this one
-abbrev pub Grown : List LaneEvent → List LaneEvent → Type 0
-Grown whole J = (M : List LaneEvent) × (whole ≡ M ++ J)
-
-grown_before : (whole N J : List LaneEvent) → Grown whole (N ++ J) → Grown whole J
-grown_before whole N J h = (h.0 ++ N, h.1 ∙ sym (append_assoc h.0 N J))
-
-grown_run : (whole : List LaneEvent) (lane : Low) (rules : Rules) (line : FeedLine) (d : ℕ) (state : ClusterState) (J K : List LaneEvent) → IsRunAt lane rules line d state J K → Grown whole K → Grown whole J
-grown_run whole lane rules line d state J K c h =
-    let a = runs_add lane rules line.number line.operation (begun_at line d state J) c.run c.outcome c.runs in
-    let grew : K ≡ (event.Closed line.number c.outcome ∷ a.events) ++ begun_at line d state J = c.closed ∙ ap (λ L. event.Closed line.number c.outcome ∷ L) a.are in
-    let begun = grown_before whole (event.Closed line.number c.outcome ∷ a.events) (begun_at line d state J) (subst (Grown whole) grew h) in
-    grown_before whole (_ ∷ []) J begun
-
-pub grown_deed : (whole : List LaneEvent) (s : Setting) (lane : Low) (deed : Deed) (J K : List LaneEvent) → Does s lane deed J K → Grown whole K → Grown whole J
-grown_deed whole = before_deed (Grown whole) (λ e L other h. grown_before whole (e ∷ []) L h) (grown_run whole)
+    by_end : (IsOwner lane c.state d × IsRunAt lane rules line d c.state J K) ⊎ IsRefused lane line d c.state J K → IsCarriedThen given K
+    by_end (inl r) = carried_to given whole (event.Closed line.number (r.1).outcome) (r.1).run K tt carried grown (r.1).closed
+    by_end (inr r) = carried_to given whole (event.Refused line.number d _) J K tt carried grown r.refused

@@ -32,9 +32,9 @@ use Rattle.lane_completeness.specs.Completeness.{AreAnswered, RunSince, NoneStop
 use Rattle.lane_states.specs.Growing.{heard_next, last_state}
 use Rattle.lane_core.specs.LaneValues.{LaneValue, drawn}
 use Rattle.session_settings.specs.declared.setting.Setting.{Setting}
-use Rattle.session_lanes.specs.Lives.{FeedLine, RunsTo, begun_at, IsRunAt, IsRefused, IsCarriedOut, Deed, Announces, Stops, Starts, Runs, Does, IsLife, outcome_in}
+use Rattle.session_lanes.specs.Lives.{FeedLine, RunsTo, begun_at, IsRunAt, IsRefused, IsCarriedOut, Deed, Announces, Stops, Starts, Runs, Maintains, Does, IsLife, outcome_in}
 use Rattle.session_lanes.specs.Promises.{LacksNothing, IsAcked, IsServed, LosesNone, GoesToOwner, IsNoRefusal, IsPromised, AreServed, IsComplete}
-use Rattle.session_lanes.proofs.Before.{runs_add, legal_begun, legal_before, run_carried, begun_carried, carried_before}
+use Rattle.session_lanes.proofs.Before.{runs_add, legal_begun, legal_before, run_carried, begun_carried, Grown, grown_deed, carried_line}
 use Rattle.session_lanes.proofs.CarriedBefore.{IsCarriedThen, fate_then}
 use Rattle.session_lanes.proofs.Later.{Stays, stays_itself, stays-trans, deed_stays, served_later}
 use Rattle.session_lanes.proofs.Leaving.{Leaves, leaves_to}
@@ -251,30 +251,31 @@ module _ (laws : Laws) (lane : Low) (rules : Rules) (are : AreRules rules) (give
 
 -- ---- all deeds
 
-promised : Laws → (s : Setting) → AreRules s.rules → (lane : Low) (v : LaneValue) (deed : Deed) (J K : List LaneEvent) → IsLegal (setting_of lane s.rules) K → IsCarriedThen v.given K → Stays K v.journal → Does s lane deed J K → IsPromised lane v deed J K
-promised laws s are lane v (Announces state deaf) J K legal t keep does = tt
-promised laws s are lane v (Stops n) J K legal t keep does = tt
-promised laws s are lane v (Starts n) J K legal t keep does = tt
-promised laws s are lane v (Runs line) J K legal t keep does = λ goes.
-    let w = well_by laws lane s.rules are v.given line J K legal t line.via does goes in
-    record {
-      outcome = w.outcome;
-      ended = keep.outcomes line.number w.outcome w.ended;
-      unrefused = w.unrefused;
-      served = λ none. served_later K v.journal keep line (w.served none);
-    }
+module _ (laws : Laws) (s : Setting) (are : AreRules s.rules) (lane : Low) (v : LaneValue) (carried : IsCarried v.given v.journal) where
+  promised : (deed : Deed) (J K : List LaneEvent) → IsLegal (setting_of lane s.rules) K → Grown v.journal K → Stays K v.journal → Does s lane deed J K → IsPromised lane v deed J K
+  promised (Announces state deaf) J K legal grown keep does = tt
+  promised (Stops n) J K legal grown keep does = tt
+  promised (Starts n) J K legal grown keep does = tt
+  promised Maintains J K legal grown keep does = tt
+  promised (Runs line) J K legal grown keep does = λ goes.
+      let t = carried_line v.given v.journal lane s.rules line line.via J K does carried grown in
+      let w = well_by laws lane s.rules are v.given line J K legal t line.via does goes in
+      record {
+        outcome = w.outcome;
+        ended = keep.outcomes line.number w.outcome w.ended;
+        unrefused = w.unrefused;
+        served = λ none. served_later K v.journal keep line (w.served none);
+      }
 
-deeds_promised : Laws → (s : Setting) → AreRules s.rules → (lane : Low) (v : LaneValue) (deeds : List Deed) (K : List LaneEvent) → IsLegal (setting_of lane s.rules) K → IsCarriedThen v.given K → Stays K v.journal
-    → (life : IsLife s lane deeds K) → AreServed s lane v deeds K life
-deeds_promised laws s are lane v [] K legal t keep life = tt
-deeds_promised laws s are lane v (deed ∷ deeds) K legal t keep life =
-    let J = life.0 in
-    let does = life.1.1 in (
-      promised laws s are lane v deed J K legal t keep does,
-      deeds_promised laws s are lane v deeds J (legal_before (setting_of lane s.rules) s lane deed J K does legal) (carried_before v.given s lane deed J K does t)
-          (stays-trans J K v.journal (deed_stays s lane deed J K does) keep) life.1.0,
-    )
+  deeds_promised : (deeds : List Deed) (K : List LaneEvent) → IsLegal (setting_of lane s.rules) K → Grown v.journal K → Stays K v.journal → (life : IsLife s lane deeds K) → AreServed s lane v deeds K life
+  deeds_promised [] K legal grown keep life = tt
+  deeds_promised (deed ∷ deeds) K legal grown keep life =
+      let J = life.0 in
+      let does = life.1.1 in (
+        promised deed J K legal grown keep does,
+        deeds_promised deeds J (legal_before (setting_of lane s.rules) s lane deed J K does legal) (grown_deed v.journal s lane deed J K does grown)
+            (stays-trans J K v.journal (deed_stays s lane deed J K does) keep) life.1.0,
+      )
 
 pub all_served : Laws → (s : Setting) → AreRules s.rules → (lane : Low) (v : LaneValue) → IsLegal (setting_of lane s.rules) v.journal → IsCarried v.given v.journal → IsComplete s lane v
-all_served laws s are lane v legal carried deeds life =
-    deeds_promised laws s are lane v deeds v.journal legal (record { first = v.given; rest = []; carried = carried; are = sym (append-nil v.given) }) (stays_itself v.journal) life
+all_served laws s are lane v legal carried deeds life = deeds_promised laws s are lane v carried deeds v.journal legal ([], refl) (stays_itself v.journal) life

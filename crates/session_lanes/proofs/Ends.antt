@@ -14,10 +14,10 @@ use Rattle.lane_journals.specs.declared.event.LaneEvent.{LaneEvent}
 use Rattle.lane_states.specs.Growing.{heard_next, announced}
 use Rattle.lane_journals.proofs.Basics.{or_else-cases, only_if-some}
 use Rattle.session_settings.specs.declared.setting.Setting.{Setting}
-use Rattle.session_lanes.specs.Lives.{FeedLine, begun_at, IsRunAt, IsRefused, IsCarriedOut, Deed, Announces, Stops, Starts, Runs, Does, IsLife, lines_of, outcome_in}
+use Rattle.session_lanes.specs.Lives.{FeedLine, begun_at, IsRunAt, IsRefused, IsCarriedOut, Deed, Announces, Stops, Starts, Runs, Maintains, Does, IsLife, lines_of, outcome_in}
 use Rattle.session_lanes.proofs.Before.{Grown, grown_deed}
 use Rattle.session_lanes.proofs.Leaving.{leaves_to}
-use Rattle.session_lanes.proofs.OneLine.{Passes, passes_itself, passes_announced, passes_next, passes_stop, passes_start}
+use Rattle.session_lanes.proofs.OneLine.{Passes, passes_itself, passes_announced, passes_next, passes_stop, passes_start, passes_upkeep}
 
 -- the distributor at which a line that was carried out went, the state there, and the journal as it came to it
 pub record Arrival (lane : Low) (rules : Rules) (line : FeedLine) (J K : List LaneEvent) : Type 0 where
@@ -105,6 +105,7 @@ module _ (s : Setting) (lane : Low) (whole : List LaneEvent) (number : ℕ) (x :
   by_deed (Announces state deaf) deeds J K grown does before h = passed (Announces state deaf) deeds J _ (passes_announced deaf state J) refl before (ap (outcome_in number) (sym does) ∙ h)
   by_deed (Stops n) deeds J K grown does before h = passed (Stops n) deeds J _ (passes_stop n J) refl before (ap (outcome_in number) (sym does) ∙ h)
   by_deed (Starts n) deeds J K grown does before h = passed (Starts n) deeds J _ (passes_start n J) refl before (ap (outcome_in number) (sym does) ∙ h)
+  by_deed Maintains deeds J K grown does before h = passed Maintains deeds J K (passes_upkeep lane J K does) refl before h
   by_deed (Runs line) deeds J K grown does before h = by_line line deeds J K (ends lane s.rules line line.via J K refl does) grown before h
 
   none_first : outcome_in number (announced 0 s.initial []) ≡ Some x → ⊥

@@ -11,15 +11,17 @@ use Rattle.lane_journals.specs.declared.event.LaneEvent.{LaneEvent}
 use Rattle.lane_journals.specs.declared.event.LaneEvent.TheVariants as event
 use Rattle.lane_keeping.specs.Acting.{IsNoHearing}
 use Rattle.lane_states.specs.Growing.{is_older, heard_next, heard_below, stopped_next, started_next, last_state}
+use Rattle.upkeep_answers.specs.Spans.{IsUpkeepEvent}
 use Rattle.session_settings.specs.declared.setting.Setting.{Setting}
 use Rattle.session_lanes.specs.Hearings.{deaf_in, WasTold, HeardNewest}
-use Rattle.session_lanes.specs.Lives.{FeedLine, begun_at, IsRunAt, IsRefused, IsCarriedOut, Deed, Announces, Stops, Starts, Runs, IsLife, newest_in}
+use Rattle.session_lanes.specs.Lives.{FeedLine, begun_at, IsRunAt, IsRefused, IsCarriedOut, Deed, Announces, Stops, Starts, Runs, Maintains, IsMaintained, IsLife, newest_in}
 use Rattle.session_lanes.proofs.Before.{runs_down}
 use Rattle.session_lanes.proofs.FirstEvents.{held_told}
 use Rattle.session_lanes.proofs.Leaving.{leaves_to}
 use Rattle.session_lanes.proofs.Living.{newest_published}
 use Rattle.session_lanes.proofs.Quiet.{AddsFor}
 use Rattle.session_lanes.proofs.Told.{heard_keeps}
+use Rattle.session_lanes.proofs.Upkept.{upkeep_adds, leaves_upkeep, upkeep_down}
 
 -- ---- who isn't deaf holds the newest state
 
@@ -56,6 +58,13 @@ held_line lane rules line (Some e) J K t d last is c = by_end c.ends
     by_end (inl r) = held_run lane rules line e c.state J K d r.1 ∙ is
     by_end (inr r) = ap (holds d) r.refused ∙ is
 
+held_upkeep : (lane : Low) (J K : List LaneEvent) (t : ClusterState) (d : ℕ) → last_state J ≡ Some t → holds d J ≡ Some t.version → (K ≡ J) ⊎ IsMaintained lane J K → holds d K ≡ Some t.version
+held_upkeep lane J K t d last is (inl same) = ap (holds d) same ∙ is
+held_upkeep lane J K t d last is (inr m) =
+    let same : m.state ≡ t = one_state (sym m.newest ∙ last) in
+    let was : holds d J ≡ Some (m.state).version = is ∙ ap (λ (x : ClusterState). Some x.version) (sym same) in
+    (leaves_upkeep 0 m.owner (m.state).version _ K m.pass).held_is d ∙ held_next m.owner m.state J d was ∙ ap (λ (x : ClusterState). Some x.version) same
+
 held_stop : (n : ℕ) (J : List LaneEvent) (d : ℕ) → holds d (stopped_next n J) ≡ holds d J
 held_stop n J d = by_test (stopped n (history J))
   where
@@ -75,6 +84,8 @@ told_hold s lane [] J life d small hears = ap (holds d) life ∙ held_told 0 s.i
 told_hold s lane (Announces state deaf ∷ deeds) K life d small hears = ap (holds d) life.1.1 ∙ held_told deaf state life.0 d small hears
 told_hold s lane (Stops n ∷ deeds) K life d small hears = ap (holds d) life.1.1 ∙ held_stop n life.0 d ∙ told_hold s lane deeds life.0 life.1.0 d small hears
 told_hold s lane (Starts n ∷ deeds) K life d small hears = ap (holds d) life.1.1 ∙ held_start n life.0 d ∙ told_hold s lane deeds life.0 life.1.0 d small hears
+told_hold s lane (Maintains ∷ deeds) K life d small hears =
+    held_upkeep lane life.0 K (newest_in s deeds) d (newest_published s lane deeds life.0 life.1.0) (told_hold s lane deeds life.0 life.1.0 d small hears) life.1.1
 told_hold s lane (Runs line ∷ deeds) K life d small hears =
     held_line lane s.rules line line.via life.0 K (newest_in s deeds) d (newest_published s lane deeds life.0 life.1.0) (told_hold s lane deeds life.0 life.1.0 d small hears) life.1.1
 
@@ -198,6 +209,16 @@ module _ (d v : ℕ) (before : List LaneEvent) where
       by_end (inl r) = inr (in_run lane rules line e c.state J K r.1 h)
       by_end (inr r) = inr (passes _ J tt (subst Has r.refused h))
 
+  -- ---- at upkeep
+
+  upkeep_no_hearing : (e w : ℕ) (x : LaneEvent) → IsUpkeepEvent e w x → IsNoHearing x
+  upkeep_no_hearing e w x is = no_hearing 0 x (upkeep_adds 0 e w x is)
+
+  in_upkeep : (lane : Low) (J K : List LaneEvent) → (K ≡ J) ⊎ IsMaintained lane J K → Has K → IsByOwner lane ⊎ Has J
+  in_upkeep lane J K (inl same) h = inr (subst Has same h)
+  in_upkeep lane J K (inr m) h =
+      in_next lane m.owner m.state J m.newest m.owns (upkeep_down Has m.owner (m.state).version (λ x L is has. passes x L (upkeep_no_hearing m.owner (m.state).version x is) has) _ K m.pass h)
+
   -- ---- at any deed
 
   in_stop : (n : ℕ) (J : List LaneEvent) → Has (stopped_next n J) → Has J
@@ -255,6 +276,10 @@ module _ (d v : ℕ) (before : List LaneEvent) where
     ]
     hears_newest (Stops n ∷ deeds) K life h = later (Stops n) deeds (hears_newest deeds life.0 life.1.0 (in_stop n life.0 (subst Has life.1.1 h)))
     hears_newest (Starts n ∷ deeds) K life h = later (Starts n) deeds (hears_newest deeds life.0 life.1.0 (in_start n life.0 (subst Has life.1.1 h)))
+    hears_newest (Maintains ∷ deeds) K life h = elim (in_upkeep lane life.0 K life.1.1 h) [
+      | inl owner ↦ by_owner (Maintains ∷ deeds) owner
+      | inr old ↦ later Maintains deeds (hears_newest deeds life.0 life.1.0 old)
+    ]
     hears_newest (Runs line ∷ deeds) K life h = elim (in_line lane s.rules line line.via life.0 K life.1.1 h) [
       | inl owner ↦ by_owner (Runs line ∷ deeds) owner
       | inr old ↦ later (Runs line) deeds (hears_newest deeds life.0 life.1.0 old)

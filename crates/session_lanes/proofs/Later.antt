@@ -10,10 +10,10 @@ use Rattle.lane_journals.specs.Meanings.{history}
 use Rattle.lane_journals.specs.declared.event.LaneEvent.{LaneEvent}
 use Rattle.lane_journals.proofs.Basics.{or_else-some}
 use Rattle.session_settings.specs.declared.setting.Setting.{Setting}
-use Rattle.session_lanes.specs.Lives.{FeedLine, begun_at, IsRunAt, IsRefused, IsCarriedOut, Deed, Announces, Stops, Starts, Runs, Does, outcome_in}
+use Rattle.session_lanes.specs.Lives.{FeedLine, begun_at, IsRunAt, IsRefused, IsCarriedOut, Deed, Announces, Stops, Starts, Runs, Maintains, Does, outcome_in}
 use Rattle.session_lanes.specs.Promises.{IsServed}
 use Rattle.session_lanes.proofs.Leaving.{leaves_to}
-use Rattle.session_lanes.proofs.OneLine.{Passes, passes_announced, passes_next, passes_stop, passes_start}
+use Rattle.session_lanes.proofs.OneLine.{Passes, passes_announced, passes_next, passes_stop, passes_start, passes_upkeep}
 
 pub record Stays (J K : List LaneEvent) : Type 0 where
   pub outcomes : (j : ℕ) (x : Outcome) → outcome_in j J ≡ Some x → outcome_in j K ≡ Some x
@@ -55,6 +55,7 @@ deed_stays s lane (Announces state deaf) J K does = subst (Stays J) (sym does) (
 deed_stays s lane (Stops n) J K does = subst (Stays J) (sym does) (stays_passes J _ (passes_stop n J))
 deed_stays s lane (Starts n) J K does = subst (Stays J) (sym does) (stays_passes J _ (passes_start n J))
 deed_stays s lane (Runs line) J K does = stays_line lane s.rules line line.via J K does
+deed_stays s lane Maintains J K does = stays_passes J K (passes_upkeep lane J K does)
 
 -- a line that was served is served later
 pub served_later : (J K : List LaneEvent) → Stays J K → (line : FeedLine) → IsServed J line → IsServed K line

@@ -3,6 +3,7 @@ pub mod Running
 pub mod FirstEvents
 pub mod Quiet
 pub mod Leaving
+pub mod Upkept
 pub mod OneLine
 pub mod LineRuns
 pub mod Living
@@ -17,3 +18,4 @@ pub mod Ends
 pub mod Refusals
 pub mod Shortfalls
 pub mod Hearing
+pub mod UpkeepSpans

@@ -1,5 +1,5 @@
 -- What a deed leaves of all lines but its own, and what it brings.
-use Rattle.std.proofs.Common.{◌≡◌, ◌≢◌, ◌==◌, ◌⊎◌, ℕ, Bool, true, false, List, [], ◌∷◌, Option, None, Some, inl, inr, refl, sym, ap, ◌∙◌, subst, arith, if◌then◌else◌}
+use Rattle.std.proofs.Common.{◌≡◌, ◌≢◌, ◌==◌, ◌⊎◌, ◌+◌, ℕ, Bool, true, false, List, [], ◌∷◌, Option, None, Some, inl, inr, refl, sym, ap, ◌∙◌, subst, arith, if◌then◌else◌}
 use Rattle.std.specs.Option.{IsSome}
 use Rattle.std.proofs.lemmas.Bool.Decides.{nat_tests}
 use Rattle.bucket_ids.specs.Buckets.{Low}
@@ -17,10 +17,12 @@ use Rattle.lane_journals.specs.declared.event.LaneEvent.{LaneEvent}
 use Rattle.lane_journals.specs.declared.event.LaneEvent.TheVariants as event
 use Rattle.lane_operations.specs.OperationKeeping.{IsFresh}
 use Rattle.lane_states.specs.Growing.{heard_next, announced, stopped_next, started_next}
+use Rattle.upkeep_answers.specs.Spans.{AreUpkeep}
 use Rattle.session_settings.specs.declared.setting.Setting.{Setting}
-use Rattle.session_lanes.specs.Lives.{FeedLine, IsRunAt, IsRefused, IsCarriedOut, Deed, Announces, Stops, Starts, Runs, Does, outcome_in, told_events}
+use Rattle.session_lanes.specs.Lives.{FeedLine, IsRunAt, IsRefused, IsCarriedOut, Deed, Announces, Stops, Starts, Runs, Maintains, Does, IsMaintained, outcome_in, told_events}
 use Rattle.session_lanes.proofs.Leaving.{Leaves, leaves_to}
 use Rattle.session_lanes.proofs.Told.{some_or, heard_keeps, next_keeps, told_next}
+use Rattle.session_lanes.proofs.Upkept.{leaves_upkeep}
 
 -- ---- readers past the events of another line
 
@@ -171,6 +173,40 @@ passes_start n J = by_test (stopped n (history J))
     by_test true = passes_started n J
     by_test false = passes_itself J
 
+pub passes-trans : (I J K : List LaneEvent) → Passes I J → Passes J K → Passes I K
+passes-trans I J K a b = record {
+  heard = λ d h. b.heard d (a.heard d h);
+  began_is = λ j. b.began_is j ∙ a.began_is j;
+  refused_is = λ j. b.refused_is j ∙ a.refused_is j;
+  prepared_is = λ j. b.prepared_is j ∙ a.prepared_is j;
+  wrote_is = λ j. b.wrote_is j ∙ a.wrote_is j;
+  closed_is = λ j. b.closed_is j ∙ a.closed_is j;
+  before_is = λ j. b.before_is j ∙ a.before_is j;
+  outcome_is = λ j. b.outcome_is j ∙ a.outcome_is j;
+  entries = λ t e is. b.entries t e (a.entries t e is);
+}
+
+-- a pass of upkeep is of no line, so not of that behind any other
+next_other : (j : ℕ) → j ≢ j + 1
+next_other j e = omega (arith, e)
+
+passes_pass : (d v : ℕ) (J K : List LaneEvent) → AreUpkeep d v J K → Passes J K
+passes_pass d v J K pass = let left = leaves_upkeep 0 d v J K pass in record {
+  heard = λ e some. subst IsSome (sym (left.held_is e)) some;
+  began_is = left.began_is;
+  refused_is = left.refused_is;
+  prepared_is = λ j. (leaves_upkeep (j + 1) d v J K pass).prepared_is j (next_other j);
+  wrote_is = λ j. (leaves_upkeep (j + 1) d v J K pass).wrote_is j (next_other j);
+  closed_is = left.closed_is;
+  before_is = left.before_is;
+  outcome_is = left.outcome_is;
+  entries = left.entries;
+}
+
+pub passes_upkeep : (lane : Low) (J K : List LaneEvent) → (K ≡ J) ⊎ IsMaintained lane J K → Passes J K
+passes_upkeep lane J K (inl same) = subst (Passes J) (sym same) (passes_itself J)
+passes_upkeep lane J K (inr m) = let heard = heard_next m.owner (Some m.state) J in passes-trans J heard K (passes_next m.owner m.state J) (passes_pass m.owner (m.state).version heard K m.pass)
+
 -- ---- a line
 
 -- the line wasn't begun
@@ -268,6 +304,7 @@ deed_is s lane (Announces state deaf) n of J K does = subst (IsLine n J) (sym do
 deed_is s lane (Stops m) n of J K does = subst (IsLine n J) (sym does) (line_passes n J _ (passes_stop m J))
 deed_is s lane (Starts m) n of J K does = subst (IsLine n J) (sym does) (line_passes n J _ (passes_start m J))
 deed_is s lane (Runs line) n of J K does = subst (λ k. IsLine k J K) of (line_is lane s.rules line line.via J K does)
+deed_is s lane Maintains n of J K does = line_passes n J K (passes_upkeep lane J K does)
 
 -- ---- what a line is told and ends with
 
@@ -282,6 +319,11 @@ told_line lane rules line (Some d) J K c = by_end c.ends
     by_end : (IsOwner lane c.state d × IsRunAt lane rules line d c.state J K) ⊎ IsRefused lane line d c.state J K → told_events K ≡ told_events J
     by_end (inl r) = told_run lane rules line d c.state J K r.1
     by_end (inr r) = ap told_events r.refused
+
+-- nor does upkeep
+pub told_upkeep : (lane : Low) (J K : List LaneEvent) → (K ≡ J) ⊎ IsMaintained lane J K → told_events K ≡ told_events J
+told_upkeep lane J K (inl same) = ap told_events same
+told_upkeep lane J K (inr m) = (leaves_upkeep 0 m.owner (m.state).version _ K m.pass).told_is ∙ told_next m.owner m.state J
 
 -- its outcome is the one that it was closed with
 pub run_outcome : (lane : Low) (rules : Rules) (line : FeedLine) (d : ℕ) (state : ClusterState) (J K : List LaneEvent) → outcome_in line.number J ≡ None → (c : IsRunAt lane rules line d state J K) → outcome_in line.number K ≡ Some c.outcome

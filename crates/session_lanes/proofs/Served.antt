@@ -1,5 +1,5 @@
 -- A lane that serves its lines may be told or asked of one thing more, and then serves on.
-use Rattle.std.proofs.Common.{◌≡◌, ◌<◌, ℕ, Bool, false, List, ◌∷◌, Some, refl, sym, ap, ◌∙◌, subst}
+use Rattle.std.proofs.Common.{◌≡◌, ◌<◌, ℕ, Bool, false, List, ◌∷◌, Some, inl, inr, refl, sym, ap, ◌∙◌, subst}
 use Rattle.std.specs.Option.{IsSome}
 use Rattle.bucket_ids.specs.Buckets.{Low}
 use Rattle.carriers.specs.declared.fate.Fate.{Fate}
@@ -16,9 +16,11 @@ use Rattle.lane_operations.specs.OperationKeeping.{IsFresh}
 use Rattle.lane_states.specs.Growing.{announced, stopped_next, started_next, last_state}
 use Rattle.lane_core.specs.LaneValues.{LaneValue, IsLaneValue}
 use Rattle.session_settings.specs.declared.setting.Setting.{Setting}
-use Rattle.session_lanes.specs.Lives.{FeedLine, Deed, Announces, Stops, Starts, Runs, Does, IsCarriedOut, lines_of, last_line, AreRising, states_in, newest_in}
+use Rattle.session_lanes.specs.Lives.{FeedLine, Deed, Announces, Stops, Starts, Runs, Maintains, Does, IsMaintained, IsCarriedOut, lines_of, last_line, AreRising, states_in, newest_in}
 use Rattle.session_lanes.specs.Runs.{IsLineRun}
+use Rattle.session_lanes.specs.Upkeep.{MayBeUpkept}
 use Rattle.session_lanes.specs.Serving.{bucket_in, IsServing}
+use Rattle.session_lanes.proofs.Upkept.{pass_made}
 use Rattle.session_lanes.proofs.Living.{heard_all, newest_published, states_published, others_fresh, later_none}
 
 abbrev told_of : ℕ → List ClusterState → Told
@@ -72,6 +74,18 @@ module _ (s : Setting) (planned : List Fate) (lane : ℕ) (deeds : List Deed) (v
 
     pub serves_run : (line : FeedLine) (x : Outcome) → IsServing s planned lane deeds v → last_line (lines_of deeds) < line.number → IsLineRun line v new x → IsServing s planned lane (Runs line ∷ deeds) new
     serves_run line x is later run = serves_after (Runs line) new.journal new.given v.has_room is run.after run.holds (later, is.rising) (carried_here line x is run)
+
+    -- a pass of upkeep, or none
+    upkept_here : IsServing s planned lane deeds v → MayBeUpkept v new → Does s (bucket_in s lane) Maintains v.journal new.journal
+    upkept_here is (inl same) = inl (ap (λ (n : LaneValue). n.journal) same)
+    upkept_here is (inr m) = inr (subst (λ (b : Low). IsMaintained b v.journal new.journal) is.lane_is (pass_made v new m))
+
+    upkept_after : MayBeUpkept v new → new ≡ record v { journal = new.journal; given = new.given; has_room = v.has_room }
+    upkept_after (inl same) = same ∙ (λ i. record v { journal = (sym same i).journal; given = (sym same i).given })
+    upkept_after (inr m) = m.after
+
+    pub serves_upkept : IsServing s planned lane deeds v → MayBeUpkept v new → IsLaneValue new → IsServing s planned lane (Maintains ∷ deeds) new
+    serves_upkept is may holds = serves_after Maintains new.journal new.given v.has_room is (upkept_after may) holds is.rising (upkept_here is may)
 
     -- ---- what is no deed
 

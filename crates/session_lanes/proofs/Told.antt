@@ -10,7 +10,7 @@ use Rattle.lane_journals.specs.declared.event.LaneEvent.{LaneEvent}
 use Rattle.lane_journals.specs.declared.event.LaneEvent.TheVariants as event
 use Rattle.lane_states.specs.Growing.{is_older, heard_next, heard_below, announced, stopped_next, started_next, last_state}
 use Rattle.session_settings.specs.declared.setting.Setting.{Setting}
-use Rattle.session_lanes.specs.Lives.{Deed, Announces, Stops, Starts, Runs, states_in, newest_in, deed_events, told_events}
+use Rattle.session_lanes.specs.Lives.{Deed, Announces, Stops, Starts, Runs, Maintains, states_in, newest_in, deed_events, told_events}
 
 -- ---- who hears a state
 
@@ -162,6 +162,7 @@ states_told s (Announces state deaf ∷ deeds) = ap (λ (ss : List ClusterState)
 states_told s (Stops n ∷ deeds) = either published_states (stopped n (history (deed_events s deeds))) _ _ _ (states_told s deeds) (states_told s deeds)
 states_told s (Starts n ∷ deeds) = either published_states (stopped n (history (deed_events s deeds))) _ _ _ (states_told s deeds) (states_told s deeds)
 states_told s (Runs line ∷ deeds) = states_told s deeds
+states_told s (Maintains ∷ deeds) = states_told s deeds
 
 pub newest_told : (s : Setting) (deeds : List Deed) → last_state (deed_events s deeds) ≡ Some (newest_in s deeds)
 newest_told s [] = refl
@@ -169,3 +170,4 @@ newest_told s (Announces state deaf ∷ deeds) = refl
 newest_told s (Stops n ∷ deeds) = either last_state (stopped n (history (deed_events s deeds))) _ _ _ (newest_told s deeds) (newest_told s deeds)
 newest_told s (Starts n ∷ deeds) = either last_state (stopped n (history (deed_events s deeds))) _ _ _ (newest_told s deeds) (newest_told s deeds)
 newest_told s (Runs line ∷ deeds) = newest_told s deeds
+newest_told s (Maintains ∷ deeds) = newest_told s deeds

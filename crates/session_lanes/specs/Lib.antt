@@ -1,8 +1,9 @@
 -- `Lives` says what happens in a lane of a session, `Serving` what its lane is between two lines, `Runs` what the
--- calls say of one operation, `Promises` what becomes of lines and of what was acknowledged, and `Hearings` who hears
--- which state.
+-- calls say of one operation and `Upkeep` what they say of upkeep, `Promises` what becomes of lines and of what was
+-- acknowledged, and `Hearings` who hears which state.
 pub mod Lives
 pub mod Runs
+pub mod Upkeep
 pub mod Serving
 pub mod Promises
 pub mod Hearings

@@ -1,5 +1,6 @@
 -- What happens in a lane of a session: the first state is published and heard by all, and then come further states,
--- stops and starts of nodes, and the lines that ask for an operation there, one after the other. Nothing else happens.
+-- stops and starts of nodes, upkeep, and the lines that ask for an operation there, one after the other. Nothing else
+-- happens.
 use Rattle.std.specs.Prelude.{◌≡◌, ◌≢◌, ◌==◌, ◌⊎◌, ℕ, ◌<◌, List, [], ◌∷◌, ◌++◌, Option, None, Some}
 use Rattle.bucket_ids.specs.Buckets.{Low}
 use Rattle.cluster_states.specs.declared.cluster_state.ClusterState.{ClusterState}
@@ -15,6 +16,7 @@ use Rattle.lane_journals.specs.declared.event.LaneEvent.{LaneEvent}
 use Rattle.lane_journals.specs.declared.event.LaneEvent.TheVariants.{Published, Begun, Refused, Closed, Stopped, Started}
 use Rattle.lane_states.specs.Growing.{heard_next, announced, stopped_next, started_next, last_state}
 use Rattle.lane_core.specs.LaneValues.{drawn}
+use Rattle.upkeep_answers.specs.Spans.{AreUpkeep}
 use Rattle.lane_wants.specs.Wants.{IsRun, IsCutRun, IsEnd}
 use Rattle.session_settings.specs.declared.setting.Setting.{Setting}
 
@@ -71,6 +73,16 @@ abbrev pub IsCarriedOut : Low → Rules → FeedLine → Option ℕ → List Lan
 IsCarriedOut lane rules line None J K = IsRunAtOwner lane rules line J K
 IsCarriedOut lane rules line (Some d) J K = IsRunVia lane rules line d J K
 
+-- ---- upkeep
+
+-- the lane's owner under the newest state hears that state, and makes a pass of upkeep
+pub record IsMaintained (lane : Low) (J K : List LaneEvent) : Type 0 where
+  pub state : ClusterState
+  pub newest : last_state J ≡ Some state
+  pub owner : ℕ
+  pub owns : IsOwner lane state owner
+  pub pass : AreUpkeep owner state.version (heard_next owner (Some state) J) K
+
 -- ---- all that happens
 
 pub data Deed : Type 0 where
@@ -82,6 +94,8 @@ pub data Deed : Type 0 where
   Starts : ℕ → Deed
   -- a line asks for its operation
   Runs : FeedLine → Deed
+  -- upkeep is asked for; want of memory may cut it, or keep it from beginning
+  Maintains : Deed
 
 -- what a deed does to a lane's journal
 abbrev pub Does : Setting → Low → Deed → List LaneEvent → List LaneEvent → Type 0
@@ -89,6 +103,7 @@ Does s lane (Announces state deaf) J K = K ≡ announced deaf state J
 Does s lane (Stops n) J K = K ≡ stopped_next n J
 Does s lane (Starts n) J K = K ≡ started_next n J
 Does s lane (Runs line) J K = IsCarriedOut lane s.rules line line.via J K
+Does s lane Maintains J K = (K ≡ J) ⊎ IsMaintained lane J K
 
 -- the journal is what these deeds make, the newest first, after the first state was published and heard by all
 abbrev pub IsLife : Setting → Low → List Deed → List LaneEvent → Type 0
@@ -142,6 +157,7 @@ deed_events s (Announces state deaf ∷ deeds) = Published state ∷ deed_events
 deed_events s (Stops n ∷ deeds) = stopped_next n (deed_events s deeds)
 deed_events s (Starts n ∷ deeds) = started_next n (deed_events s deeds)
 deed_events s (Runs line ∷ deeds) = deed_events s deeds
+deed_events s (Maintains ∷ deeds) = deed_events s deeds
 
 -- ---- what is read off a journal
 

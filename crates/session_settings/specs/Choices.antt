@@ -14,7 +14,7 @@ use Rattle.session_settings.specs.declared.choice.Choice.{Choice}
 
 -- an option that isn't built yet stands at its default
 unfoldable pub is_built : Options → Bool
-is_built o = o.feeders == 0 && (o.searchable == 1 && (o.split_at == 64 && not (is_some o.generate)))
+is_built o = o.feeders == 0 && not (is_some o.generate)
 
 abbrev pub rules_of : Options → Rules
 rules_of o = record { redundancy = o.redundancy; acks = o.acks; searchable = o.searchable; split_at = o.split_at }

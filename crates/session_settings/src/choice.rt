@@ -55,10 +55,7 @@ pub fn read_choice(alloc: Global, words: &[String]) -> Result<Choice, WordsFault
 fn is_built(options: &Options) -> bool
     ensures { result ≡ is_built options.now }
 {
-    options.feeders == 0
-        && options.searchable == 1
-        && options.split_at == 64
-        && options.generate.is_none()
+    options.feeders == 0 && options.generate.is_none()
 }
 
 /// The state that the options say, where it can be published first.

@@ -3,10 +3,12 @@
 //! file and a line there.
 #![tactic(auto)]
 
+mod facts;
 mod fated;
 mod left;
 mod story;
 
+use crate::facts::fact_of;
 use crate::fated::FirstLaneFates;
 use crate::left::print_left;
 use crate::story::Story;
@@ -24,26 +26,41 @@ fn main(rt: HostRuntime) -> Result<ExitCode> {
     for name in index.lines() {
         let text = fs::read_to_string(&rt, name)?;
         let story = Story::parse(rt.alloc(), &text)?;
-        let (output, status) = tell(rt.alloc(), &story)?;
-        if status == story.status && output == story.output {
+        let told = tell(rt.alloc(), &story)?;
+        if told.status == story.status && told.output == story.output && told.facts == story.facts {
             println!(rt; "ok {name}")?;
         } else {
             failed = 1;
             println!(rt; "DIFFERS {name}")?;
             println!(rt;
-                "wanted status {} and\n{}",
+                "wanted status {} and\n{}{}",
                 story.status,
-                shown(&story.output)
+                shown(&story.output),
+                &story.facts
             )?;
-            println!(rt; "came status {status} and\n{}", shown(&output))?;
+            println!(rt;
+                "came status {} and\n{}{}",
+                told.status,
+                shown(&told.output),
+                &told.facts
+            )?;
         }
     }
     print_left(&rt)?;
     Ok(ExitCode::from(failed))
 }
 
-/// What the session answers, and its status.
-fn tell(alloc: Global, story: &Story) -> Result<(Vec<u8>, u8)> {
+/// What a session came to.
+#[derive(Drop)]
+struct Told {
+    output: Vec<u8>,
+    status: u8,
+    /// What the cluster that it leaves says where the story says something.
+    facts: String,
+}
+
+/// Runs the session of a story.
+fn tell(alloc: Global, story: &Story) -> Result<Told> {
     let mut input = Vec::new(alloc);
     input.extend_from_slice(&story.input)?;
     let mut source = MemorySource::new(input, copied(alloc, &story.reads)?);
@@ -60,7 +77,16 @@ fn tell(alloc: Global, story: &Story) -> Result<(Vec<u8>, u8)> {
     );
     let mut output = Vec::new(alloc);
     output.extend_from_slice(sink.bytes())?;
-    Ok((output, status.number()))
+    let mut facts = String::new(alloc);
+    for line in story.facts.lines() {
+        facts.push_str(&fact_of(alloc, &cluster, line)?)?;
+        facts.push_str("\n")?;
+    }
+    Ok(Told {
+        output,
+        status: status.number(),
+        facts,
+    })
 }
 
 fn copied(alloc: Global, calls: &[u64]) -> Result<Vec<u64>> {

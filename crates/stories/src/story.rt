@@ -1,3 +1,4 @@
+use crate::facts::is_fact;
 use anyhow::{Result, anyhow};
 use carriers::Fate;
 use std::alloc::Global;
@@ -17,13 +18,15 @@ pub struct Story {
     pub fates: Vec<Fate>,
     /// The bytes that it must write.
     pub output: Vec<u8>,
+    /// What must be so of the cluster that it leaves, one fact a line.
+    pub facts: String,
     /// The exit status that it must end with.
     pub status: u8,
 }
 
 impl Story {
-    /// Reads a story: a line of words, the input, a line of four dashes, the output, and a line with
-    /// the status.
+    /// Reads a story: a line of words, the input, a line of four dashes, the output, facts of what is left, and a
+    /// line with the status.
     pub fn parse(alloc: Global, text: &str) -> Result<Story> {
         let (first, rest) = text.split_once('\n').ok_or(anyhow!("no line of words"))?;
         let (input, rest) = rest.split_once("----\n").ok_or(anyhow!("no dashes"))?;
@@ -40,6 +43,7 @@ impl Story {
             writes: calls(alloc, input, "%sink_fails ")?,
             fates: fates(alloc, input)?,
             output: expand(alloc, output)?,
+            facts: facts(alloc, output)?,
             status: status.parse::<u8>()?,
         })
     }
@@ -57,6 +61,18 @@ fn word_of(alloc: Global, text: &str) -> Result<String> {
         word.push_str(piece)?;
     }
     Ok(word)
+}
+
+/// The lines that say facts.
+fn facts(alloc: Global, lines: &str) -> Result<String> {
+    let mut facts = String::new(alloc);
+    for line in lines.lines() {
+        if is_fact(line) {
+            facts.push_str(line)?;
+            facts.push_str("\n")?;
+        }
+    }
+    Ok(facts)
 }
 
 /// The fates that the lines say which begin with `%fates`.
@@ -102,7 +118,8 @@ fn calls(alloc: Global, lines: &str, word: &str) -> Result<Vec<u64>> {
 /// - `%open` takes the last line feed away, so that the next line goes on there;
 /// - `%source_fails N` and `%sink_fails N` stand for nothing: call N of that end fails;
 /// - `%fates F ..` stands for nothing: the first messages of lane 0 have these fates, where a number is that
-///   of a late one.
+///   of a late one;
+/// - a fact stands for nothing (`facts`).
 fn expand(alloc: Global, lines: &str) -> Result<Vec<u8>> {
     let mut bytes = Vec::new(alloc);
     for line in lines.lines() {
@@ -139,6 +156,7 @@ fn push(bytes: &mut Vec<u8>, line: &str) -> Result<()> {
     } else if !line.starts_with("%source_fails ")
         && !line.starts_with("%sink_fails ")
         && !line.starts_with("%fates ")
+        && !is_fact(line)
     {
         bytes.extend_from_slice(line.as_bytes())?;
         bytes.push(b'\n')?;

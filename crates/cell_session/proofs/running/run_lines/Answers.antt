@@ -1,18 +1,18 @@
 use Rattle.std.proofs.Common.{◌∙◌, sym, ap, arith}
 use Rattle.cell_session.proofs.Clauses.{unmade_ends}
-use Rattle.cell_session.proofs.Loops.{so_far_new, so_far_ready, so_far_more, over_ends, states_end, fault_ends, memory_ends, opened_ends}
+use Rattle.cell_session.proofs.Loops.{so_far_new, so_far_ready, so_far_more, over_ends, full_end, fault_ends, memory_ends, opened_ends}
 use Rattle.cell_session.proofs.running.run_lines.Goals as goal
 
 pub returns-in_default-clause-ended : goal.returns-in_default-clause-ended
 returns-in_default-clause-ended g c = unmade_ends _ _ _ _ _ _ _ _ c.requires.empty c.in_default.ensures.err
 
 pub returns-in_default-new-clause-ended : goal.returns-in_default-new-clause-ended
-returns-in_default-new-clause-ended g c = opened_ends _ _ _ _ _ _ _ c.in-Ok.ensures.ok
+returns-in_default-new-clause-ended g c = opened_ends _ _ _ _ _ _ _ c.in-Ok.ensures.ok c.in-Ok.ensures.none
 
 pub loop-number-init : goal.loop-number-init
 loop-number-init g c =
     let is = c.in-Ok-new.ensures in
-    (so_far_new _ _ _ _ _ _ _ c.requires.setting is c.in-Ok.ensures.ok, (ap (λ r. r.max_lines) is, ap (λ r. r.max_bytes) is), omega (arith, ap (λ r. r.lines) is), (omega arith, omega arith))
+    (so_far_new _ _ _ _ _ _ _ c.requires.setting is c.in-Ok.ensures.ok c.in-Ok.ensures.none, (ap (λ r. r.max_lines) is, ap (λ r. r.max_bytes) is), omega (arith, ap (λ r. r.lines) is), (omega arith, omega arith))
 
 pub answer_line-requires-clause-ready : goal.answer_line-requires-clause-ready
 answer_line-requires-clause-ready g c = so_far_ready _ _ _ _ _ _ _ _ _ _ _ c.loop-number.invariant.0 c.in-Command.ensures.advances.numbered
@@ -24,7 +24,7 @@ loop-number-preserved g c =
     let told = c.in-Ok-answer_line.ensures in
     let grows = seen.advances.grows in
     let same_lines = grows.max_lines ∙ so.1.0 in (
-      so_far_more _ _ _ _ _ _ _ _ _ _ _ _ _ _ _ _ _ so.0 so.1.0 so.1.1 seen.shows seen.stands (sym c.in-Some.ensures) seen.advances.numbered grows.lines told.dealt told.written,
+      so_far_more _ _ _ _ _ _ _ _ _ _ _ _ _ _ _ _ _ so.0 so.1.0 so.1.1 seen.shows seen.stands (sym c.in-Ok-counts_with.ensures) seen.advances.numbered grows.lines told.dealt told.noted told.written,
       (same_lines, grows.max_bytes ∙ so.1.1),
       omega (arith, seen.advances.few, same_lines),
       (omega (arith, so.3.0, seen.count), omega (arith, so.3.1, told.count)),
@@ -36,20 +36,20 @@ returns-in-Over-clause-ended g c =
     let over = c.in-Over.ensures in
     over_ends _ _ _ _ _ _ _ _ _ _ _ _ _ so.0 so.1.0 so.1.1 over.shows over.stands over.advances _ _ _ over.cause
 
-pub returns-in_default-states_with-clause-ended : goal.returns-in_default-states_with-clause-ended
-returns-in_default-states_with-clause-ended g c =
+pub returns-in-Err-clause-ended : goal.returns-in-Err-clause-ended
+returns-in-Err-clause-ended g c =
     let so = c.loop-number.invariant in
     let seen = c.in-Command.ensures in
-    states_end _ _ _ _ _ _ _ _ _ _ _ 0 _ so.0 so.1.0 so.1.1 seen.shows (sym c.in_default-states_with.ensures)
+    full_end _ _ _ _ _ _ _ _ _ _ _ 0 _ _ so.0 so.1.0 so.1.1 seen.shows (sym c.in-Err.ensures)
 
 pub returns-in-Err-Fault-clause-ended : goal.returns-in-Err-Fault-clause-ended
 returns-in-Err-Fault-clause-ended g c =
     let so = c.loop-number.invariant in
     let seen = c.in-Command.ensures in
-    fault_ends _ _ _ _ _ _ _ _ _ _ _ _ _ _ _ _ _ _ so.0 so.1.0 so.1.1 seen.shows seen.stands (sym c.in-Some.ensures) seen.advances.numbered seen.advances.grows.lines seen.advances.little c.in-Err-Fault.field-0-is c.in-Err-Fault.ensures.stopped
+    fault_ends _ _ _ _ _ _ _ _ _ _ _ _ _ _ _ _ _ _ so.0 so.1.0 so.1.1 seen.shows seen.stands (sym c.in-Ok-counts_with.ensures) seen.advances.numbered seen.advances.grows.lines seen.advances.little c.in-Err-Fault.field-0-is c.in-Err-Fault.ensures.stopped
 
 pub returns-in-Err-Memory-clause-ended : goal.returns-in-Err-Memory-clause-ended
 returns-in-Err-Memory-clause-ended g c =
     let so = c.loop-number.invariant in
     let seen = c.in-Command.ensures in
-    memory_ends _ _ _ _ _ _ _ _ _ _ _ _ _ _ _ _ _ _ so.0 so.1.0 so.1.1 seen.shows seen.stands (sym c.in-Some.ensures) seen.advances.numbered c.in-Err-Memory.field-0-is c.in-Err-Memory.ensures.stopped
+    memory_ends _ _ _ _ _ _ _ _ _ _ _ _ _ _ _ _ _ _ so.0 so.1.0 so.1.1 seen.shows seen.stands (sym c.in-Ok-counts_with.ensures) seen.advances.numbered c.in-Err-Memory.field-0-is c.in-Err-Memory.ensures.stopped

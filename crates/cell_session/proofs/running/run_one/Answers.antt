@@ -1,5 +1,5 @@
 use Rattle.std.proofs.Common.{◌∙◌, [], None, Err, ap}
-use Rattle.cell_session.proofs.Clauses.{legal_durable, legal_complete, ends_in_order, ends_together, ends_fates, ends_limit, chosen_legal, chosen_causes, chosen_heard, chosen_lanes, chosen_dealt, chosen_outcomes, chosen_fates, chosen_written, empty_legal, empty_in_order, empty_together, empty_fates, empty_ends, usage_written}
+use Rattle.cell_session.proofs.Clauses.{legal_durable, legal_complete, ends_in_order, ends_together, ends_fates, ends_limit, chosen_legal, chosen_causes, chosen_heard, chosen_lanes, chosen_dealt, chosen_outcomes, chosen_fates, chosen_upkeeps, chosen_written, empty_legal, empty_in_order, empty_together, empty_fates, empty_ends, usage_written}
 use Rattle.cell_session.proofs.running.run_one.Goals as goal
 
 -- ---- the words choose a session
@@ -40,6 +40,9 @@ pub returns-in-Ok-clause-causes : goal.returns-in-Ok-clause-causes
 returns-in-Ok-clause-causes g c s x =
     chosen_causes c.lines_are_refused_with_cause.ensures c.lines_fall_short_with_cause.ensures _ _ s _ _ _ _ _ _ _ c.in-Ok.ensures.chosen x c.run_lines.ensures.ended
 
+pub returns-in-Ok-clause-upkeeps : goal.returns-in-Ok-clause-upkeeps
+returns-in-Ok-clause-upkeeps g c s x = chosen_upkeeps _ _ s _ _ _ _ _ _ _ c.in-Ok.ensures.chosen x c.run_lines.ensures.ended
+
 pub returns-in-Ok-clause-bytes_written : goal.returns-in-Ok-clause-bytes_written
 returns-in-Ok-clause-bytes_written g c s x = chosen_written _ _ s _ _ _ _ _ _ _ c.in-Ok.ensures.chosen x c.run_lines.ensures.ended
 
@@ -78,6 +81,9 @@ returns-in-Err-Usage-clause-hearings g c s x = absurd (c.read_choice.ensures.usa
 
 pub returns-in-Err-Usage-clause-causes : goal.returns-in-Err-Usage-clause-causes
 returns-in-Err-Usage-clause-causes g c s x = absurd (c.read_choice.ensures.usage (c.in-Err-Usage.is ∙ ap Err c.in-Err-Usage.field-0-is) s x)
+
+pub returns-in-Err-Usage-clause-upkeeps : goal.returns-in-Err-Usage-clause-upkeeps
+returns-in-Err-Usage-clause-upkeeps g c s x = absurd (c.read_choice.ensures.usage (c.in-Err-Usage.is ∙ ap Err c.in-Err-Usage.field-0-is) s x)
 
 pub returns-in-Err-Usage-clause-bytes_written : goal.returns-in-Err-Usage-clause-bytes_written
 returns-in-Err-Usage-clause-bytes_written g c s x = absurd (c.read_choice.ensures.usage (c.in-Err-Usage.is ∙ ap Err c.in-Err-Usage.field-0-is) s x)
@@ -123,6 +129,10 @@ returns-in-Err-NoMemory-clause-hearings g c s x =
 pub returns-in-Err-NoMemory-clause-causes : goal.returns-in-Err-NoMemory-clause-causes
 returns-in-Err-NoMemory-clause-causes g c s x =
     chosen_causes c.lines_are_refused_with_cause.ensures c.lines_fall_short_with_cause.ensures _ s s _ (λ lane. []) _ None c.args.cluster.now None None x x (empty_ends s.setting s.schema (λ lane. []) _ None c.args.cluster.now None c.requires)
+
+pub returns-in-Err-NoMemory-clause-upkeeps : goal.returns-in-Err-NoMemory-clause-upkeeps
+returns-in-Err-NoMemory-clause-upkeeps g c s x =
+    chosen_upkeeps _ s s _ (λ lane. []) _ None c.args.cluster.now None None x x (empty_ends s.setting s.schema (λ lane. []) _ None c.args.cluster.now None c.requires)
 
 pub returns-in-Err-NoMemory-clause-bytes_written : goal.returns-in-Err-NoMemory-clause-bytes_written
 returns-in-Err-NoMemory-clause-bytes_written g c s x =

@@ -1,5 +1,6 @@
 use Rattle.feed_lines.proofs.SetLaws.{has_set_of}
 use Rattle.feed_lines.proofs.SettingLaws.{state_means, means_state, stop_means, means_stop, start_means, means_start, net_means, means_net}
+use Rattle.feed_lines.proofs.UpkeepLaws.{maintain_means, means_maintain}
 use Rattle.feed_lines.proofs.laws.other_lines_are_settings.Goals as goal
 
 pub returns-clause-state : goal.returns-clause-state
@@ -13,6 +14,9 @@ returns-clause-start c = λ types bits d node. (start_means types bits d node, m
 
 pub returns-clause-net : goal.returns-clause-net
 returns-clause-net c = λ types bits d lane fates. (net_means types bits d lane fates, means_net types bits d lane fates)
+
+pub returns-clause-maintain : goal.returns-clause-maintain
+returns-clause-maintain c = λ types bits d. (maintain_means types bits d, means_maintain types bits d)
 
 pub returns-clause-members : goal.returns-clause-members
 returns-clause-members c = has_set_of

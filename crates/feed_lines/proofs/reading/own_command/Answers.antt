@@ -1,5 +1,6 @@
 use Rattle.serde_json.specs.View.{view}
 use Rattle.feed_lines.proofs.SettingLaws.{state_is, stop_is, start_is, net_is}
+use Rattle.feed_lines.proofs.UpkeepLaws.{maintain_is}
 use Rattle.feed_lines.proofs.reading.own_command.Goals as goal
 
 pub returns-in-State : goal.returns-in-State
@@ -13,3 +14,6 @@ returns-in-Start c = rw c.in-Start.is (rw (start_is c.args.schema.now c.args.bit
 
 pub returns-in-Net : goal.returns-in-Net
 returns-in-Net c = rw c.in-Net.is (rw (net_is c.args.schema.now c.args.bits (view c.args.line.now)) at c.net_command.ensures)
+
+pub returns-in-Maintain : goal.returns-in-Maintain
+returns-in-Maintain c = rw c.in-Maintain.is (rw (maintain_is c.args.schema.now c.args.bits (view c.args.line.now)) at c.maintain_command.ensures)

@@ -1,4 +1,4 @@
-use Rattle.cell_session.proofs.InLane.{all_telling}
+use Rattle.cell_session.proofs.InLane.{all_telling, all_may_maintain, few_of, new_line}
 use Rattle.cell_session.proofs.cluster.Cluster.deal.Goals as goal
 
 pub tell-requires : goal.tell-requires
@@ -9,3 +9,12 @@ stop-requires-clause-telling g c = all_telling _ _ _ c.requires.ready
 
 pub start-requires-clause-telling : goal.start-requires-clause-telling
 start-requires-clause-telling g c = all_telling _ _ _ c.requires.ready
+
+pub maintain-requires-clause-may : goal.maintain-requires-clause-may
+maintain-requires-clause-may g c = all_may_maintain _ _ _ c.requires.ready
+
+pub maintain-requires-clause-few : goal.maintain-requires-clause-few
+maintain-requires-clause-few g c = few_of _ _ _ c.requires.ready
+
+pub maintain-requires-clause-new : goal.maintain-requires-clause-new
+maintain-requires-clause-new g c = new_line _ _ _ c.requires.ready

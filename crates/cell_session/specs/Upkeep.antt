@@ -1,0 +1,51 @@
+-- What became of the lines that asked for upkeep.
+use Rattle.std.specs.Prelude.{◌≡◌, ◌<◌, ◌≤◌, ◌⊎◌, ℕ, suc, List, length, take, Option, None, Some, IsSome, slice_get}
+use Rattle.doc_types.specs.SchemaCodes.{Types}
+use Rattle.lane_core.specs.LaneValues.{LaneValue}
+use Rattle.session_settings.specs.Settings.{lane_count}
+use Rattle.session_settings.specs.declared.setting.Setting.{Setting}
+use Rattle.session_lanes.specs.Serving.{bucket_in}
+use Rattle.session_lanes.specs.Upkeep.{Stands}
+use Rattle.session_lanes.specs.declared.spans.UpkeepSpan.{UpkeepSpan}
+use Rattle.cell_session.specs.Cells.{Cell}
+use Rattle.cell_session.specs.Deeds.{deeds_of_lane}
+use Rattle.cell_session.specs.Operations.{WereAsked}
+use Rattle.cell_session.specs.Spans.{spans_of, span_in}
+use Rattle.cell_session.specs.declared.asked.Asked.{Asked}
+use Rattle.cell_session.specs.declared.asked.Asked.TheVariants as command
+use Rattle.cell_session.specs.declared.status.Status.{Status}
+use Rattle.cell_session.specs.declared.status.Status.TheVariants as status
+
+-- the line has one span a lane, which stands behind what the earlier lines did there, and before what came later; its
+-- answer is what its events tell, so it is Rested, Blocked or Disturbed
+pub record HasStood (s : Setting) (earlier : List Asked) (line : ℕ) (c : Cell) : Type 0 where
+  pub spans : List UpkeepSpan
+  pub are : spans_of line c.upkeeps ≡ Some spans
+  pub count : length spans ≡ lane_count s
+  pub stand : (lane : ℕ) (v : LaneValue) (span : UpkeepSpan) → slice_get c.lanes lane ≡ Some v → slice_get spans lane ≡ Some span
+      → Stands s (bucket_in s lane) (deeds_of_lane s lane earlier) v.journal span
+
+-- memory wanted as it was the last line
+pub record WasCut (end : Status) (asked : List Asked) (line : ℕ) (c : Cell) : Type 0 where
+  pub memory : end ≡ status.NoMemory
+  pub last : line ≡ length asked
+  pub none : spans_of line c.upkeeps ≡ None
+
+-- the line at the place asks for upkeep
+abbrev pub AsksAt : ℕ → List Asked → Type 0
+AsksAt at asked = slice_get asked at ≡ Some command.Maintain
+
+pub record AreUpkept (end : Status) (s : Setting) (asked : List Asked) (c : Cell) : Type 0 where
+  -- each line that asks for upkeep has its spans, unless memory wanted
+  pub answered : (at : ℕ) → AsksAt at asked → HasStood s (take at asked) (suc at) c ⊎ WasCut end asked (suc at) c
+  -- no other line has
+  pub others : (line : ℕ) → IsSome (spans_of line c.upkeeps) → (at : ℕ) × ((line ≡ suc at) × AsksAt at asked)
+  -- in each lane that of an earlier line stands before that of a later one
+  pub in_order : (lane earlier line : ℕ) → earlier < line → (a b : UpkeepSpan) → span_in lane earlier c.upkeeps ≡ Some a
+      → span_in lane line c.upkeeps ≡ Some b → a.to ≤ b.from
+
+-- that is so of the lines that were dealt with
+pub record HaveUpkeeps (end : Status) (s : Setting) (types : Types) (text : Option (List ℕ)) (c : Cell) : Type 0 where
+  pub asked : List Asked
+  pub were_asked : WereAsked types s.bits text c.dealt asked
+  pub are : AreUpkept end s asked c

@@ -1,0 +1,12 @@
+use session_lanes::UpkeepSpan;
+use value_lists::Listed;
+
+/// How an upkeep went in each lane, in lane order.
+pub type SpanList = Listed<UpkeepSpan>;
+
+/// How the upkeep went that a line asked for.
+#[derive(Debug, Drop)]
+pub struct LineSpans {
+    pub line: u32,
+    pub spans: SpanList,
+}
