@@ -155,6 +155,7 @@ impl DistributorPart {
     pub fn rows(&self) -> &[Row]
         ensures list { result.now ≡ rows_of self.now.rows }
         ensures whole { IfSome self.now.rows (λ d. AreRows self.now.lane (buckets_of d.rows)) }
+        ensures of_lane { IfSome self.now.rows (λ d. d.lane ≡ self.now.lane) }
     {
         match &self.rows {
             Some(rows) => rows.rows(),
