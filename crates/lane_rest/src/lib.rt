@@ -8,7 +8,7 @@
 //! splits next. It begins from nodes and rows of whatever marks, buckets and entries (`HasBegun`), and
 //! leaves rest (`IsResting`). `specs/Worlds.antt` says which nodes and rows are those of a journal.
 //!
-//! No code stands on this crate yet: that a lane's own pass is such a one is not proved.
+//! That the pass of a lane is such a one, where nothing is lost or late, is proved in `lane_upkeep`.
 //!
 //! ```text
 //! a_pass_brings_rest();            // from wherever a pass may begin

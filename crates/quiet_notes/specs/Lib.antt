@@ -1,0 +1,2 @@
+-- What a caller needs: `Noting`.
+pub mod Noting

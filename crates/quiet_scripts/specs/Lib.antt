@@ -1,0 +1,2 @@
+-- What a caller needs: `Scripts`.
+pub mod Scripts

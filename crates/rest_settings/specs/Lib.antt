@@ -1,0 +1,2 @@
+-- What a caller needs: `Found`.
+pub mod Found

@@ -1,0 +1,5 @@
+pub mod Named
+pub mod Shapes
+pub mod Counting
+pub mod Targets
+pub mod Once
