@@ -11,7 +11,11 @@ use Rattle.cluster_states.specs.Publishing.{publish_fault}
 use Rattle.cluster_states.specs.declared.cluster_state.ClusterState.{ClusterState}
 use Rattle.cluster_states.specs.declared.states.PublishFault.{PublishFault}
 use Rattle.lane_journals.specs.declared.event.LaneEvent.{LaneEvent}
+use Rattle.distributor_part.specs.declared.rules.Rules.{Rules}
+use Rattle.lane_keeping.specs.LaneKeeping.{setting_of}
+use Rattle.lane_rest.specs.Rest.{IsAtRest}
 use Rattle.lane_core.specs.LaneValues.{LaneValue, IsLaneValue}
+use Rattle.lane_core.specs.Upkept.{IsLaneAtRest}
 use Rattle.session_settings.specs.declared.setting.Setting.{Setting}
 use Rattle.session_lanes.specs.Lives.{Deed, Announces, Stops, Starts, Maintains, IsMaintained}
 use Rattle.session_lanes.specs.Serving.{bucket_in}
@@ -107,7 +111,14 @@ stands_on s lane deeds J K span h g = record {
   carried = h.carried;
   cause = h.cause;
   rests = h.rests;
+  at_rest = h.at_rest;
 }
+
+-- a lane at rest, by the session's words
+rest_in : (b : Low) (r : Rules) (w : LaneValue) → w.lane ≡ b → w.rules ≡ r → IsLaneAtRest w → IsAtRest (setting_of b r) r.searchable r.split_at w.journal
+rest_in b r w lane rules h =
+    subst (λ (x : Rules). IsAtRest (setting_of b x) x.searchable x.split_at w.journal) rules
+    (subst (λ (l : Low). IsAtRest (setting_of l w.rules) (w.rules).searchable (w.rules).split_at w.journal) lane h)
 
 -- it ends within the journal
 stands_within : (s : Setting) (lane : Low) (deeds : List Deed) (J : List LaneEvent) (span : UpkeepSpan) → Stands s lane deeds J span → span.to ≤ length J
@@ -193,6 +204,7 @@ module _ (s : Setting) (plans : ℕ → List Fate) (cs : List Asked) (c : Asked)
             carried = (legal.1).carried;
             cause = made.cause;
             rests = made.rests;
+            at_rest = λ rested. rest_in (bucket_in s lane) s.rules w (ap (λ (z : LaneValue). z.lane) (made.pass).after ∙ serving.lane_is) (ap (λ (z : LaneValue). z.rules) (made.pass).after ∙ serving.rules_are) (made.at_rest rested);
           };
     }
 

@@ -17,7 +17,8 @@ use Rattle.cell_session.specs.declared.status.Status.{Status}
 use Rattle.cell_session.specs.declared.status.Status.TheVariants as status
 
 -- the line has one span a lane, which stands behind what the earlier lines did there, and before what came later; its
--- answer is what its events tell, so it is Rested, Blocked or Disturbed
+-- answer is what its events tell, so it is Rested, Blocked or Disturbed, and where it is Rested the lane was at rest as the
+-- span ended
 pub record HasStood (s : Setting) (earlier : List Asked) (line : ℕ) (c : Cell) : Type 0 where
   pub spans : List UpkeepSpan
   pub are : spans_of line c.upkeeps ≡ Some spans

@@ -20,8 +20,9 @@ use Rattle.lane_core.specs.LaneValues.{LaneValue}
 use Rattle.lane_core.specs.declared.job.UnderWay.{UnderWay}
 use Rattle.lane_core.specs.declared.work.Work.{Work}
 use Rattle.lane_core.specs.Works.{value_of, under_way_in}
-use Rattle.lane_core.specs.Upkeeping.{MaintainsBy, MayMaintain, OpensBy}
-use Rattle.lane_core.specs.Upkept.{Maintains, IsHeldBy, HasOpened, IsUpkept}
+use Rattle.lane_core.specs.Upkeeping.{MaintainsBy, MayMaintain, OpensBy, RestsBy}
+use Rattle.lane_core.specs.Upkept.{Maintains, IsHeldBy, HasOpened, IsLaneAtRest, IsUpkept}
+use Rattle.quiet_spans.specs.Quiet.{IsQuiet}
 
 -- ---- the answer
 
@@ -36,16 +37,21 @@ all-back (Some n) absent e = Prim.cc
 all-back None (Some n) e = Prim.cc
 all-back None None e = refl
 
-pub upkept-told : (old new : LaneValue) (answer : Upkeep) → old.under_way ≡ None → Maintains old new → (first_absent (λ n. returned n (history new.journal)) (later (length old.journal) new.journal) ≡ None → HasOpened new.journal) → (answer ≡ NoMemory) ⊎ IsCause new.given (length old.journal) new.journal answer → IsUpkept old new answer
-upkept-told old new NoMemory idle m f t = (idle, inr m)
-upkept-told old new Rested idle m f (inl e) = Prim.cc
-upkept-told old new Rested idle m f (inr c) = (idle, m, c, f (all-back _ _ c))
-upkept-told old new (Blocked n) idle m f (inl e) = Prim.cc
-upkept-told old new (Blocked n) idle m f (inr c) = (idle, m, c)
-upkept-told old new (Disturbed n) idle m f (inl e) = Prim.cc
-upkept-told old new (Disturbed n) idle m f (inr c) = (idle, m, c)
-upkept-told old new (Held by) idle m f (inl e) = Prim.cc
-upkept-told old new (Held by) idle m f (inr c) = absurd (not-held by _ _ c)
+-- and then no message was late
+none-late : (late absent : Option ℕ) → Rested ≡ cause_of late absent → late ≡ None
+none-late (Some n) absent e = Prim.cc
+none-late None absent e = refl
+
+pub upkept-told : (old new : LaneValue) (answer : Upkeep) → old.under_way ≡ None → Maintains old new → (first_absent (λ n. returned n (history new.journal)) (later (length old.journal) new.journal) ≡ None → HasOpened new.journal) → (IsQuiet new.given old.journal new.journal → IsLaneAtRest new) → (answer ≡ NoMemory) ⊎ IsCause new.given (length old.journal) new.journal answer → IsUpkept old new answer
+upkept-told old new NoMemory idle m f g t = (idle, inr m)
+upkept-told old new Rested idle m f g (inl e) = Prim.cc
+upkept-told old new Rested idle m f g (inr c) = (idle, m, c, f (all-back _ _ c), g (record { unlate = none-late _ _ c; back = all-back _ _ c }))
+upkept-told old new (Blocked n) idle m f g (inl e) = Prim.cc
+upkept-told old new (Blocked n) idle m f g (inr c) = (idle, m, c)
+upkept-told old new (Disturbed n) idle m f g (inl e) = Prim.cc
+upkept-told old new (Disturbed n) idle m f g (inr c) = (idle, m, c)
+upkept-told old new (Held by) idle m f g (inl e) = Prim.cc
+upkept-told old new (Held by) idle m f g (inr c) = absurd (not-held by _ _ c)
 
 -- ---- the span
 
@@ -105,14 +111,14 @@ upkept-short x y given now planned takes idle (inr m) = (ap under_way_in idle, i
 
 -- ---- the lane's value behind its view
 
-pub lane-told : (x y : Work) (given now p q : List Fate) (t u : Bool) (v : LaneValue) (answer result : Upkeep) (from : ℕ) → value_of x given p t ≡ v → q ≡ p → u ≡ t → x.job ≡ None → from ≡ length x.state.journal.items → MaintainsBy x y given now → OpensBy x y
+pub lane-told : (x y : Work) (given now p q : List Fate) (t u : Bool) (v : LaneValue) (answer result : Upkeep) (from : ℕ) → value_of x given p t ≡ v → q ≡ p → u ≡ t → x.job ≡ None → from ≡ length x.state.journal.items → MaintainsBy x y given now → OpensBy x y → RestsBy x y now
     → (answer ≡ NoMemory) ⊎ IsCause now from (journal_of y.state) answer → result ≡ answer → IsUpkept v (value_of y now q u) result
-lane-told x y given now p q t u v answer result from view planned kind idle at m opens told is =
+lane-told x y given now p q t u v answer result from view planned kind idle at m opens rests told is =
     subst (λ (o : LaneValue). IsUpkept o (value_of y now q u) result) view
     (subst (λ (a : Upkeep). IsUpkept (value_of x given p t) (value_of y now q u) a) (sym is)
     (subst (λ (a : List Fate). IsUpkept (value_of x given p t) (value_of y now a u) answer) (sym planned)
     (subst (λ (a : Bool). IsUpkept (value_of x given p t) (value_of y now p a) answer) (sym kind)
-    (upkept-told (value_of x given p t) (value_of y now p t) answer (ap under_way_in idle) (m p t) opens
+    (upkept-told (value_of x given p t) (value_of y now p t) answer (ap under_way_in idle) (m p t) opens rests
     (cause-of x.state.journal.items (journal_of y.state) now answer (subst (λ (n : ℕ). (answer ≡ NoMemory) ⊎ IsCause now n (journal_of y.state) answer) at told))))))
 
 pub lane-short : (x y : Work) (given now p q : List Fate) (t u : Bool) (v : LaneValue) (result : Upkeep) → value_of x given p t ≡ v → q ≡ p → u ≡ t → x.job ≡ None → MayMaintain x y given now → result ≡ NoMemory → IsUpkept v (value_of y now q u) result

@@ -14,22 +14,25 @@ use Rattle.lane_keeping.specs.Acting.{IsActing}
 use Rattle.lane_journals.specs.Meanings.{history}
 use Rattle.lane_journals.specs.declared.event.LaneEvent.{LaneEvent}
 use Rattle.lane_journals.specs.declared.event.LaneEvent.TheVariants as event
-use Rattle.lane_keeping.specs.LaneKeeping.{part_in}
+use Rattle.lane_keeping.specs.LaneKeeping.{part_in, setting_of}
+use Rattle.lane_carriage.specs.Readers.{fate_of}
+use Rattle.lane_rest.specs.Rest.{IsAtRest}
+use Rattle.quiet_spans.specs.Quiet.{IsQuiet}
 use Rattle.lane_operations.specs.OperationKeeping.{AllClosed}
 use Rattle.lane_states.specs.declared.lane_state.LaneState.{LaneState}
 use Rattle.lane_states.specs.Growing.{is_older, heard_next, last_state}
-use Rattle.lane_states.specs.LaneStates.{journal_of, part_of, IsCarriedBy, IsResting, AreResting}
+use Rattle.lane_states.specs.LaneStates.{journal_of, part_of, IsCarriedBy, IsResting, AreResting, IsSetUp}
 use Rattle.lane_states.specs.Written.{writes_entry, AddsNoEntry}
 use Rattle.lane_states.proofs.Entries.{adds-none, adds-one, finds-grown}
 use Rattle.upkeep_answers.specs.Spans.{IsUpkeepEvent, AreUpkeep, Nothing, More, OfUpkeep, later}
-use Rattle.upkeep_answers.specs.Causes.{first_absent}
+use Rattle.upkeep_answers.specs.Causes.{is_late, first_late, first_absent}
 use Rattle.lane_upkeep.specs.declared.owner.Owner.{Owner}
 use Rattle.lane_upkeep.specs.Passing.{PassesOn}
 use Rattle.lane_upkeep.specs.Maintaining as maintaining
 use Rattle.lane_upkeep.specs.Maintaining.{IsBetween, AreReturned}
 use Rattle.lane_core.specs.LaneValues.{LaneValue}
 use Rattle.lane_core.specs.Upkept.{HasOpened}
-use Rattle.lane_core.specs.Upkeeping.{MaintainsBy, OpensBy}
+use Rattle.lane_core.specs.Upkeeping.{MaintainsBy, OpensBy, RestsBy}
 use Rattle.lane_core.specs.declared.work.Work.{Work}
 use Rattle.lane_core.specs.declared.job.Job.{Job}
 use Rattle.lane_core.specs.Works.{IsWork, JobKeeps, JobLasts, value_of, room_for, one_if}
@@ -139,23 +142,28 @@ maintains-by x h y o given now newest owner heard grows after on = λ planned ta
 
 -- ---- the state is opened
 
+late-end : (given : List Fate) (d v : ℕ) (N : List LaneEvent) → first_late given (N ++ (event.Heard d v ∷ [])) ≡ first_late given N
+late-end given d v [] = refl
+late-end given d v (event.Delivered n r ∷ N) = ap (λ (o : Option ℕ). or_else o (only_if (is_late (fate_of n given)) n)) (late-end given d v N)
+late-end given d v (_ ∷ N) = late-end given d v N
+
 heard-end : (p : ℕ → Bool) (d v : ℕ) (N : List LaneEvent) → first_absent p (N ++ (event.Heard d v ∷ [])) ≡ first_absent p N
 heard-end p d v [] = refl
 heard-end p d v (event.Sent n w e to b ∷ N) = ap (λ (o : Option ℕ). or_else o (only_if (not (p n)) to)) (heard-end p d v N)
 heard-end p d v (_ ∷ N) = heard-end p d v N
 
 module _ (span : OfUpkeep (λ J K. K ≡ later (length J) K ++ J)) (behind : (J N : List LaneEvent) → later (length J) (N ++ J) ≡ N) where
-  -- what was sent once the owner heard its state was sent in the whole span
-  absent-heard : (p : ℕ → Bool) (d v : ℕ) (s : ClusterState) (J K : List LaneEvent) → AreUpkeep d v (heard_next d (Some s) J) K → first_absent p (later (length J) K) ≡ None → first_absent p (later (length (heard_next d (Some s) J)) K) ≡ None
-  absent-heard p d v s J K = by_test (is_older (held d (history J)) s.version)
+  -- what is read of the whole span is read of what came once the owner heard its state
+  none-heard : (R : List LaneEvent → Option ℕ) → ((e w : ℕ) (N : List LaneEvent) → R (N ++ (event.Heard e w ∷ [])) ≡ R N) → (d v : ℕ) (s : ClusterState) (J K : List LaneEvent) → AreUpkeep d v (heard_next d (Some s) J) K → R (later (length J) K) ≡ None → R (later (length (heard_next d (Some s) J)) K) ≡ None
+  none-heard R over d v s J K = by_test (is_older (held d (history J)) s.version)
     where
-      by_test : (b : Bool) → AreUpkeep d v (if b then event.Heard d s.version ∷ J else J) K → first_absent p (later (length J) K) ≡ None → first_absent p (later (length (if b then event.Heard d s.version ∷ J else J)) K) ≡ None
+      by_test : (b : Bool) → AreUpkeep d v (if b then event.Heard d s.version ∷ J else J) K → R (later (length J) K) ≡ None → R (later (length (if b then event.Heard d s.version ∷ J else J)) K) ≡ None
       by_test false up none = none
       by_test true up none =
           let N : List LaneEvent = later (length (event.Heard d s.version ∷ J)) K in
           let all : K ≡ (N ++ (event.Heard d s.version ∷ [])) ++ J = span d v (event.Heard d s.version ∷ J) K up ∙ sym (append_assoc N (event.Heard d s.version ∷ []) J) in
           let here : later (length J) K ≡ N ++ (event.Heard d s.version ∷ []) = ap (later (length J)) all ∙ behind J (N ++ (event.Heard d s.version ∷ [])) in
-          sym (heard-end p d s.version N) ∙ sym (ap (first_absent p) here) ∙ none
+          sym (over d s.version N) ∙ sym (ap R here) ∙ none
 
   newest-heard : (d : ℕ) (s : ClusterState) (J : List LaneEvent) → last_state (heard_next d (Some s) J) ≡ last_state J
   newest-heard d s J = by_test (is_older (held d (history J)) s.version)
@@ -173,9 +181,30 @@ module _ (span : OfUpkeep (λ J K. K ≡ later (length J) K ++ J)) (behind : (J 
       let p : ℕ → Bool = (λ n. returned n (history K)) in
       let up : AreUpkeep o.distributor (o.state).version (heard_next o.distributor (Some o.state) J) K = subst (λ (L : List LaneEvent). AreUpkeep o.distributor (o.state).version L K) grows on.grows in
       let quiet : first_absent p (later (length (journal_of h.state)) K) ≡ None =
-      subst (λ (L : List LaneEvent). first_absent p (later (length L) K) ≡ None) (sym grows) (absent-heard p o.distributor (o.state).version o.state J K up none) in
+      subst (λ (L : List LaneEvent). first_absent p (later (length L) K) ≡ None) (sym grows) (none-heard (first_absent p) (heard-end p) o.distributor (o.state).version o.state J K up none) in
       let last : last_state K ≡ Some o.state = newest-span o.distributor (o.state).version (heard_next o.distributor (Some o.state) J) K up ∙ newest-heard o.distributor o.state J ∙ newest in
       subst (λ (z : Option ClusterState). IfSome z (λ (s : ClusterState). opened s.version (history K) ≡ true)) (sym last) (f quiet)
+
+  -- where nothing disturbed the whole call nothing disturbed the pass
+  pub rests-by : {X E : Type 0} (r : Result X E) (x h y : Work) (o : Owner) (now : List Fate) → journal_of h.state ≡ heard_next o.distributor (Some o.state) (journal_of x.state) → PassesOn h.state y.state o
+      → OnOk r (RestsBy h y now) → OnOk r (RestsBy x y now)
+  rests-by (Err e) x h y o now grows on f = tt
+  rests-by (Ok a) x h y o now grows on f = λ quiet.
+      let J : List LaneEvent = journal_of x.state in
+      let K : List LaneEvent = journal_of y.state in
+      let p : ℕ → Bool = (λ n. returned n (history K)) in
+      let up : AreUpkeep o.distributor (o.state).version (heard_next o.distributor (Some o.state) J) K = subst (λ (L : List LaneEvent). AreUpkeep o.distributor (o.state).version L K) grows on.grows in
+      f (subst (λ (L : List LaneEvent). IsQuiet now L K) (sym grows) (record {
+        unlate = none-heard (first_late now) (late-end now) o.distributor (o.state).version o.state J K up quiet.unlate;
+        back = none-heard (first_absent p) (heard-end p) o.distributor (o.state).version o.state J K up quiet.back;
+      }))
+
+-- what a pass says of the lane's state, said of its work
+pub rests-on : {X E : Type 0} (r : Result X E) (x : Work) (y : LaneState) (now : List Fate) → IsSetUp y.lane y.rules
+    → OnOk r (IsSetUp y.lane y.rules → (y.rules).searchable ≤ (y.rules).redundancy → IsQuiet now (journal_of x.state) (journal_of y) → IsAtRest (setting_of y.lane y.rules) (y.rules).searchable (y.rules).split_at (journal_of y))
+    → OnOk r (RestsBy x (record x { state = y }) now)
+rests-on (Ok a) x y now set_up f = f set_up set_up.searched
+rests-on (Err e) x y now set_up f = tt
 
 -- ---- what holds whatever the answer
 

@@ -3,7 +3,10 @@ use Rattle.std.specs.Prelude.{◌≡◌, ◌⊎◌, Bool, List, None, length}
 use Rattle.carriers.specs.declared.fate.Fate.{Fate}
 use Rattle.lane_journals.specs.Readers.{returned}
 use Rattle.lane_journals.specs.Meanings.{history}
+use Rattle.lane_keeping.specs.LaneKeeping.{setting_of}
 use Rattle.lane_states.specs.LaneStates.{journal_of}
+use Rattle.lane_rest.specs.Rest.{IsAtRest}
+use Rattle.quiet_spans.specs.Quiet.{IsQuiet}
 use Rattle.upkeep_answers.specs.Spans.{later}
 use Rattle.upkeep_answers.specs.Causes.{first_absent}
 use Rattle.lane_core.specs.declared.work.Work.{Work}
@@ -21,3 +24,8 @@ MayMaintain old new given now = (SameValue old new × (now ≡ given)) ⊎ Maint
 -- where each message of the pass was returned, the newest state is opened
 abbrev pub OpensBy : Work → Work → Type 0
 OpensBy old new = first_absent (λ n. returned n (history (journal_of new.state))) (later (length (journal_of old.state)) (journal_of new.state)) ≡ None → HasOpened (journal_of new.state)
+
+-- where nothing was lost or late, the lane is at rest
+abbrev pub RestsBy : Work → Work → List Fate → Type 0
+RestsBy old new now = IsQuiet now (journal_of old.state) (journal_of new.state)
+    → IsAtRest (setting_of new.state.lane new.state.rules) (new.state.rules).searchable (new.state.rules).split_at (journal_of new.state)

@@ -5,6 +5,8 @@ use Rattle.ideal_nodes.specs.Placement.{IsOwner}
 use Rattle.lane_journals.specs.Readers.{opened}
 use Rattle.lane_journals.specs.Meanings.{history}
 use Rattle.lane_journals.specs.declared.event.LaneEvent.{LaneEvent}
+use Rattle.lane_keeping.specs.LaneKeeping.{setting_of}
+use Rattle.lane_rest.specs.Rest.{IsAtRest}
 use Rattle.upkeep_answers.specs.Spans.{AreUpkeep}
 use Rattle.upkeep_answers.specs.Causes.{IsCause}
 use Rattle.upkeep_answers.specs.declared.answers.Upkeep.{Upkeep}
@@ -31,10 +33,14 @@ IsHeldBy line (Some u) = u.line ≡ line
 abbrev pub HasOpened : List LaneEvent → Type 0
 HasOpened J = IfSome (last_state J) (λ s. opened s.version (history J) ≡ true)
 
+-- the lane is at rest, as its journal says
+abbrev pub IsLaneAtRest : LaneValue → Type 0
+IsLaneAtRest v = IsAtRest (setting_of v.lane v.rules) (v.rules).searchable (v.rules).split_at v.journal
+
 -- nothing happens where an operation is under way; else there is a pass, whose answer has its cause, or which want of
--- memory cuts; where it rests it opened the state, if that wasn't opened
+-- memory cuts; where it rests it opened the state, if that wasn't opened, and left the lane at rest
 abbrev pub IsUpkept : LaneValue → LaneValue → Upkeep → Type 0
 IsUpkept old new (Held by) = IsHeldBy by old.under_way × (new ≡ old)
 IsUpkept old new NoMemory = (old.under_way ≡ None) × ((new ≡ old) ⊎ Maintains old new)
-IsUpkept old new Rested = (old.under_way ≡ None) × Maintains old new × IsCause new.given (length old.journal) new.journal Rested × HasOpened new.journal
+IsUpkept old new Rested = (old.under_way ≡ None) × Maintains old new × IsCause new.given (length old.journal) new.journal Rested × HasOpened new.journal × IsLaneAtRest new
 IsUpkept old new answer = (old.under_way ≡ None) × Maintains old new × IsCause new.given (length old.journal) new.journal answer

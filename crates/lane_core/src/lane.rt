@@ -244,7 +244,8 @@ impl<C: Carrier + Drop> Lane<C> {
     // ---- upkeep
 
     /// The lane's owner under the newest state hears it, and makes a pass of upkeep, unless an operation is under way.
-    /// `Rested`, `Blocked` and `Disturbed` say what came of its messages; after `NoMemory` what was done stays.
+    /// `Rested`, `Blocked` and `Disturbed` say what came of its messages, and `Rested` that the lane is at rest; after
+    /// `NoMemory` what was done stays.
     pub fn upkeep(&mut self) -> Upkeep
         requires published { IsSome (last_state self.old.journal) }
         ensures { IsUpkept self.old self.new result }

@@ -5,7 +5,7 @@ ghost use Rattle.lane_states.specs.Growing.{last_state};
 ghost use Rattle.lane_upkeep.specs.Passing.{PassesOn};
 ghost use Rattle.lane_upkeep.specs.Maintaining.{AreReturned, HasOpened};
 ghost use Rattle.lane_core.specs.Works.{IsWork};
-ghost use Rattle.lane_core.specs.Upkeeping.{MaintainsBy, MayMaintain, OpensBy};
+ghost use Rattle.lane_core.specs.Upkeeping.{MaintainsBy, MayMaintain, OpensBy, RestsBy};
 
 use crate::work::Work;
 use carriers::Carrier;
@@ -31,6 +31,7 @@ impl Work {
         ensures kind { C.takes_plans carrier.new ≡ C.takes_plans carrier.old }
         ensures on { PassesOn self.old.state self.new.state owner.now }
         ensures opened { OnOk result (AreReturned self.old.state self.new.state → HasOpened self.new.state owner.now) }
+        ensures rests { OnOk result (RestsBy self.old self.new (C.given carrier.new)) }
         ensures after { self.new ≡ record self.old { state = self.new.state } }
     {
         upkeep_leaves_lines();
@@ -55,6 +56,7 @@ impl Work {
         ensures kind { C.takes_plans carrier.new ≡ C.takes_plans carrier.old }
         ensures ok { OnOk result (MaintainsBy self.old self.new (C.given carrier.old) (C.given carrier.new)) }
         ensures opened { OnOk result (OpensBy self.old self.new) }
+        ensures rests { OnOk result (RestsBy self.old self.new (C.given carrier.new)) }
         ensures err { OnErr result (MayMaintain self.old self.new (C.given carrier.old) (C.given carrier.new)) }
         ensures idle { self.new.job ≡ None }
     {

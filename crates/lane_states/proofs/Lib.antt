@@ -40,3 +40,6 @@ pub mod SameStates
 pub mod Hearings
 pub mod Tellings
 pub mod RowKeys
+pub mod RowLists
+pub mod Accepting
+pub mod Shortages

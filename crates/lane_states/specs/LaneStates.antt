@@ -20,6 +20,7 @@ use Rattle.node_journals.specs.Replaying.{sending}
 use Rattle.node_spans.specs.Spans.{NodesGo}
 use Rattle.lane_carriage.specs.Carriage.{IsCarried, IsDealt}
 use Rattle.lane_carriage.specs.Waits.{IsWaiting, kept_by}
+use Rattle.lane_states.specs.Accepting.{AreAccepted}
 use Rattle.lane_states.specs.Growing.{met_at, DeliversSome}
 use Rattle.lane_states.specs.declared.lane_state.LaneState.{LaneState}
 use Rattle.lane_keeping.specs.LaneKeeping.{node_in, part_in, Keeps}
@@ -33,6 +34,7 @@ pub record IsSetUp (lane : Low) (rules : Rules) : Type 0 where
   pub acked : 1 ≤ rules.acks
   pub enough : rules.acks ≤ rules.redundancy
   pub few : rules.redundancy ≤ 8
+  pub searched : rules.searchable ≤ rules.redundancy
 
 abbrev pub journal_of : LaneState → List LaneEvent
 journal_of c = past c.journal.items
@@ -47,13 +49,15 @@ abbrev pub AreStopped : (ℕ → Bool) → ℕ → Type 0
 AreStopped is_stopped stops = (n : ℕ) → is_stopped n ≡ has_node stops n
 
 -- the lane's bucket is one of a lane, nodes and parts are what the journal says, late messages are on their way, each
--- message has an event, so that the next number finds room where the journal has some, and it is known who is stopped
+-- message has an event, so that the next number finds room where the journal has some, it is known who is stopped, and
+-- rows that are said to have been accepted were
 pub record IsKeptBy (lane : Low) (rules : Rules) (J : List LaneEvent) (newest : Option ClusterState) (last : ℕ) (nodes : List Node) (parts : List Part) (late : List Late) (stops : ℕ) : Type 0 where
   pub small : lane.bits ≤ 6
   pub keeps : Keeps lane rules J newest last nodes parts
   pub coming : Each (IsComing J nodes) late
   pub counted : last ≤ length J
   pub stops_are : AreStopped (λ n. stopped n (history J)) stops
+  pub accepted : AreAccepted lane rules J parts
 
 abbrev pub IsKept : LaneState → Type 0
 IsKept c = IsKeptBy c.lane c.rules (journal_of c) c.newest c.last c.nodes.items c.parts.items c.late.late c.stopped

@@ -2,7 +2,8 @@
 -- `Openings` says how the owner's part opens its state, and `OpeningRuns` what is known between its steps where a line has
 -- it opened; `RoundRuns` what calls make of a round; `Readying` and `FilledRows` what an operation comes to that isn't
 -- prepared yet, `Steps` what it does once it is prepared, and `Closing` what its close asks. `Written` says where written
--- entries stand, `Shown` what a lane shows of its nodes and parts, and `KnownOwners` who owns a lane.
+-- entries stand, `Shown` what a lane shows of its nodes and parts, `KnownOwners` who owns a lane, `Accepting` which rows
+-- their active nodes accepted, and `Shortages` which messages found a node that wants memory.
 pub mod LaneStates
 pub mod Growing
 pub mod Openings
@@ -16,3 +17,5 @@ pub mod Readying
 pub mod OpeningRuns
 pub mod FilledRows
 pub mod KnownOwners
+pub mod Accepting
+pub mod Shortages

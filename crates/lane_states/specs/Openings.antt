@@ -43,11 +43,13 @@ pub record IsOpenedNow (c e : LaneState) (d : ℕ) : Type 0 where
   pub buckets : List Low
   pub opens : Opens (part_of c d) (part_of e d) buckets
   pub grows : journal_of e ≡ Opened d (opens.state).version buckets ∷ journal_of c
+  pub last : e.last ≡ c.last
 
 pub record IsLacking (c e : LaneState) (d missing : ℕ) : Type 0 where
   pub lacks : LacksAnswers (part_of c d) missing
   pub after : part_of e d ≡ record (part_of c d) { asked = 0; stage = Before }
   pub same : journal_of e ≡ journal_of c
+  pub last : e.last ≡ c.last
 
 abbrev pub IsNext : LaneState → LaneState → ℕ → OpeningStep → Type 0
 IsNext c e d (step.Asks m) = IsAskNext c e d m
@@ -68,6 +70,7 @@ pub record AsksOne (c e : LaneState) (d : ℕ) (short : Bool) : Type 0 where
   pub message : Message
   pub asks : steps.Asks (part_of c d) asked message
   pub gone : IsGone (c.last + 1) message (journal_of c) (journal_of e)
+  pub next : e.last ≡ c.last + 1
   pub settled : IsSettled (c.last + 1) (journal_of e) short
   pub heard : HasHeard asked (part_of e d)
   pub more : size_of (part_of e d).asked ≡ size_of (part_of c d).asked + 1
@@ -81,6 +84,7 @@ AsksOn c e d (asking.Lacks missing) = IsLacking c e d missing
 -- memory was wanted: nothing happened, though an Ask was to be sent
 pub record StopsAsking (c e : LaneState) (d : ℕ) : Type 0 where
   pub same : journal_of e ≡ journal_of c
+  pub last : e.last ≡ c.last
   pub after : part_of e d ≡ record (part_of c d) { asked = (part_of e d).asked; awaited = (part_of e d).awaited }
 
 -- ---- all of them

@@ -7,6 +7,7 @@ ghost use Rattle.lane_states.specs.Written.{AddsNoEntry};
 ghost use Rattle.lane_states.specs.FilledRows.{shortage_after, IsFound};
 ghost use Rattle.lane_states.specs.Readying.{BeganNoRound, IsForLine, OfUnprepared, GoesOnWith, IsCutOffWith, FindsOr};
 
+use crate::at_shortage::AtShortage;
 use crate::lane_state::LaneState;
 use crate::readying::Shortage;
 use crate::rounds::RoundEnd;
@@ -106,7 +107,7 @@ impl LaneState {
         };
         let serving = begun.state.serving();
         let mut run = begun;
-        let end = self.run_round(carrier, &mut run)?;
+        let end = self.run_round(carrier, &mut run, AtShortage::GoOn)?;
         Ok(found_after(&end, serving, self.rules.acks))
     }
 }

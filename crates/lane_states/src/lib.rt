@@ -3,23 +3,26 @@
 //! A `LaneState` has a journal, the state that was published last, the number of its last message, its nodes
 //! and its distributors' parts. `IsKept` in `specs/LaneStates.antt` says that they are what the journal says
 //! (`lane_keeping`), that late messages are on their way, that the numbers of messages find room, which nodes are
-//! stopped, and that the lane's bucket is one. A node or a part that isn't there yet counts as a new one.
+//! stopped, that the lane's bucket is one, and that the active node of each accepted row took its activation
+//! (`specs/Accepting.antt`). A node or a part that isn't there yet counts as a new one.
 //!
 //! Each call says by which events the journal grows. A distributor hears the newest state (`parts`). Nodes stop and
 //! start (`stopping`); a message to a stopped node is not delivered. A message is delivered, or kept and delivered
 //! when it falls due (`carriage`). An owner opens its state: it asks node
 //! after node, deals with each Ask by the fate that the carrier gives, and is told what came back (`opening`);
-//! so is each message of a round (`rounds`) and of an operation that is prepared (`steps`).
+//! so is each message of a round (`rounds`) and of an operation that is prepared (`steps`). Where a node wants memory an
+//! opening and a round go on, or end at once, as their caller says (`at_shortage`).
 //!
 //! ```text
 //! let mut lane = LaneState::new(alloc, bucket, rules);
 //! lane.room()?;
 //! lane.publish(&state);                   // Published { .. }
 //! lane.hear(distributor)?;                // Heard { .. }
-//! lane.open_state(distributor, key, &mut carrier)?;    // Sent { .. }, Delivered { .. }, Returned { .. }, .., Opened { .. }
+//! lane.open_state(distributor, key, &mut carrier, AtShortage::GoOn)?;    // Sent { .. }, Delivered { .. }, Returned { .. }, .., Opened { .. }
 //! ```
 #![tactic(auto)]
 
+pub mod at_shortage;
 pub mod carriage;
 pub mod filled_rows;
 pub mod known_owner;
@@ -36,6 +39,7 @@ pub mod steps;
 pub mod stopping;
 pub mod written;
 
+pub use at_shortage::AtShortage;
 pub use known_owner::KnownOwner;
 pub use lane_state::LaneState;
 pub use readying::Shortage;

@@ -8,6 +8,7 @@ ghost use Rattle.lane_states.specs.Written.{AddsNoEntry};
 ghost use Rattle.lane_states.specs.OpeningRuns.{opening_shortage};
 ghost use Rattle.lane_states.specs.Readying.{AskedNobody, BeganNoRound, IsForLine, OfUnprepared, GoesOnWith, IsCutOffWith, OpensOr};
 
+use crate::at_shortage::AtShortage;
 use crate::lane_state::LaneState;
 use crate::readying::Shortage;
 use carriers::Carrier;
@@ -88,7 +89,7 @@ impl LaneState {
     {
         owners_act();
         operations_end();
-        let end = self.open_state(distributor, key, carrier)?;
+        let end = self.open_state(distributor, key, carrier, AtShortage::GoOn)?;
         match end.missing {
             None => Ok(None),
             Some(missing) => {

@@ -1,4 +1,4 @@
-ghost use Rattle.std.specs.Prelude.{◌≡◌, ◌≤◌, ℕ, ◌<◌, ◌+◌, ◌||◌, ◌∷◌, true, None, Some, OnOk, OnErr, IfOk, length, vec_len, vec_capacity};
+ghost use Rattle.std.specs.Prelude.{◌≡◌, ◌≤◌, ℕ, ◌<◌, ◌+◌, ◌||◌, ◌∷◌, true, false, None, Some, OnOk, OnErr, IfOk, length, vec_len, vec_capacity};
 ghost use Rattle.messages.specs.Noting.{noted_reply};
 ghost use Rattle.messages.specs.declared.reply.Reply.TheVariants as reply;
 ghost use Rattle.messages.specs.declared.noted.NotedReply.TheVariants as noted;
@@ -17,7 +17,9 @@ ghost use Rattle.bucket_ids.specs.Buckets.{Low, IsIn};
 ghost use Rattle.lane_journals.specs.Readers.{running};
 ghost use Rattle.lane_journals.specs.Facts.{Idle};
 ghost use Rattle.lane_journals.specs.Meanings.{history};
+ghost use Rattle.lane_states.specs.Shortages.{WhereItEnds, NoneIsShort, EndsAtOnce};
 
+use crate::at_shortage::AtShortage;
 use crate::lane_state::{LaneState, push_within};
 use carriers::{Carrier, Fate};
 use distributor_part::DistributorPart;
@@ -354,12 +356,14 @@ impl LaneState {
         }
     }
 
-    /// Asks node after node until the state is opened, or nobody is left to ask. The only error is want of memory.
+    /// Asks node after node until the state is opened, or nobody is left to ask. The only error is want of memory, of
+    /// the lane or where that ends it of a node.
     fn ask_all<C: Carrier>(
         &mut self,
         distributor: u8,
         key: u64,
         carrier: &mut C,
+        at_shortage: AtShortage,
     ) -> Result<OpeningEnd, NoMemory>
         requires keeps { IsKept self.old }
         requires spare { HasRoom 0 self.old }
@@ -377,6 +381,11 @@ impl LaneState {
             EndsAsking self.old distributor end (journal_of self.new) (part_of self.new distributor)) }
         ensures stops { OnErr result
             (StopsAfter self.old distributor (journal_of self.new) (part_of self.new distributor)) }
+        ensures fine { IfOk result (λ end. WhereItEnds at_shortage (end.short ≡ false)) }
+        ensures none_is_short { OnOk result (WhereItEnds at_shortage
+            (NoneIsShort self.old.last self.new.last (journal_of self.new))) }
+        ensures at_once { WhereItEnds at_shortage
+            (EndsAtOnce self.old.last self.new.last (journal_of self.new)) }
         ensures others { OthersStay self.old.lane self.old.rules self.old.parts.items self.new.parts.items distributor }
         ensures after { self.new ≡ record self.old {
           journal = self.new.journal;
@@ -392,6 +401,9 @@ impl LaneState {
             match self.ask_next(distributor, key, carrier)? {
                 Asking::Further(one) => {
                     short = either(short, one);
+                    if at_shortage.ends(short) {
+                        return Err(NoMemory);
+                    }
                 }
                 Asking::Opened => {
                     return Ok(OpeningEnd {
@@ -423,12 +435,14 @@ impl LaneState {
         self.parts[usize::from(distributor)].give_up();
     }
 
-    /// Opens the state of a distributor that owns the lane, or asks all that serve and haven't answered yet. The only error is want of memory.
+    /// Opens the state of a distributor that owns the lane, or asks all that serve and haven't answered yet. The only
+    /// error is want of memory, of the lane or where that ends the opening of a node.
     pub fn open_state<C: Carrier>(
         &mut self,
         distributor: u8,
         key: u64,
         carrier: &mut C,
+        at_shortage: AtShortage,
     ) -> Result<OpeningEnd, NoMemory>
         requires keeps { IsKept self.old }
         requires spare { HasRoom 0 self.old }
@@ -444,6 +458,11 @@ impl LaneState {
         ensures carried { IsCarriedBy self.new (C.given carrier.new) }
         ensures ends { IfOk result (λ end. EndsOpening self.old self.new distributor end) }
         ensures stops { OnErr result (StopsOpening self.old self.new distributor) }
+        ensures fine { IfOk result (λ end. WhereItEnds at_shortage (end.short ≡ false)) }
+        ensures none_is_short { OnOk result (WhereItEnds at_shortage
+            (NoneIsShort self.old.last self.new.last (journal_of self.new))) }
+        ensures at_once { WhereItEnds at_shortage
+            (EndsAtOnce self.old.last self.new.last (journal_of self.new)) }
         ensures resting { IsResting (part_of self.new distributor) }
         ensures rounds { (v : ℕ) (b : Low)
             → running v b (history (journal_of self.new)) ≡ running v b (history (journal_of self.old)) }
@@ -459,7 +478,7 @@ impl LaneState {
         } }
         ensures parts { vec_len self.new.parts ≡ vec_len self.old.parts }
     {
-        match self.ask_all(distributor, key, carrier) {
+        match self.ask_all(distributor, key, carrier, at_shortage) {
             Ok(end) => {
                 self.give_up(distributor);
                 Ok(end)

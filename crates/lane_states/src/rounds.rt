@@ -29,7 +29,10 @@ ghost use Rattle.lane_rounds.specs.RoundKeeping.{IsAwaited};
 ghost use Rattle.lane_wants.specs.Wants.{IsRun, IsCutRun};
 ghost use Rattle.lane_states.specs.LaneStates.{journal_of, IsKept, HasRoom, Receives, part_of, IsCarriedBy, NodesOn};
 ghost use Rattle.lane_states.specs.RoundRuns.{IsAfterReply, IsRoundToldBy, is_refusal, NoneRuns, IsRunning, IsToSend, IsCutOff, GoesOn, IsRunToldBy, left, IsRunBy, MayBegin, MayBeginAt, LowIsThere, IsNewRun, EndsEnough, Begins, RunsOn, EndsWith, IsStageOver, IsToldOver, EndsJob, EndsRun, are_missing, is_short, IsEnd, IsBegunFor, OfWaited, IsWholeRun, IsCutShort};
+ghost use Rattle.lane_states.specs.Growing.{IsSettled};
+ghost use Rattle.lane_states.specs.Shortages.{WhereItEnds, NoneIsShort, EndsAtOnce, wants_memory, HadMemory};
 
+use crate::at_shortage::AtShortage;
 use crate::lane_state::{LaneState, push_within};
 use bucket_db::Row;
 use bucket_ids::Bucket;
@@ -152,6 +155,13 @@ fn tell_run(alloc: Global, run: &mut RoundRun, node: u8, taken: Taken) -> NotedR
     run.unread = raised(run.unread, reading, refused);
     run.unapplied = raised(run.unapplied, !reading, refused);
     reply
+}
+
+/// Whether a node has wanted memory for a round so far.
+fn wants_memory(run: &RoundRun) -> bool
+    ensures { result ≡ wants_memory run.now }
+{
+    run.unread || run.unapplied
 }
 
 /// The step by which a part begins the round of a key's row; none where the row has enough complete members.
@@ -293,6 +303,7 @@ impl LaneState {
         ensures same { GoesOn run.old run.new }
         ensures dealt { IsDealt fate.Deliver number (journal_of self.old) (journal_of self.new) }
         ensures flight { IsInFlight (journal_of self.new) number message.now }
+        ensures settled { HadMemory run.old → IsSettled number (journal_of self.new) (wants_memory run.new) }
         ensures after { self.new ≡ record self.old { journal = self.new.journal; nodes = self.new.nodes } }
         ensures nodes { vec_len self.new.nodes ≡ vec_len self.old.nodes }
         ensures len { vec_len self.new.journal ≡ vec_len self.old.journal + 2 }
@@ -319,6 +330,7 @@ impl LaneState {
         ensures told { run.new.round.awaited ≡ None }
         ensures left { left run.new.round ≡ left run.old.round }
         ensures same { GoesOn run.old run.new }
+        ensures minds { run.new ≡ record run.old { round = run.new.round } }
     {
         rounds_hear();
         tell_none(self.alloc, &mut run.round, node);
@@ -365,6 +377,8 @@ impl LaneState {
         ensures left { left run.new.round ≡ left run.old.round }
         ensures same { GoesOn run.old run.new }
         ensures dealt { IsDealt fate self.old.last (journal_of self.old) (journal_of self.new) }
+        ensures settled { HadMemory run.old
+            → IsSettled self.old.last (journal_of self.new) (wants_memory run.new) }
         ensures late { self.new.late.late ≡ kept_by fate self.old.last message self.old.late.late }
         ensures after { self.new
             ≡ record self.old { journal = self.new.journal; nodes = self.new.nodes; late = self.new.late } }
@@ -424,6 +438,9 @@ impl LaneState {
             self.old.last self.new.last self.old.late.late self.new.late.late (journal_of self.old)
             (journal_of self.new) }
         ensures same { GoesOn run.old run.new }
+        ensures next { self.new.last ≡ self.old.last + 1 }
+        ensures settled { HadMemory run.old
+            → IsSettled self.new.last (journal_of self.new) (wants_memory run.new) }
         ensures after { self.new ≡ record self.old {
           journal = self.new.journal;
           nodes = self.new.nodes;
@@ -465,6 +482,12 @@ impl LaneState {
             self.old.last self.new.last self.old.late.late self.new.late.late (journal_of self.old)
             (journal_of self.new) }
         ensures same { GoesOn run.old run.new }
+        ensures next { IfOk result (λ some. some ≡ true → self.new.last ≡ self.old.last + 1) }
+        ensures settled { IfOk result (λ some. some ≡ true → HadMemory run.old
+            → IsSettled self.new.last (journal_of self.new) (wants_memory run.new)) }
+        ensures still { IfOk result (λ some. some ≡ false → self.new.last ≡ self.old.last) }
+        ensures minds { IfOk result (λ some. some ≡ false → HadMemory run.old → HadMemory run.new) }
+        ensures unsent { OnErr result (self.new.last ≡ self.old.last) }
         ensures after { self.new ≡ record self.old {
           journal = self.new.journal;
           nodes = self.new.nodes;
@@ -481,9 +504,14 @@ impl LaneState {
         Ok(true)
     }
 
-    /// Sends the messages of a round one after the other, until none is left. The only error is want of memory,
-    /// which cuts the round off.
-    fn send_all<C: Carrier>(&mut self, carrier: &mut C, run: &mut RoundRun) -> Result<(), NoMemory>
+    /// Sends the messages of a round one after the other, until none is left. The only error is want of memory, of the
+    /// lane or where it ends the round of a node, which cuts the round off.
+    fn send_all<C: Carrier>(
+        &mut self,
+        carrier: &mut C,
+        run: &mut RoundRun,
+        at_shortage: AtShortage,
+    ) -> Result<(), NoMemory>
         requires keeps { IsKept self.old }
         requires spare { HasRoom 0 self.old }
         requires runs { IsRunning self.old.lane (journal_of self.old) run.old }
@@ -501,6 +529,11 @@ impl LaneState {
             self.old.last self.new.last self.old.late.late self.new.late.late (journal_of self.old)
             (journal_of self.new) }
         ensures same { GoesOn run.old run.new }
+        ensures fine { OnOk result (WhereItEnds at_shortage (HadMemory run.old → HadMemory run.new)) }
+        ensures none_is_short { OnOk result (WhereItEnds at_shortage (HadMemory run.old
+            → NoneIsShort self.old.last self.new.last (journal_of self.new))) }
+        ensures at_once { WhereItEnds at_shortage (HadMemory run.old
+            → EndsAtOnce self.old.last self.new.last (journal_of self.new)) }
         ensures after { self.new ≡ record self.old {
           journal = self.new.journal;
           nodes = self.new.nodes;
@@ -508,7 +541,11 @@ impl LaneState {
           last = self.new.last;
         } }
     {
-        while self.step_round(carrier, run)? {}
+        'sending: while self.step_round(carrier, run)? {
+            if at_shortage.ends(wants_memory(run)) {
+                return Err(NoMemory);
+            }
+        }
         Ok(())
     }
 
@@ -661,11 +698,13 @@ impl LaneState {
     }
 
     /// Runs a round to its end: its messages one after the other, and then its end is decided. The only error is want
-    /// of memory, which ends it at once. There is room for the end. What it was told can be read from it then.
+    /// of memory, of the lane or where that ends the round of a node, and it ends the round at once. There is room for
+    /// the end. What it was told can be read from it then.
     pub fn run_round<C: Carrier>(
         &mut self,
         carrier: &mut C,
         run: &mut RoundRun,
+        at_shortage: AtShortage,
     ) -> Result<RoundEnd, NoMemory>
         requires keeps { IsKept self.old }
         requires there { run.old.distributor < vec_len self.old.parts }
@@ -692,6 +731,11 @@ impl LaneState {
         ensures wanted_until { OnErr result (OfWaited self.old.lane (journal_of self.old) run.old (λ line o.
             IsCutRun self.old.lane self.old.rules line o (journal_of self.old) (journal_of self.new))) }
         ensures same { GoesOn run.old run.new }
+        ensures fine { OnOk result (WhereItEnds at_shortage (HadMemory run.old → HadMemory run.new)) }
+        ensures none_is_short { OnOk result (WhereItEnds at_shortage (HadMemory run.old
+            → NoneIsShort self.old.last self.new.last (journal_of self.new))) }
+        ensures at_once { WhereItEnds at_shortage (HadMemory run.old
+            → EndsAtOnce self.old.last self.new.last (journal_of self.new)) }
         ensures end { IfOk result (IsEnd (journal_of self.new) run.new) }
         ensures none_runs { NoneRuns (journal_of self.new) }
         ensures job { (row : Row) × EndsRun (part_of self.old run.old.distributor)
@@ -711,7 +755,7 @@ impl LaneState {
         owners_act();
         let spare = self.spare;
         self.spare = spare + 1;
-        let sent = self.send_all(carrier, run);
+        let sent = self.send_all(carrier, run, at_shortage);
         self.spare = spare;
         let end = self.end_round(run);
         match sent {

@@ -1,11 +1,9 @@
 -- A lane whose owner may make a pass, and what the opening of its state makes of it.
-use Rattle.std.proofs.Common.{◌≡◌, ◌<◌, ℕ, Bool, true, false, List, Option, Some, None, is_some, refl, sym, ap, subst, ◌∙◌, arith, vec_len, IfOk, Result, Ok, Err}
+use Rattle.std.proofs.Common.{◌≡◌, ◌<◌, ℕ, Bool, true, List, Option, Some, None, is_some, refl, sym, ap, subst, ◌∙◌, vec_len}
 use Rattle.bucket_ids.specs.Buckets.{Low}
-use Rattle.cluster_states.specs.declared.cluster_state.ClusterState.{ClusterState}
 use Rattle.carriers.specs.declared.fate.Fate.{Fate}
 use Rattle.bucket_db.specs.Rows.{Rows}
 use Rattle.distributor_part.specs.Parts.{Part}
-use Rattle.distributor_part.specs.Steps.{IsOpened}
 use Rattle.lane_journals.specs.Facts.{Idle}
 use Rattle.lane_journals.specs.Meanings.{history}
 use Rattle.lane_journals.specs.Places.{state_in}
@@ -22,7 +20,6 @@ use Rattle.lane_upkeep.specs.declared.owner.Owner.{Owner}
 use Rattle.lane_upkeep.specs.Passing.{IsPassing, PassesOn}
 use Rattle.lane_upkeep.specs.Maintaining.{IsBetween}
 use Rattle.lane_upkeep.proofs.Upkept.{upkeep-opened, upkeep-stopped}
-use Rattle.value_lists.specs.declared.NoMemory.{NoMemory}
 
 -- ---- what stays
 
@@ -114,8 +111,3 @@ module _ (c e : LaneState) (o : Owner) (given : List Fate) (b : IsBetween c o gi
 -- no round runs where none ran
 pub none-run-on : (J K : List LaneEvent) → ((v : ℕ) (b : Low) → running v b (history K) ≡ running v b (history J)) → NoneRuns J → NoneRuns K
 none-run-on J K same none = λ v b. same v b ∙ none v b
-
--- what an opening that ended says of the owner's rows
-pub passing-if : (r : Result Bool NoMemory) (e : LaneState) (o : Owner) (now : List Fate) (none : Type 0) → IfOk r (λ opened. opened ≡ true → none) → (none → IsPassing e o now) → IfOk r (λ opened. opened ≡ true → IsPassing e o now)
-passing-if (Ok opened) e o now none h f = λ t. f (h t)
-passing-if (Err x) e o now none h f = h

@@ -1,9 +1,8 @@
 -- A decision on a row, and what it leaves of a pass.
-use Rattle.std.proofs.Common.{◌≡◌, ◌≢◌, ◌<◌, ◌≤◌, ◌+◌, ℕ, zero, suc, Bool, true, false, List, [], ◌∷◌, length, Option, Some, None, slice_set, get_or, refl, sym, ap, ◌∙◌, subst, subst₂, arith}
+use Rattle.std.proofs.Common.{◌≡◌, ◌<◌, ℕ, zero, suc, List, [], ◌∷◌, length, Option, Some, slice_set, get_or, refl, sym, ap, ◌∙◌, subst, subst₂, arith}
 use Rattle.std.specs.Prelude.{slice_get, vec_len, IfSome}
 use Rattle.std.specs.Vec.{with_item}
 use Rattle.bucket_ids.specs.Buckets.{Low}
-use Rattle.node_sets.specs.Members.{has_node}
 use Rattle.cluster_states.specs.declared.cluster_state.ClusterState.{ClusterState}
 use Rattle.carriers.specs.declared.fate.Fate.{Fate}
 use Rattle.messages.specs.declared.decision.Decision.{Decision}
@@ -15,7 +14,7 @@ use Rattle.bucket_db.specs.declared.row.Row.{Row}
 use Rattle.distributor_part.specs.Parts.{Part, rows_of}
 use Rattle.distributor_part.specs.Steps.{IsOpened}
 use Rattle.distributor_part.specs.Upkeep.{JoinsRows, EndsDelete}
-use Rattle.lane_journals.specs.Readers.{Journal, answer, round_of, running}
+use Rattle.lane_journals.specs.Readers.{answer, round_of, running}
 use Rattle.lane_journals.specs.Facts.{AnsweredApply, Idle}
 use Rattle.lane_journals.specs.Meanings.{history, meaning_decision}
 use Rattle.lane_journals.specs.Events as plain
@@ -30,18 +29,19 @@ use Rattle.row_keeping.specs.Deciding.{IsDeciding, HasDelete, IsOver}
 use Rattle.distributor_part.proofs.PartLaws.{row_at}
 use Rattle.lane_rounds.proofs.Waiting.{answered-stays}
 use Rattle.lane_states.specs.declared.lane_state.LaneState.{LaneState}
-use Rattle.lane_states.specs.LaneStates.{journal_of, part_of, IsKept, IsKeptBy, HasRoom, AreCarried, IsCarriedBy, IsResting}
+use Rattle.lane_states.specs.LaneStates.{journal_of, part_of, IsKept, IsKeptBy, HasRoom, AreCarried, IsResting}
 use Rattle.lane_states.specs.RoundRuns.{NoneRuns}
+use Rattle.lane_states.specs.Accepting.{IsPartAccepted, AreAccepted}
+use Rattle.lane_states.proofs.Accepting.{accepted-but}
 use Rattle.lane_states.proofs.Kept.{kept_more, kept_still}
 use Rattle.lane_states.proofs.Places.{part-at, part-own, part-others}
 use Rattle.lane_states.proofs.Runs.{carried-decided}
 use Rattle.upkeep_answers.specs.Spans.{AreUpkeep, OfUpkeep, Nothing, More}
 use Rattle.lane_upkeep.specs.declared.owner.Owner.{Owner}
 use Rattle.lane_upkeep.specs.declared.rounding.RowNote.{RowNote}
-use Rattle.lane_upkeep.specs.declared.rounding.Exact.{Exact}
 use Rattle.lane_upkeep.specs.Deciding.{HasEnded}
 use Rattle.lane_upkeep.specs.Noted.{StaysKnown}
-use Rattle.lane_upkeep.specs.Notes.{KnowsNote, ShowedExactly}
+use Rattle.lane_upkeep.specs.Notes.{KnowsNote}
 use Rattle.lane_upkeep.specs.Passing.{IsPassing, PassesOn, rows_in, HasRow}
 
 -- ---- decisions that begin and end no round
@@ -120,10 +120,10 @@ module _ (c e : LaneState) (o : Owner) (after : e ≡ record c { journal = e.jou
     pub still-known : StaysKnown c e o
     still-known note k = subst (λ (K : List LaneEvent). KnowsNote K o.state note) (sym same) k
 
-    pub still-passes : (given : List Fate) → HasRoom 0 e → Keeps c.lane c.rules J c.newest c.last c.nodes.items e.parts.items → (rows : Rows) → IsOpened (part_of e d) o.state rows
+    pub still-passes : (given : List Fate) → HasRoom 0 e → Keeps c.lane c.rules J c.newest c.last c.nodes.items e.parts.items → AreAccepted c.lane c.rules J e.parts.items → (rows : Rows) → IsOpened (part_of e d) o.state rows
         → IsResting (part_of e d) → IsPassing c o given → IsPassing e o given
-    still-passes given room keeps rows opened resting h = subst (λ (z : LaneState). IsPassing z o given) (sym after) (record {
-      keeps = subst (λ (K : List LaneEvent). IsKeptBy c.lane c.rules K c.newest c.last c.nodes.items e.parts.items c.late.late c.stopped) (sym same) (kept_still h.keeps (omega arith) keeps);
+    still-passes given room keeps accepted rows opened resting h = subst (λ (z : LaneState). IsPassing z o given) (sym after) (record {
+      keeps = subst (λ (K : List LaneEvent). IsKeptBy c.lane c.rules K c.newest c.last c.nodes.items e.parts.items c.late.late c.stopped) (sym same) (kept_still h.keeps (omega arith) keeps accepted);
       spare = of_after (HasRoom 0) room;
       carried = subst (λ (K : List LaneEvent). AreCarried given K c.last c.late.late) (sym same) h.carried;
       there = subst (λ (n : ℕ). d < n) (sym len) h.there;
@@ -148,10 +148,10 @@ module _ (c e : LaneState) (o : Owner) (after : e ≡ record c { journal = e.jou
     decided-known note k = subst (λ (K : List LaneEvent). KnowsNote K o.state note) (sym grows) (known-on J d v x o.state note of_rows k)
 
     pub decided-passes : OfUpkeep (λ J K. (w : ℕ) (b : Low) → Idle w b (history J) → Idle w b (history K)) → (given : List Fate) → HasRoom 0 e
-        → IsKeptNext c.lane c.rules J c.newest c.last c.nodes.items e.parts.items (Decided d v x) → (rows : Rows) → IsOpened (part_of e d) o.state rows
+        → IsKeptNext c.lane c.rules J c.newest c.last c.nodes.items e.parts.items (Decided d v x) → AreAccepted c.lane c.rules J e.parts.items → (rows : Rows) → IsOpened (part_of e d) o.state rows
         → IsResting (part_of e d) → IsPassing c o given → IsPassing e o given
-    decided-passes idles given room next rows opened resting h = subst (λ (z : LaneState). IsPassing z o given) (sym after) (record {
-      keeps = subst (λ (K : List LaneEvent). IsKeptBy c.lane c.rules K c.newest c.last c.nodes.items e.parts.items c.late.late c.stopped) (sym grows) (kept_more h.keeps next.keeps tt);
+    decided-passes idles given room next accepted rows opened resting h = subst (λ (z : LaneState). IsPassing z o given) (sym after) (record {
+      keeps = subst (λ (K : List LaneEvent). IsKeptBy c.lane c.rules K c.newest c.last c.nodes.items e.parts.items c.late.late c.stopped) (sym grows) (kept_more h.keeps next.keeps tt accepted);
       spare = of_after (HasRoom 0) room;
       carried = subst (λ (K : List LaneEvent). AreCarried given K c.last c.late.late) (sym grows) (carried-decided given J c.last c.late.late d v x h.carried);
       there = subst (λ (n : ℕ). d < n) (sym len) h.there;
@@ -225,6 +225,11 @@ module _ {c r e : LaneState} {o : Owner} {p q : Part} (w : Writes c r e o p q) w
   pub writes-now : (R : Part → Part → Type 0) → R p q → R (part_of c o.distributor) (part_in c.lane c.rules e.parts.items o.distributor)
   writes-now R h = subst (λ (y : Part). R (part_of c o.distributor) y) (sym now-after) (subst (λ (x : Part). R x q) (sym part-before) h)
 
+  -- which rows were accepted
+  pub writes-accepted : (IsPartAccepted (history (journal_of c)) p → IsPartAccepted (history (journal_of c)) q) → IsKept c → AreAccepted c.lane c.rules (journal_of c) e.parts.items
+  writes-accepted f k = accepted-but c.lane c.rules (journal_of c) c.parts.items e.parts.items o.distributor writes-others
+      (writes-now (λ y z. IsPartAccepted (history (journal_of c)) y → IsPartAccepted (history (journal_of c)) z) f (k.accepted o.distributor)) k.accepted
+
   pub deciding : (given : List Fate) → IsPassing c o given → IsDeciding c.lane c.rules (journal_of c) c.parts.items e.parts.items o.distributor o.state
   deciding given h = record { acting = h.acting; others = writes-others; no_round = λ b. h.none_runs (o.state).version b; idle = λ b. h.idle (o.state).version b }
 
@@ -257,7 +262,8 @@ module _ (c e : LaneState) (o : Owner) (after : e ≡ record c { journal = e.jou
 
   pub same-passes : (given : List Fate) → HasRoom 0 e → IsPassing c o given → IsPassing e o given
   same-passes given room h = still-passes c e o after len same others-same given room
-      (subst (λ (xs : List Part). Keeps c.lane c.rules (journal_of c) c.newest c.last c.nodes.items xs) (sym items) (h.keeps).keeps) h.rows
+      (subst (λ (xs : List Part). Keeps c.lane c.rules (journal_of c) c.newest c.last c.nodes.items xs) (sym items) (h.keeps).keeps)
+      (subst (λ (xs : List Part). AreAccepted c.lane c.rules (journal_of c) xs) (sym items) (h.keeps).accepted) h.rows
       (subst (λ (x : Part). IsOpened x o.state h.rows) (sym part-same) h.opened) (subst IsResting (sym part-same) h.resting) h
 
 module _ (c r : LaneState) (o : Owner) (same : r.journal.items ≡ c.journal.items) (roomy : r ≡ record c { journal = r.journal }) where

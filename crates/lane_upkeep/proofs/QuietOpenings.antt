@@ -1,5 +1,5 @@
 -- An opening that lacks an answer isn't quiet.
-use Rattle.std.proofs.Common.{◌≡◌, ◌≢◌, ◌==◌, ◌||◌, ◌++◌, ◌⊎◌, ◌≤◌, ◌<◌, ℕ, Bool, true, false, not, List, [], ◌∷◌, length, Option, Some, None, is_some, if◌then◌else◌, inl, inr, refl, sym, ap, ap₂, ◌∙◌, subst, arith, eq-eqb, Result, Ok, Err, IfOk}
+use Rattle.std.proofs.Common.{◌≡◌, ◌≢◌, ◌==◌, ◌||◌, ◌++◌, ◌⊎◌, ◌≤◌, ℕ, Bool, true, false, not, List, [], ◌∷◌, length, Option, Some, None, is_some, if◌then◌else◌, inl, inr, refl, sym, ap, ◌∙◌, subst, arith, eq-eqb}
 use Rattle.std.proofs.lemmas.Bool.Decides.{nat_tests}
 use Rattle.std.proofs.lemmas.Bool.{eqb-true}
 use Rattle.bucket_ids.specs.Buckets.{Low}
@@ -13,8 +13,6 @@ use Rattle.messages.specs.declared.message.Message.{Message as Letter}
 use Rattle.messages.specs.declared.noted.NotedReply.{NotedReply}
 use Rattle.distributor_part.specs.declared.rules.Rules.{Rules}
 use Rattle.distributor_part.specs.Parts.{Part}
-use Rattle.distributor_part.specs.Steps as steps
-use Rattle.distributor_part.specs.Steps.{LacksAnswers}
 use Rattle.lane_journals.specs.Events as plain
 use Rattle.lane_journals.specs.Readers as readers
 use Rattle.lane_journals.specs.Readers.{Journal, or_else, only_if, sent, first_reply, returned, is_answer, held, asked, opened, published}
@@ -32,12 +30,12 @@ use Rattle.lane_durability.proofs.BelowLines.{some-none}
 use Rattle.node_journals.specs.Replaying.{sending}
 use Rattle.lane_keeping.specs.LaneKeeping.{setting_of, IsNewest, PartKeeps, Holds, KnowsOpening}
 use Rattle.lane_keeping.specs.Acting.{IsActing}
-use Rattle.lane_completeness.proofs.Replies.{IsHeard, IsFenced, IsOwed, known-owed, not-fenced}
+use Rattle.lane_completeness.proofs.Replies.{IsOwed, known-owed, not-fenced}
 use Rattle.lane_completeness.proofs.Hearing.{answer-given, ask-counts}
 use Rattle.lane_states.specs.declared.lane_state.LaneState.{LaneState}
 use Rattle.lane_states.specs.declared.opening.OpeningEnd.{OpeningEnd}
 use Rattle.lane_states.specs.LaneStates.{journal_of, part_of, IsKept}
-use Rattle.lane_states.specs.Growing.{HasHeard, CameShort, IsSettled}
+use Rattle.lane_states.specs.Growing.{CameShort, IsSettled}
 use Rattle.lane_states.specs.Openings.{IsGone, IsAsked, Nobody, More, LacksAfter, EndsBy, EndsOpening}
 use Rattle.lane_states.proofs.OpeningRuns.{carried, legal-sent}
 use Rattle.lane_states.proofs.Staying.{IsOfMessage, stays-asked}
@@ -271,8 +269,3 @@ opened-quietly span c e d v s end acting newest heard nobody kept lane rules sti
     by_missing : (o : Option ℕ) → EndsBy c d o false (journal_of e) ends.part → o ≡ None
     by_missing None x = refl
     by_missing (Some missing) x = absurd (lacks-none c d missing s (journal_of e) ends.part x heard nobody acting.owner legal top.1 back)
-
--- what a test of the end says of it
-pub lacking-if : {E : Type 0} (r : Result Bool E) (P Q : Type 0) (short : Bool) → IfOk r (λ opened. opened ≡ false → P → ⊥) → IfOk r (λ opened. short ≡ false) → (short ≡ false → Q → P) → IfOk r (λ opened. opened ≡ false → Q → ⊥)
-lacking-if (Ok b) P Q short lack whole f = λ e q. lack e (f whole q)
-lacking-if (Err e) P Q short lack whole f = tt

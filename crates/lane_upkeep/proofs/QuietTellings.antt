@@ -1,5 +1,5 @@
 -- What a message of a pass makes of nodes in a quiet span.
-use Rattle.std.proofs.Common.{◌≡◌, ◌++◌, ◌+◌, ℕ, Bool, true, false, List, [], ◌∷◌, length, Option, Some, None, IfSome, IfNone, IfOk, Result, Ok, Err, refl, sym, ap, ◌∙◌, subst}
+use Rattle.std.proofs.Common.{◌≡◌, ◌++◌, ◌+◌, ℕ, true, false, List, [], ◌∷◌, length, Option, Some, None, IfSome, IfNone, IfOk, Result, Ok, Err, refl, sym, ap, ◌∙◌, subst}
 use mathlib.Core.Bool.{true≢false}
 use Rattle.carriers.specs.declared.fate.Fate.{Fate}
 use Rattle.messages.specs.declared.body.Body.{Body}
@@ -9,8 +9,6 @@ use Rattle.messages.specs.declared.reply.Reply.{Reply}
 use Rattle.messages.specs.declared.reply.Reply.TheVariants as replies
 use Rattle.messages.specs.Noting.{message_of, noted_reply}
 use Rattle.service_layer.specs.Nodes.{Node}
-use Rattle.entry_maps.specs.declared.entry.Entry.{Entry}
-use Rattle.stamps.specs.declared.stamp.Stamp.{Stamp}
 use Rattle.lane_journals.specs.Events as plain
 use Rattle.lane_journals.specs.Readers as readers
 use Rattle.lane_journals.specs.Readers.{first_reply, returned, stopped, version}
@@ -21,19 +19,21 @@ use Rattle.node_journals.specs.Replaying.{sending}
 use Rattle.lane_carriage.specs.Carriage.{met, IsDealt, AreDelivered, due}
 use Rattle.lane_carriage.specs.Waits.{numbers}
 use Rattle.lane_carriage.specs.Laws.{OfTaken}
-use Rattle.lane_keeping.specs.LaneKeeping.{node_in}
+use Rattle.lane_keeping.specs.LaneKeeping.{node_in, setting_of}
 use Rattle.lane_rounds.specs.RoundKeeping.{origin_in}
 use Rattle.lane_states.specs.declared.lane_state.LaneState.{LaneState}
-use Rattle.lane_states.specs.LaneStates.{journal_of, Went, NodesOn}
+use Rattle.lane_states.specs.LaneStates.{journal_of, IsKept, Went, NodesOn}
 use Rattle.lane_states.specs.Tellings.{IsRowBody, IsFirstReply}
-use Rattle.lane_rest.specs.Lanes.{IsPassBody, is_taken, is_answer}
+use Rattle.lane_rest.specs.Lanes.{IsPassBody, is_answer}
 use Rattle.lane_rest.specs.Scripts.{Script}
 use Rattle.quiet_spans.specs.Quiet.{GoesQuietly}
 use Rattle.quiet_passes.specs.Telling.{IsSaid, IsToldIn}
 use Rattle.lane_upkeep.specs.declared.owner.Owner.{Owner}
+use Rattle.lane_upkeep.specs.CameBack.{CameBack}
 use Rattle.lane_upkeep.specs.Passing.{IsPassing, MayTell}
-use Rattle.lane_upkeep.specs.Quiet.{Goes, nodes_in, IsCurrent, IsToldQuietly}
+use Rattle.lane_upkeep.specs.Quiet.{Goes, IsCurrent, IsToldQuietly}
 use Rattle.lane_upkeep.proofs.Tellings.{row-body}
+use Rattle.lane_upkeep.proofs.QuietEnds.{reply_ends}
 
 -- both of what is said of a result
 pub both-ok : {X E : Type 0} (P Q R : X → Type 0) (r : Result X E) → ((x : X) → P x → Q x → R x) → IfOk r P → IfOk r Q → IfOk r R
@@ -86,7 +86,7 @@ module _ (waits : OfTaken (λ given last late f taken rest. numbers taken ≡ du
     (told : (d : Script) (given : List Fate) (f : Fate) (J K : List LaneEvent) (old now : ℕ → Node) (m : Message) → IsSaid d given f J K old now m
     → (first_reply (length given + 1) (history K) ≡ Some plain.NoMemory → ⊥) → IsToldIn d J K old now (length given + 1) m)
     (c e : LaneState) (o : Owner) (given now : List Fate) (node : ℕ) (b : Body) (p : IsPassing c o given) (may : MayTell c o node b)
-    (w : Went c e (message_of (origin_in c.lane o.distributor o.state) node b) given now) (took : NodesOn c e) (d : Script) (current : IsCurrent c o) (goes : Goes d now c e) where
+    (w : Went c e (message_of (origin_in c.lane o.distributor o.state) node b) given now) (took : NodesOn c e) (kept : IsKept e) (d : Script) (current : IsCurrent c o) (goes : Goes d now c e) where
   abbrev m : Message
   m = message_of (origin_in c.lane o.distributor o.state) node b
 
@@ -115,8 +115,8 @@ module _ (waits : OfTaken (λ given last late f taken rest. numbers taken ≡ du
   }
 
   -- where a reply comes that isn't want of memory
-  some-told : (r : Reply) → IsFirstReply (journal_of e) (c.last + 1) r → (r ≡ replies.NoMemory → ⊥) → IsToldQuietly d c e node b (Some r)
-  some-told r first fine =
+  some-told : (r : Reply) → IsFirstReply (journal_of e) (c.last + 1) r → (r ≡ replies.NoMemory → ⊥) → CameBack (journal_of e) o node b r → IsToldQuietly d c e node b (Some r)
+  some-told r first fine came =
       let is : first_reply (length given + 1) (history (journal_of e)) ≡ Some (meaning_reply first.before (noted_reply r)) = subst (λ (i : ℕ). first_reply (i + 1) (history (journal_of e)) ≡ Some (meaning_reply first.before (noted_reply r))) counted first.is in
       let t = told d given w.fate J (journal_of e) (node_in c.nodes.items) (node_in e.nodes.items) m said (λ wants. fine (wants-by first.before r (same _ _ (sym is ∙ wants)))) in
       record {
@@ -125,15 +125,16 @@ module _ (waits : OfTaken (λ given last late f taken rest. numbers taken ≡ du
         given = r;
         came_back = refl;
         answers = answers-by first.before r ∙ ap readers.is_answer (same _ _ (sym is ∙ t.replied)) ∙ sym (answers-by t.before t.reply) ∙ t.answers;
+        ends = reply_ends (setting_of e.lane e.rules) (journal_of e) o node b r (kept.keeps).legal (t.versions node ∙ current node may.serving) came fine;
       }
     where
       same : (x y : plain.Reply) → ◌≡◌ {A = Option plain.Reply} (Some x) (Some y) → x ≡ y
       same x y h = cc
 
   pub quiet-told : (reply : Option Reply) → IfSome reply (IsFirstReply (journal_of e) (c.last + 1)) → IfNone reply (returned (c.last + 1) (history (journal_of e)) ≡ false) → (reply ≡ Some replies.NoMemory → ⊥)
-      → IsToldQuietly d c e node b reply
-  quiet-told (Some r) first silent fine = some-told r first (λ n. fine (ap (λ x. Some x) n))
-  quiet-told None first silent fine =
+      → IfSome reply (CameBack (journal_of e) o node b) → IsToldQuietly d c e node b reply
+  quiet-told (Some r) first silent fine came = some-told r first (λ n. fine (ap (λ x. Some x) n)) came
+  quiet-told None first silent fine came =
       let there : returned (c.last + 1) (history (journal_of e)) ≡ true = subst (λ (i : ℕ). returned (i + 1) (history (journal_of e)) ≡ true) (sym counted)
       (back d given w.fate J (journal_of e) (node_in c.nodes.items) (node_in e.nodes.items) m said) in
       absurd (true≢false (sym there ∙ silent))

@@ -1,31 +1,31 @@
 -- What a round of the row of a place leaves.
-use Rattle.std.proofs.Common.{◌≡◌, ◌≢◌, ◌<◌, ◌||◌, ℕ, zero, suc, true, List, [], ◌∷◌, length, Option, None, Some, map, slice_get, refl, sym, ap, subst, ◌∙◌}
+use Rattle.std.proofs.Common.{◌≡◌, ◌≢◌, ◌||◌, ℕ, zero, suc, List, [], ◌∷◌, Option, None, Some, slice_get, refl, sym, ap, subst, ◌∙◌}
 use Rattle.bucket_ids.specs.Buckets.{Low}
 use Rattle.node_sets.specs.Members.{has_node}
 use Rattle.cluster_states.specs.declared.cluster_state.ClusterState.{ClusterState}
 use Rattle.carriers.specs.declared.fate.Fate.{Fate}
 use Rattle.late_messages.specs.declared.late.Late.{Late}
-use Rattle.messages.specs.declared.decision.Decision.TheVariants.{RoundBegun, RoundEnded}
 use Rattle.bucket_db.specs.Changes.{at_row}
 use Rattle.bucket_db.specs.Rows.{Rows, buckets_of}
 use Rattle.bucket_db.specs.declared.row.Row.{Row}
 use Rattle.distributor_part.specs.declared.rules.Rules.{Rules}
 use Rattle.distributor_part.specs.declared.stage.Stage.{Stage}
-use Rattle.distributor_part.specs.declared.stage.Stage.TheVariants.{Before, Running, Over, Ended}
+use Rattle.distributor_part.specs.declared.stage.Stage.TheVariants.{Before, Running, Over}
 use Rattle.distributor_part.specs.Parts.{Part, rows_of}
 use Rattle.distributor_part.specs.Steps.{with_marks}
 use Rattle.distributor_part.specs.Upkeep.{BeginsRoundAt}
 use Rattle.merge_rounds.specs.Rounds.{RoundState}
+use Rattle.service_layer.specs.Nodes.{Node}
+use Rattle.node_spans.specs.Spans.{NodesGo}
 use Rattle.lane_journals.specs.declared.event.LaneEvent.{LaneEvent}
-use Rattle.lane_journals.specs.declared.event.LaneEvent.TheVariants.{Decided}
-use Rattle.lane_keeping.specs.LaneKeeping.{part_in}
+use Rattle.lane_keeping.specs.LaneKeeping.{node_in, part_in}
 use Rattle.lane_keeping.specs.Acting.{IsActing}
 use Rattle.lane_keeping.specs.Asking.{OthersStay}
 use Rattle.lane_rounds.specs.RoundKeeping.{KnowsAnswers}
 use Rattle.lane_states.specs.declared.rounds.RoundRun.{RoundRun}
 use Rattle.lane_states.specs.declared.rounds.RoundEnd.{RoundEnd}
 use Rattle.lane_states.specs.declared.lane_state.LaneState.{LaneState}
-use Rattle.lane_states.specs.LaneStates.{journal_of, part_of, IsResting}
+use Rattle.lane_states.specs.LaneStates.{journal_of, part_of, NodesOn, IsResting}
 use Rattle.lane_states.specs.RoundRuns.{GoesOn, Begins, EndsRun, IsEnd, IsWholeRun}
 use Rattle.lane_states.proofs.RoundLines.{stays-round}
 use Rattle.lane_states.proofs.SameStates.{same-state}
@@ -152,9 +152,9 @@ module _ (x m n : LaneState) (o : Owner) (at : ℕ) (run y : RoundRun) (row : Ro
   answers-left k = subst (λ (s : ClusterState). KnowsAnswers (journal_of n) s y.round) (ap (λ (z : RoundRun). z.state) go.run_is ∙ state-is) k
 
   -- the round as it was begun and run, in the words of the lane before
-  pub ran-left : (z : LaneState) → m ≡ record z { journal = m.journal; parts = m.parts } → z.lane ≡ x.lane → z.last ≡ x.last → z.late.late ≡ x.late.late → (e : RoundEnd) (before after : List Fate)
+  pub ran-left : (z : LaneState) → m ≡ record z { journal = m.journal; parts = m.parts } → z.lane ≡ x.lane → z.last ≡ x.last → z.late.late ≡ x.late.late → z.nodes.items ≡ x.nodes.items → NodesOn m n → (e : RoundEnd) (before after : List Fate)
       → IsWholeRun m.lane run e before after m.last n.last m.late.late n.late.late (journal_of m) (journal_of n) → IsEnd (journal_of n) y e → RanRound x n o at before after y
-  ran-left z same lane last late e before after whole end = record {
+  ran-left z same lane last late nodes took e before after whole end = record {
     begun = run;
     state_is = state-is;
     part = part_of m o.distributor;
@@ -167,6 +167,7 @@ module _ (x m n : LaneState) (o : Owner) (at : ℕ) (run y : RoundRun) (row : Ro
         (subst (λ (i : ℕ). IsWholeRun m.lane run e before after i n.last x.late.late n.late.late (journal_of m) (journal_of n)) (ap (λ (w : LaneState). w.last) same ∙ last)
         (subst (λ (ls : List Late). IsWholeRun m.lane run e before after m.last n.last ls n.late.late (journal_of m) (journal_of n)) (ap (λ (w : LaneState). w.late.late) same ∙ late) whole));
     is_end = end;
+    nodes = subst (λ (ns : List Node). NodesGo (journal_of m) (node_in ns) (journal_of n) (node_in n.nodes.items)) (ap (λ (w : LaneState). w.nodes.items) same ∙ nodes) took;
   }
 
   pub row-left : (r : Row) → slice_get (rows_of (part_of x o.distributor).rows) at ≡ Some r → (y.round).row ≡ r.bucket

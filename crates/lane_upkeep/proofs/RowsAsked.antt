@@ -1,5 +1,5 @@
 -- What is known of a row allows what is decided of it.
-use Rattle.std.proofs.Common.{◌≡◌, ◌≢◌, ◌∙◌, ◌==◌, ◌&&◌, not, ℕ, Bool, true, false, List, Option, Some, None, refl, sym, ap, subst, eq-eqb}
+use Rattle.std.proofs.Common.{◌≡◌, ◌∙◌, ◌==◌, ◌&&◌, not, ℕ, Bool, true, false, Option, Some, None, refl, sym, ap, subst, eq-eqb}
 use Rattle.std.specs.Prelude.{slice_get, Contains, IfSome, is_some}
 use mathlib.Core.Bool.{true≢false}
 use Rattle.bucket_ids.specs.Buckets.{Low}
@@ -18,11 +18,9 @@ use Rattle.row_keeping.specs.Deciding.{MayActivate, MayDelete, IsKeeper}
 use Rattle.lane_states.specs.declared.lane_state.LaneState.{LaneState}
 use Rattle.lane_states.specs.LaneStates.{journal_of, part_of}
 use Rattle.lane_upkeep.specs.declared.owner.Owner.{Owner}
-use Rattle.lane_upkeep.specs.declared.rounding.Exact.{Exact}
 use Rattle.lane_upkeep.specs.declared.rounding.RowNote.{RowNote}
 use Rattle.lane_upkeep.specs.Notes.{KnowsNote, ShowedExactly}
 use Rattle.lane_upkeep.specs.Noted.{AreEnough}
-use Rattle.bucket_db.specs.declared.row.Deleting.{Deleting}
 use Rattle.lane_upkeep.specs.Passing.{Passes, HasRow, AreReady}
 use Rattle.lane_upkeep.proofs.Replies.{one_row}
 
@@ -35,12 +33,12 @@ not-true true h = absurd (true≢false (sym h))
 not-true false h = refl
 
 -- the part's row of a place is the lane's
-row-of : (c : LaneState) (o : Owner) (at : ℕ) (rows : Rows) (x row : Row) → (part_of c o.distributor).rows ≡ Some rows → slice_get rows.rows at ≡ Some x → HasRow c o at row → x ≡ row
+pub row-of : (c : LaneState) (o : Owner) (at : ℕ) (rows : Rows) (x row : Row) → (part_of c o.distributor).rows ≡ Some rows → slice_get rows.rows at ≡ Some x → HasRow c o at row → x ≡ row
 row-of c o at rows x row opened found has =
     let e : Some x ≡ Some row = sym found ∙ (sym (ap (λ (r : Option Rows). slice_get (rows_of r) at) opened) ∙ has) in cc
 
 -- the part's state is the owner's
-state-of : (c : LaneState) (o : Owner) (s : ClusterState) → Passes c o → (part_of c o.distributor).state ≡ Some s → s ≡ o.state
+pub state-of : (c : LaneState) (o : Owner) (s : ClusterState) → Passes c o → (part_of c o.distributor).state ≡ Some s → s ≡ o.state
 state-of c o s p heard =
     let e : Some s ≡ Some o.state = sym heard ∙ ((p.1).opened).heard in cc
 

@@ -3,7 +3,9 @@ use Rattle.std.proofs.Common.{◌≡◌, ◌∙◌, ◌<◌, ℕ, Bool, true, fa
 use Rattle.std.specs.Prelude.{slice_get, MatchBool}
 use Rattle.std.proofs.lemmas.Option.{slice_get_within}
 use mathlib.Core.Bool.{true≢false}
+use Rattle.bucket_ids.specs.Buckets.{Low}
 use Rattle.carriers.specs.declared.fate.Fate.{Fate}
+use Rattle.messages.specs.declared.body.Body.{Body}
 use Rattle.messages.specs.declared.body.Body.TheVariants.{Activate, Delete}
 use Rattle.messages.specs.declared.reply.Reply.{Reply}
 use Rattle.bucket_db.specs.declared.row.Deleting.{Deleting}
@@ -12,8 +14,8 @@ use Rattle.lane_states.specs.declared.lane_state.LaneState.{LaneState}
 use Rattle.lane_upkeep.specs.declared.owner.Owner.{Owner}
 use Rattle.lane_upkeep.specs.CameBack.{is_taken, is_end}
 use Rattle.lane_upkeep.specs.Deciding.{DidAccept, DidEndDelete}
-use Rattle.lane_upkeep.specs.Passing.{PassesOn, rows_in, HasRow}
-use Rattle.lane_upkeep.specs.Sending.{Says, SaysActive, SaysDelete}
+use Rattle.lane_upkeep.specs.Passing.{IsPassing, PassesOn, rows_in, HasRow}
+use Rattle.lane_upkeep.specs.Sending.{Says, SaysIt, SaysActive, SaysDelete}
 use Rattle.lane_upkeep.proofs.Replies.{one_row, rows_same}
 
 -- the row of a place is still there
@@ -33,12 +35,13 @@ module _ (c b e : LaneState) (o : Owner) (at was : ℕ) (one : Row) (given now :
         (record { between = b; reply = reply; says = says; over = over }))
 
 module _ (c b e : LaneState) (o : Owner) (at : ℕ) (one : Row) (was : Deleting) (given now : List Fate) (reply : Option Reply) (found : HasRow c o at one) where
-  module _ (deleting : one.deleting ≡ Some was) (says : Says c b o was.node (Delete was.bucket was.serial) given now reply) (over : MatchBool (is_end reply) (DidEndDelete b e o was.bucket was.node) (e ≡ b)) where
+  module _ (deleting : one.deleting ≡ Some was) (says : Says c b o was.node (Delete was.bucket was.serial) given now reply) (on : PassesOn c b o) (passing : IsPassing b o now)
+      (over : MatchBool (is_end reply) (DidEndDelete b e o was.bucket was.node) (e ≡ b)) where
     pub says_delete : (row : Row) (delete : Deleting) → HasRow c o at row → row.deleting ≡ Some delete → SaysDelete c e o delete given now
     says_delete row delete has is =
         subst (λ (d : Deleting). SaysDelete c e o d given now)
         (some-same one.deleting was delete deleting (subst (λ (r : Row). r.deleting ≡ Some delete) (sym (one_row c o at one row found has)) is))
-        (record { between = b; reply = reply; says = says; over = over })
+        (record { between = b; reply = reply; says = says; on = on; passing = passing; over = over })
 
 -- which of the two came of it
 pub if_so : (t : Bool) (P Q : Type 0) → t ≡ true → P → MatchBool t P Q
@@ -48,3 +51,7 @@ if_so false P Q e p = absurd (true≢false (sym e))
 pub if_not : (t : Bool) (P Q : Type 0) → t ≡ false → Q → MatchBool t P Q
 if_not false P Q e q = q
 if_not true P Q e q = absurd (true≢false e)
+
+-- what was said of the row that was read is said of the row of the place
+pub says_row : (c e : LaneState) (o : Owner) (at node : ℕ) (one row : Row) (body : Low → Body) (given now : List Fate) (reply : Option Reply) → HasRow c o at one → HasRow c o at row → Says c e o node (body one.bucket) given now reply → SaysIt c e o node (body row.bucket) given now
+says_row c e o at node one row body given now reply read found says = subst (λ (r : Row). SaysIt c e o node (body r.bucket) given now) (one_row c o at one row read found) (reply, says)

@@ -1,5 +1,5 @@
 -- What is done for a row by its note, as the code finds it.
-use Rattle.std.proofs.Common.{◌≡◌, ◌∙◌, ◌==◌, ◌&&◌, ◌||◌, not, ℕ, zero, suc, ◌+◌, ◌<◌, ◌≤◌, Bool, true, false, List, Option, Some, None, cond, inl, inr, refl, sym, ap, subst, slice_get, length, nat_le, nat_lt, if◌then◌else◌, arith, add_comm}
+use Rattle.std.proofs.Common.{◌≡◌, ◌∙◌, ◌==◌, ◌&&◌, ◌||◌, not, ℕ, zero, suc, ◌+◌, ◌<◌, Bool, true, false, List, Option, Some, None, cond, refl, sym, ap, subst, slice_get, length, nat_le, nat_lt, if◌then◌else◌, arith, add_comm}
 use Rattle.std.specs.Prelude.{IfSome, is_some}
 use Rattle.std.specs.BTreeMap.{BTreeMap}
 use Rattle.std.proofs.lemmas.Option.{slice_get_within}
@@ -24,7 +24,7 @@ use Rattle.lane_upkeep.specs.declared.rounding.RowNote.{RowNote}
 use Rattle.lane_upkeep.specs.Passing.{Passes, HasRow, rows_in}
 use Rattle.lane_upkeep.specs.Kept.{note_for}
 use Rattle.lane_upkeep.proofs.Replies.{one_row}
-use Rattle.lane_upkeep.specs.Settling.{alignment_in, Aligns, AlignsBelow, are_enough, serial_among, serial_to_lose, serial_for, decided_of, if_ready, DidDecide}
+use Rattle.lane_upkeep.specs.Settling.{alignment_in, Aligns, IsNext, AlignsBelow, are_enough, serial_among, serial_to_lose, serial_for}
 
 -- ---- tests
 
@@ -59,11 +59,11 @@ unfolding AlignsBelow
 aligns_none c o note b given = record { same = refl; fates = refl }
 
 -- and one node more
-pub aligns_more : (c m e : LaneState) (o : Owner) (note : RowNote) (b : Low) (given fates now : List Fate) (k : ℕ) → AlignsBelow o note b k c m given fates → Aligns m e o k b fates now (serves o.state k) (alignment_in note k) → AlignsBelow o note b (k + 1) c e given now
+pub aligns_more : (c m e : LaneState) (o : Owner) (note : RowNote) (b : Low) (given fates now : List Fate) (k : ℕ) → AlignsBelow o note b k c m given fates → IsNext o c m e fates now → Aligns m e o k b fates now (serves o.state k) (alignment_in note k) → AlignsBelow o note b (k + 1) c e given now
 unfolding AlignsBelow
-aligns_more c m e o note b given fates now k before one =
+aligns_more c m e o note b given fates now k before next one =
     let s : suc k ≡ k + 1 = omega arith in
-    subst (λ (j : ℕ). AlignsBelow o note b j c e given now) s (m, fates, before, one)
+    subst (λ (j : ℕ). AlignsBelow o note b j c e given now) s (m, fates, before, next, one)
 
 -- ---- how many keep a copy
 

@@ -12,15 +12,13 @@ use Rattle.messages.specs.declared.message.Origin.{Origin}
 use Rattle.late_messages.specs.declared.late.Late.{Late}
 use Rattle.distributor_part.specs.declared.rules.Rules.{Rules}
 use Rattle.distributor_part.specs.Parts.{Part}
-use Rattle.distributor_part.specs.Steps as steps
 use Rattle.merge_rounds.specs.Rounds.{RoundState, IsNext}
 use Rattle.lane_journals.specs.declared.event.LaneEvent.{LaneEvent}
 use Rattle.lane_journals.specs.declared.event.LaneEvent.TheVariants as event
 use Rattle.node_journals.specs.Replaying.{sending}
 use Rattle.lane_carriage.specs.Carriage.{IsDealt, AreDelivered}
 use Rattle.lane_carriage.specs.Waits.{numbers}
-use Rattle.lane_keeping.specs.LaneKeeping.{PartKeeps}
-use Rattle.lane_rounds.specs.RoundKeeping.{origin_in, KnowsRound}
+use Rattle.lane_rounds.specs.RoundKeeping.{origin_in}
 use Rattle.lane_states.specs.declared.lane_state.LaneState.{LaneState}
 use Rattle.lane_states.specs.declared.opening.OpeningEnd.{OpeningEnd}
 use Rattle.lane_states.specs.declared.rounds.RoundRun.{RoundRun}

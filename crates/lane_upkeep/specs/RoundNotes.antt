@@ -14,7 +14,9 @@ use Rattle.distributor_part.specs.Steps.{with_marks}
 use Rattle.distributor_part.specs.Upkeep.{BeginsRoundAt}
 use Rattle.merge_rounds.specs.Rounds.{RoundState, HaveAllShown, pieces_by}
 use Rattle.lane_journals.specs.declared.event.LaneEvent.{LaneEvent}
+use Rattle.lane_keeping.specs.LaneKeeping.{node_in}
 use Rattle.lane_rounds.specs.RoundKeeping.{KnowsAnswers}
+use Rattle.node_spans.specs.Spans.{NodesGo}
 use Rattle.lane_states.specs.declared.lane_state.LaneState.{LaneState}
 use Rattle.lane_states.specs.declared.rounds.RoundEnd.{RoundEnd}
 use Rattle.lane_states.specs.declared.rounds.RoundRun.{RoundRun}
@@ -84,6 +86,8 @@ pub record RanRound (c e : LaneState) (o : Owner) (at : ℕ) (given after : List
   pub end : RoundEnd
   pub whole : IsWholeRun c.lane begun end given after c.last e.last c.late.late e.late.late journal (journal_of e)
   pub is_end : IsEnd (journal_of e) run end
+  -- the nodes went through its messages
+  pub nodes : NodesGo journal (node_in c.nodes.items) (journal_of e) (node_in e.nodes.items)
 
 -- it is the note of that round, for which no node wanted memory
 pub record NotesRun (c e : LaneState) (o : Owner) (at : ℕ) (given after : List Fate) (note : RowNote) : Type 0 where

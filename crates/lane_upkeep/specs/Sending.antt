@@ -12,9 +12,12 @@ use Rattle.lane_journals.specs.Meanings.{history}
 use Rattle.lane_rounds.specs.RoundKeeping.{origin_in}
 use Rattle.lane_states.specs.declared.lane_state.LaneState.{LaneState}
 use Rattle.lane_states.specs.LaneStates.{journal_of, Went}
+use Rattle.quiet_spans.specs.Quiet.{Extends}
 use Rattle.lane_upkeep.specs.declared.owner.Owner.{Owner}
 use Rattle.lane_upkeep.specs.CameBack.{CameBack, is_taken, is_end}
 use Rattle.lane_upkeep.specs.Deciding.{DidAccept, DidEndDelete}
+use Rattle.lane_upkeep.specs.Passing.{IsPassing, PassesOn}
+use Rattle.lane_upkeep.specs.Quiet.{InQuiet, IsToldQuietly}
 
 -- the owner said this to the node: the message was dealt with by the fate that the carrier gave, and this came back
 pub record Says (c e : LaneState) (o : Owner) (node : ℕ) (body : Body) (given now : List Fate) (reply : Option Reply) : Type 0 where
@@ -22,6 +25,8 @@ pub record Says (c e : LaneState) (o : Owner) (node : ℕ) (body : Body) (given 
   pub parts : e.parts ≡ c.parts
   pub came : IfSome reply (λ r. CameBack (journal_of e) o node body r)
   pub silent : IfNone reply (returned (c.last + 1) (history (journal_of e)) ≡ false)
+  pub fates : Extends given now
+  pub quiet : InQuiet now c e o (λ d s. IsToldQuietly d c e node body reply)
 
 -- the same, whatever came back
 abbrev pub SaysIt : LaneState → LaneState → Owner → ℕ → Body → List Fate → List Fate → Type 0
@@ -44,4 +49,6 @@ pub record SaysDelete (c e : LaneState) (o : Owner) (delete : Deleting) (given n
   pub between : LaneState
   pub reply : Option Reply
   pub says : Says c between o delete.node (Delete delete.bucket delete.serial) given now reply
+  pub on : PassesOn c between o
+  pub passing : IsPassing between o now
   pub over : MatchBool (is_end reply) (DidEndDelete between e o delete.bucket delete.node) (e ≡ between)

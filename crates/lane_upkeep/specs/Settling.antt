@@ -16,6 +16,7 @@ use Rattle.lane_upkeep.specs.declared.rounding.RowNote.{RowNote}
 use Rattle.lane_upkeep.specs.declared.settling.Alignment.{Alignment}
 use Rattle.lane_upkeep.specs.declared.settling.Alignment.TheVariants.{Split, Join}
 use Rattle.lane_upkeep.specs.Deciding.{DidActivate}
+use Rattle.lane_upkeep.specs.Passing.{IsPassing, PassesOn}
 use Rattle.lane_upkeep.specs.Sending.{SaysIt, SaysNothing}
 
 -- ---- align
@@ -39,10 +40,17 @@ Aligns c e o node b given now serving None = SaysNothing c e given now
 Aligns c e o node b given now true (Some x) = SaysIt c e o node (align_body b x) given now
 Aligns c e o node b given now false (Some x) = SaysNothing c e given now
 
+-- one step of a pass behind others
+pub record IsNext (o : Owner) (c m e : LaneState) (fates now : List Fate) : Type 0 where
+  pub before : PassesOn c m o
+  pub between : IsPassing m o fates
+  pub on : PassesOn m e o
+  pub passing : IsPassing e o now
+
 -- the nodes below a number are told, in rising number
 unfoldable pub AlignsBelow : Owner → RowNote → Low → ℕ → LaneState → LaneState → List Fate → List Fate → Type 0
 AlignsBelow o note b zero c e given now = SaysNothing c e given now
-AlignsBelow o note b (suc k) c e given now = (m : LaneState) × (fates : List Fate) × AlignsBelow o note b k c m given fates × Aligns m e o k b fates now (serves o.state k) (alignment_in note k)
+AlignsBelow o note b (suc k) c e given now = (m : LaneState) × (fates : List Fate) × AlignsBelow o note b k c m given fates × IsNext o c m e fates now × Aligns m e o k b fates now (serves o.state k) (alignment_in note k)
 
 -- ---- activate
 
@@ -81,3 +89,8 @@ serial_to_lose row note targets acks n = if not (has_node targets n) && are_enou
 abbrev pub serial_for : Row → Option RowNote → ℕ → ℕ → ℕ → Option ℕ
 serial_for row None targets acks n = None
 serial_for row (Some note) targets acks n = if is_some row.deleting then None else serial_to_lose row note targets acks n
+
+-- the same by whether the node is a target
+abbrev pub serial_beside : Row → Option RowNote → Bool → ℕ → ℕ → Option ℕ
+serial_beside row None target acks n = None
+serial_beside row (Some note) target acks n = if is_some row.deleting then None else (if not target && are_enough acks row note n then serial_among (note.exact).items n else None)

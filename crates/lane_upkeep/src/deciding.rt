@@ -4,6 +4,7 @@ ghost use Rattle.carriers.specs.declared.fate.Fate.{Fate};
 ghost use Rattle.distributor_part.specs.Upkeep.{CanJoinAt};
 ghost use Rattle.lane_journals.specs.Meanings.{history};
 ghost use Rattle.lane_journals.specs.declared.event.LaneEvent.TheVariants.{Decided};
+ghost use Rattle.lane_states.specs.Accepting.{HasAccepted};
 ghost use Rattle.lane_states.specs.LaneStates.{journal_of, part_of, IsKept, HasRoom};
 ghost use Rattle.row_keeping.specs.Deciding.{MayActivate, MayDelete};
 ghost use Rattle.lane_upkeep.specs.Deciding.{DecidesNothing, DidSplit, DidJoin, DidActivate, DidAccept, DidBeginDelete, DidEndDelete, HasEnded};
@@ -129,6 +130,8 @@ pub fn activate(lane: &mut LaneState, owner: &Owner, at: usize, node: u8) -> Res
 pub fn accept(lane: &mut LaneState, owner: &Owner, at: usize)
     requires passing { Passes lane.old owner.now }
     requires place { at < length (rows_in lane.old owner.now) }
+    requires accepted { (row : Row) → HasRow lane.old owner.now at row
+        → HasAccepted owner.now.state.version (history (journal_of lane.old)) row }
     ensures passing { (given : List Fate) → IsPassing lane.old owner.now given → IsPassing lane.new owner.now given }
     ensures on { PassesOn lane.old lane.new owner.now }
     ensures known { StaysKnown lane.old lane.new owner.now }

@@ -1,20 +1,29 @@
-ghost use Rattle.std.specs.Prelude.{◌≡◌, ◌↔◌, ◌<◌, ◌≤◌, length, true, IsTrue, OnOk};
+ghost use Rattle.std.specs.Prelude.{◌≡◌, ◌↔◌, ◌<◌, ◌≤◌, length, true, IsTrue, OnOk, IfOk};
 ghost use Rattle.distributor_part.specs.Upkeep.{CanJoinAt};
 ghost use Rattle.lane_states.specs.LaneStates.{journal_of, part_of};
-ghost use Rattle.lane_upkeep.specs.Passing.{IsPassing, Passes, PassesOn, rows_in};
+ghost use Rattle.lane_upkeep.specs.Passing.{IsPassing, Passes, PassesOn, rows_in, HasRow};
 ghost use Rattle.lane_upkeep.specs.Noted.{AreNotes, StaysKnown};
 ghost use Rattle.lane_upkeep.specs.Joining.{are_small};
+ghost use Rattle.lane_rest.specs.Nodes.{join_node};
+ghost use Rattle.lane_rest.specs.Passes.{to_all};
+ghost use Rattle.lane_upkeep.specs.Quiet.{DoesQuietly, NodesBecome, AreKnown, Becomes, IsJoinedAt, JoinsPlace, JoinsLevel, JoinsAll};
+ghost use Rattle.bucket_db.specs.declared.row.Row.{Row};
+ghost use Rattle.bucket_ids.specs.Buckets.{first_child, parent_of};
 
 use crate::deciding::join_rows;
 use crate::notes::Notes;
 use crate::owner::Owner;
 use crate::rounds_of_rows::round_at;
 use crate::row_messages::send_join;
-use crate::row_places::{can_join, first_with_bits, place_of, row_at};
+use crate::row_places::{
+    can_join, first_with_bits, place_of, row_at, rows_are_of_lane, rows_are_whole,
+};
 use bucket_db::row::number_of;
 use bucket_ids::Bucket;
 use carriers::Carrier;
 use lane_states::LaneState;
+use quiet_spans::laws::quiet_spans_part;
+use shown_shapes::laws::targets_are_of_the_list;
 use std::collections::BTreeMap;
 use value_lists::NoMemory;
 
@@ -51,7 +60,10 @@ fn send_joins<C: Carrier>(
     ensures kind { C.takes_plans carrier.new ≡ C.takes_plans carrier.old }
     ensures known { StaysKnown lane.old lane.new owner.now }
     ensures rows { rows_in lane.new owner.now ≡ rows_in lane.old owner.now }
+    ensures quiet { OnOk result (DoesQuietly (C.given carrier.old) (C.given carrier.new) lane.old lane.new owner.now
+        (λ d s. (row : Row) → HasRow lane.old owner.now at row → NodesBecome d lane.old lane.new (to_all s (join_node row.bucket)))) }
 {
+    quiet_spans_part();
     for node in 0..32 {
         send_join(lane, carrier, owner, at, node)?;
     }
@@ -77,7 +89,12 @@ fn join<C: Carrier>(
     ensures planned { C.planned carrier.new ≡ C.planned carrier.old }
     ensures kind { C.takes_plans carrier.new ≡ C.takes_plans carrier.old }
     ensures notes { OnOk result (AreNotes (journal_of lane.new) owner.now.state notes.new.by_number) }
+    ensures quiet { OnOk result (DoesQuietly (C.given carrier.old) (C.given carrier.new) lane.old lane.new owner.now
+        (λ d s. (row : Row) → HasRow lane.old owner.now at row → parent ≡ parent_of row.bucket → AreKnown lane.old owner.now notes.old.by_number → Becomes d lane.old lane.new owner.now notes.old.by_number notes.new.by_number (λ w v. row.bucket ≡ first_child parent → IsJoinedAt s at parent w v))) }
 {
+    quiet_spans_part();
+    targets_are_of_the_list();
+    rows_are_whole(lane, owner);
     join_rows(lane, owner, at)?;
     let place = place_of(lane, owner, parent);
     send_joins(lane, carrier, owner, place)?;
@@ -114,7 +131,11 @@ fn join_at<C: Carrier>(
     ensures planned { C.planned carrier.new ≡ C.planned carrier.old }
     ensures kind { C.takes_plans carrier.new ≡ C.takes_plans carrier.old }
     ensures notes { OnOk result (AreNotes (journal_of lane.new) owner.now.state notes.new.by_number) }
+    ensures quiet { OnOk result (DoesQuietly (C.given carrier.old) (C.given carrier.new) lane.old lane.new owner.now
+        (λ d s. AreKnown lane.old owner.now notes.old.by_number → Becomes d lane.old lane.new owner.now notes.old.by_number notes.new.by_number (JoinsPlace s joined.old.buckets joined.new.buckets bits at))) }
 {
+    rows_are_whole(lane, owner);
+    rows_are_of_lane(lane, owner);
     let Some(row) = row_at(lane, owner, at) else {
         return Ok(());
     };
@@ -145,10 +166,15 @@ fn join_level<C: Carrier>(
     ensures planned { C.planned carrier.new ≡ C.planned carrier.old }
     ensures kind { C.takes_plans carrier.new ≡ C.takes_plans carrier.old }
     ensures notes { OnOk result (AreNotes (journal_of lane.new) owner.now.state notes.new.by_number) }
+    ensures quiet { OnOk result (DoesQuietly (C.given carrier.old) (C.given carrier.new) lane.old lane.new owner.now
+        (λ d s. AreKnown lane.old owner.now notes.old.by_number → Becomes d lane.old lane.new owner.now notes.old.by_number notes.new.by_number (JoinsLevel s joined.old.buckets joined.new.buckets bits))) }
 {
+    quiet_spans_part();
+    rows_are_whole(lane, owner);
     for at in first_with_bits(lane, owner, bits)..first_with_bits(lane, owner, bits + 1) {
         join_at(lane, carrier, owner, notes, joined, bits, at)?;
     }
+    rows_are_whole(lane, owner);
     Ok(())
 }
 
@@ -167,7 +193,11 @@ pub fn join_pairs<C: Carrier>(
     ensures planned { C.planned carrier.new ≡ C.planned carrier.old }
     ensures kind { C.takes_plans carrier.new ≡ C.takes_plans carrier.old }
     ensures notes { OnOk result (AreNotes (journal_of lane.new) owner.now.state notes.new.by_number) }
+    ensures quiet { IfOk result (λ joined. DoesQuietly (C.given carrier.old) (C.given carrier.new) lane.old lane.new owner.now
+        (λ d s. AreKnown lane.old owner.now notes.old.by_number → Becomes d lane.old lane.new owner.now notes.old.by_number notes.new.by_number (JoinsAll s joined.buckets))) }
 {
+    quiet_spans_part();
+    rows_are_whole(lane, owner);
     let mut joined = Joined {
         buckets: BTreeMap::new(lane.alloc),
     };

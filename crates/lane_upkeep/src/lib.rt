@@ -14,9 +14,12 @@
 //!     deciding    one decision, at the owner's part and in the journal
 //! ```
 //!
-//! What a missing answer stops is left out, and the pass goes on. A node that wants memory ends it, as does want of
-//! memory of the lane itself. Whatever happens, the lane keeps its journal legal: `IsPassing` in
+//! What a missing answer stops is left out, and the pass goes on. A node that wants memory ends it at once, as does
+//! want of memory of the lane itself. Whatever happens, the lane keeps its journal legal: `IsPassing` in
 //! `specs/Passing.antt` says what holds between two steps, and `PassesOn` that the journal grew by events of the pass.
+//!
+//! Where nothing is lost or late, each step makes of nodes and rows what `lane_rest` says of a pass (`DoesQuietly` in
+//! `specs/Quiet.antt`, the clauses `quiet`), and so `maintain` leaves the lane at rest (`rest_laws`).
 #![tactic(auto)]
 
 pub mod deciding;
@@ -26,6 +29,7 @@ pub mod notes;
 pub mod owner;
 pub mod pass;
 pub mod resending;
+pub mod rest_laws;
 pub mod rounding;
 pub mod rounds_of_rows;
 pub mod row_messages;

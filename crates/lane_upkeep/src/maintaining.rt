@@ -1,30 +1,32 @@
 ghost use Rattle.std.specs.Prelude.{◌≡◌, true, false, None, Some, IfOk, OnOk};
 ghost use Rattle.lane_upkeep.specs.Passing.{IsPassing, PassesOn};
 ghost use Rattle.lane_upkeep.specs.Maintaining.{IsBetween, AreReturned, HasOpened};
+ghost use Rattle.lane_upkeep.specs.Rests.{RestsWhereQuiet};
+ghost use Rattle.lane_states.specs.LaneStates.{journal_of};
+ghost use Rattle.lane_states.specs.Shortages.{NoneIsShort, EndsAtOnce};
 
 use crate::owner::Owner;
 use crate::pass::make_pass;
+use crate::rest_laws::passes_bring_rest;
+use crate::row_places::rows_are_whole;
 use carriers::Carrier;
 use lane_keeping::laws::owners_act;
+use lane_states::at_shortage::AtShortage;
 use lane_states::lane_state::LaneState;
 use lane_states::opening::OpeningEnd;
 use upkeep_answers::laws::{upkeep_goes_on, upkeep_leaves_lines, upkeep_leaves_states};
 use value_lists::NoMemory;
 
-/// Whether the state is opened at the end of an opening. An error where a node replied that it wants memory.
-fn is_open(end: OpeningEnd) -> Result<bool, NoMemory>
-    ensures opened { IfOk result (λ opened. opened ≡ true → end.missing ≡ None) }
-    ensures lacking { IfOk result (λ opened. opened ≡ false → end.missing ≡ None → ⊥) }
-    ensures whole { IfOk result (λ opened. end.short ≡ false) }
+/// Whether the state is opened at the end of an opening.
+fn is_open(end: OpeningEnd) -> bool
+    ensures opened { result ≡ true → end.missing ≡ None }
+    ensures lacking { result ≡ false → end.missing ≡ None → ⊥ }
 {
-    if end.short {
-        return Err(NoMemory);
-    }
-    Ok(end.missing.is_none())
+    end.missing.is_none()
 }
 
 /// Opens the state of the owner, where it isn't opened; whether it is then. The only error is want of memory, of
-/// the lane or of a node.
+/// the lane or of a node, which ends the opening at once.
 fn open_owner<C: Carrier>(
     lane: &mut LaneState,
     carrier: &mut C,
@@ -39,6 +41,8 @@ fn open_owner<C: Carrier>(
     ensures passing { IfOk result (λ opened. opened ≡ true
         → IsPassing lane.new owner.now (C.given carrier.new)) }
     ensures lacking { IfOk result (λ opened. opened ≡ false → AreReturned lane.old lane.new → ⊥) }
+    ensures none_is_short { OnOk result (NoneIsShort lane.old.last lane.new.last (journal_of lane.new)) }
+    ensures at_once { EndsAtOnce lane.old.last lane.new.last (journal_of lane.new) }
 {
     owners_act();
     upkeep_goes_on();
@@ -48,8 +52,8 @@ fn open_owner<C: Carrier>(
         return Ok(true);
     }
     let key = lane.lane.low();
-    match lane.open_state(owner.distributor, key, carrier) {
-        Ok(end) => is_open(end),
+    match lane.open_state(owner.distributor, key, carrier, AtShortage::End) {
+        Ok(end) => Ok(is_open(end)),
         Err(error) => Err(error),
     }
 }
@@ -68,11 +72,14 @@ pub fn maintain<C: Carrier>(
     ensures planned { C.planned carrier.new ≡ C.planned carrier.old }
     ensures kind { C.takes_plans carrier.new ≡ C.takes_plans carrier.old }
     ensures opened { OnOk result (AreReturned lane.old lane.new → HasOpened lane.new owner.now) }
+    ensures rests { OnOk result (RestsWhereQuiet (C.given carrier.new) lane.old lane.new) }
 {
     owners_act();
     upkeep_goes_on();
+    passes_bring_rest();
     if !open_owner(lane, carrier, owner)? {
         return Ok(());
     }
+    rows_are_whole(lane, owner);
     make_pass(lane, carrier, owner)
 }

@@ -1,5 +1,6 @@
-ghost use Rattle.std.specs.Prelude.{◌≡◌};
+ghost use Rattle.std.specs.Prelude.{◌≡◌, OnOk};
 ghost use Rattle.lane_upkeep.specs.Passing.{IsPassing, PassesOn};
+ghost use Rattle.lane_upkeep.specs.Quiet.{DoesQuietly, PassesQuietly};
 
 use crate::joining::join_pairs;
 use crate::notes::Notes;
@@ -10,6 +11,7 @@ use crate::settling::{settle_joined, settle_rows};
 use crate::splitting::split_rows;
 use carriers::Carrier;
 use lane_states::LaneState;
+use quiet_spans::laws::quiet_spans_part;
 use value_lists::NoMemory;
 
 /// The steps of a pass once the owner opened its state. The only error is want of memory, of the lane or of a node.
@@ -24,7 +26,10 @@ pub fn make_pass<C: Carrier>(
     ensures on { PassesOn lane.old lane.new owner.now }
     ensures planned { C.planned carrier.new ≡ C.planned carrier.old }
     ensures kind { C.takes_plans carrier.new ≡ C.takes_plans carrier.old }
+    ensures quiet { OnOk result (DoesQuietly (C.given carrier.old) (C.given carrier.new) lane.old lane.new owner.now
+        (λ d s. PassesQuietly d s lane.old lane.new owner.now)) }
 {
+    quiet_spans_part();
     resend_deletes(lane, carrier, owner)?;
     resend_activates(lane, carrier, owner)?;
     let mut notes = Notes::new(lane.alloc);

@@ -8,18 +8,22 @@ ghost use Rattle.merge_rounds.specs.Rounds.{HaveAllShown, pieces_by};
 ghost use Rattle.quiet_spans.specs.Quiet.{Extends};
 ghost use Rattle.lane_rounds.specs.RoundKeeping.{KnowsAnswers};
 ghost use Rattle.lane_states.specs.LaneStates.{journal_of, part_of};
+ghost use Rattle.lane_states.specs.Shortages.{NoneIsShort, EndsAtOnce, HadMemory};
 ghost use Rattle.lane_upkeep.specs.declared.rounding.RowNote.{RowNote as Note};
 ghost use Rattle.lane_upkeep.specs.Passing.{IsPassing, PassesOn, rows_in, HasRow};
 ghost use Rattle.lane_upkeep.specs.Notes.{KnowsNote};
 ghost use Rattle.lane_upkeep.specs.RoundNotes.{is_over, is_inside, serial_in, AreExactBelow, IsNoteOf, NotesRound, NotesRun, RanRound, GainsMarks};
+ghost use Rattle.lane_upkeep.specs.Quiet.{DoesQuietly, IsRoundQuietly};
 
 use crate::owner::Owner;
 use bucket_ids::Bucket;
 use carriers::Carrier;
-use lane_states::{LaneState, RoundRun};
+use lane_states::{AtShortage, LaneState, RoundRun};
 use merge_rounds::Round;
 use node_sets::NodeSet;
 use pieces::Piece;
+use quiet_ends::laws::quiet_rounds_end;
+use shown_shapes::laws::targets_are_of_the_list;
 use std::alloc::Global;
 use upkeep_answers::laws::{upkeep_goes_on, upkeep_leaves_lines, upkeep_leaves_states};
 use value_lists::NoMemory;
@@ -165,19 +169,8 @@ fn note_of(alloc: Global, round: &Round) -> Result<RowNote, NoMemory>
     })
 }
 
-/// An error where a node wanted memory for a round.
-fn had_memory(run: &RoundRun) -> Result<(), NoMemory>
-    ensures read { OnOk result (run.now.unread ≡ false) }
-    ensures applied { OnOk result (run.now.unapplied ≡ false) }
-{
-    if run.unread || run.unapplied {
-        return Err(NoMemory);
-    }
-    Ok(())
-}
-
-/// Runs a round in the row of a place to its end, and gives it. The only error is want of memory, before the round
-/// begins or while it runs, which ends it at once.
+/// Runs a round in the row of a place to its end, and gives it. The only error is want of memory, of the lane or of a
+/// node; where the round has begun it ends it at once.
 fn run_at<C: Carrier>(
     lane: &mut LaneState,
     carrier: &mut C,
@@ -199,18 +192,21 @@ fn run_at<C: Carrier>(
     ensures ran { IfOk result (RanRound lane.old lane.new owner.now at (C.given carrier.old) (C.given carrier.new)) }
     ensures others { IfOk result (λ run. (other : Note) → other.bucket ≢ run.round.row
         → KnowsNote (journal_of lane.old) owner.now.state other → KnowsNote (journal_of lane.new) owner.now.state other) }
+    ensures had { IfOk result HadMemory }
+    ensures none_is_short { OnOk result (NoneIsShort lane.old.last lane.new.last (journal_of lane.new)) }
+    ensures at_once { EndsAtOnce lane.old.last lane.new.last (journal_of lane.new) }
 {
     upkeep_leaves_lines();
     upkeep_leaves_states();
     upkeep_goes_on();
     lane.journal.reserve(2 + lane.spare)?;
     let mut run = lane.begin_round_at(owner.distributor, at);
-    lane.run_round(carrier, &mut run)?;
+    lane.run_round(carrier, &mut run, AtShortage::End)?;
     Ok(run)
 }
 
 /// Runs a round in the row of a place to its end, and notes what it told. The only error is want of memory: before
-/// the round begins, while it runs, which ends it at once, at a node, or for the note.
+/// the round begins, while it runs or at a node, which ends it at once, or for the note.
 pub fn run_round_at<C: Carrier>(
     lane: &mut LaneState,
     carrier: &mut C,
@@ -233,8 +229,13 @@ pub fn run_round_at<C: Carrier>(
     ensures knows { IfOk result (λ note. KnowsNote (journal_of lane.new) owner.now.state note) }
     ensures others { IfOk result (λ note. (other : Note) → other.bucket ≢ note.bucket
         → KnowsNote (journal_of lane.old) owner.now.state other → KnowsNote (journal_of lane.new) owner.now.state other) }
+    ensures none_is_short { OnOk result (NoneIsShort lane.old.last lane.new.last (journal_of lane.new)) }
+    ensures at_once { EndsAtOnce lane.old.last lane.new.last (journal_of lane.new) }
+    ensures quiet { IfOk result (λ note. DoesQuietly (C.given carrier.old) (C.given carrier.new) lane.old lane.new owner.now
+        (λ d s. (row : Row) → HasRow lane.old owner.now at row → IsRoundQuietly d s lane.old lane.new owner.now at row note)) }
 {
+    quiet_rounds_end();
+    targets_are_of_the_list();
     let run = run_at(lane, carrier, owner, at)?;
-    had_memory(&run)?;
     note_of(lane.alloc, &run.round)
 }

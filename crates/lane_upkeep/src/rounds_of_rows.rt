@@ -1,14 +1,19 @@
 ghost use Rattle.std.specs.Prelude.{◌≡◌, OnOk};
 ghost use Rattle.lane_states.specs.LaneStates.{journal_of};
-ghost use Rattle.lane_upkeep.specs.Passing.{IsPassing, PassesOn};
+ghost use Rattle.lane_upkeep.specs.Passing.{IsPassing, PassesOn, HasRow};
 ghost use Rattle.lane_upkeep.specs.Noted.{AreNotes};
+ghost use Rattle.lane_rest.specs.Passes.{rounds};
+ghost use Rattle.lane_upkeep.specs.Quiet.{DoesQuietly, IsRoundedAt, NoneDeletes, Becomes};
+ghost use Rattle.bucket_db.specs.declared.row.Row.{Row};
 
 use crate::notes::Notes;
 use crate::owner::Owner;
 use crate::rounding::run_round_at;
-use crate::row_places::row_count;
+use crate::row_places::{row_count, rows_are_whole};
 use carriers::Carrier;
 use lane_states::LaneState;
+use quiet_spans::laws::quiet_spans_part;
+use shown_shapes::laws::targets_are_of_the_list;
 use value_lists::NoMemory;
 
 /// Runs a round of the row of a place, and keeps what it told.
@@ -27,6 +32,8 @@ pub fn round_at<C: Carrier>(
     ensures planned { C.planned carrier.new ≡ C.planned carrier.old }
     ensures kind { C.takes_plans carrier.new ≡ C.takes_plans carrier.old }
     ensures notes { OnOk result (AreNotes (journal_of lane.new) owner.now.state notes.new.by_number) }
+    ensures quiet { OnOk result (DoesQuietly (C.given carrier.old) (C.given carrier.new) lane.old lane.new owner.now
+        (λ d s. (row : Row) → HasRow lane.old owner.now at row → IsRoundedAt d s lane.old lane.new owner.now notes.old.by_number notes.new.by_number at row)) }
 {
     if at < row_count(lane, owner) {
         let note = run_round_at(lane, carrier, owner, at)?;
@@ -50,8 +57,13 @@ pub fn round_rows<C: Carrier>(
     ensures planned { C.planned carrier.new ≡ C.planned carrier.old }
     ensures kind { C.takes_plans carrier.new ≡ C.takes_plans carrier.old }
     ensures notes { OnOk result (AreNotes (journal_of lane.new) owner.now.state notes.new.by_number) }
+    ensures quiet { OnOk result (DoesQuietly (C.given carrier.old) (C.given carrier.new) lane.old lane.new owner.now
+        (λ d s. NoneDeletes lane.old owner.now → Becomes d lane.old lane.new owner.now notes.old.by_number notes.new.by_number (λ w v. v ≡ rounds s w))) }
 {
+    quiet_spans_part();
+    targets_are_of_the_list();
     for at in 0..row_count(lane, owner) {
+        rows_are_whole(lane, owner);
         round_at(lane, carrier, owner, notes, at)?;
     }
     Ok(())

@@ -1,6 +1,7 @@
 ghost use Rattle.std.specs.Prelude.{◌≡◌, ◌<◌, ◌≤◌, ◌↔◌, ℕ, nat_lt, true, length, slice_get, IfSome, IfNone, IsTrue};
 ghost use Rattle.std.specs.List.{AllWithin};
 ghost use Rattle.bucket_ids.specs.Buckets.{has_key, IsIn};
+ghost use Rattle.bucket_db.specs.Rows.{AreRows, buckets_of};
 ghost use Rattle.bucket_db.specs.declared.row.Row.{Row as OneRow};
 ghost use Rattle.distributor_part.specs.Upkeep.{AreTargetsAt, CanJoinAt, IsToBeActiveAt, LacksCompleteAt, AreToBeReadyAt};
 ghost use Rattle.lane_states.specs.LaneStates.{part_of};
@@ -24,6 +25,22 @@ pub fn row_count(lane: &LaneState, owner: &Owner) -> usize
     ensures { result ≡ length (rows_in lane.now owner.now) }
 {
     lane.rows_at(owner.distributor).len()
+}
+
+/// That the owner's rows divide the lane and stand in rising number; does nothing.
+pub fn rows_are_whole(lane: &LaneState, owner: &Owner)
+    requires passing { Passes lane.now owner.now }
+    ensures whole { AreRows lane.now.lane (buckets_of (rows_in lane.now owner.now)) }
+{
+    let _rows = lane.parts[usize::from(owner.distributor)].rows();
+}
+
+/// That the owner's rows are those of the lane; does nothing.
+pub fn rows_are_of_lane(lane: &LaneState, owner: &Owner)
+    requires passing { Passes lane.now owner.now }
+    ensures { IfSome (part_of lane.now owner.now.distributor).rows (λ d. d.lane ≡ lane.now.lane) }
+{
+    let _rows = lane.parts[usize::from(owner.distributor)].rows();
 }
 
 /// Where the rows of at least so many bits begin, since they stand in rising number.

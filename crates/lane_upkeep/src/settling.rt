@@ -3,7 +3,9 @@ ghost use Rattle.node_sets.specs.Members.{has_node};
 ghost use Rattle.bucket_db.specs.declared.row.Row.{Row};
 ghost use Rattle.cluster_states.specs.Publishing.{serves};
 ghost use Rattle.carriers.specs.declared.fate.Fate.{Fate};
+ghost use Rattle.ideal_nodes.specs.Placement.{IsIdeal};
 ghost use Rattle.distributor_part.specs.Upkeep.{AreTargetsAt, IsToBeActiveAt};
+ghost use Rattle.lane_rest.specs.Targets.{is_target_in};
 ghost use Rattle.lane_journals.specs.Facts.{AnsweredReady};
 ghost use Rattle.lane_journals.specs.Meanings.{history};
 ghost use Rattle.row_keeping.specs.Deciding.{MayDelete};
@@ -12,8 +14,13 @@ ghost use Rattle.lane_states.specs.LaneStates.{journal_of, part_of};
 ghost use Rattle.lane_upkeep.specs.Passing.{IsPassing, Passes, PassesOn, rows_in, HasRow, AreReady};
 ghost use Rattle.lane_upkeep.specs.Noted.{AreNotes, StaysKnown, AreEnough};
 ghost use Rattle.lane_upkeep.specs.Kept.{note_for};
-ghost use Rattle.lane_upkeep.specs.Joining.{is_row_joined};
-ghost use Rattle.lane_upkeep.specs.Settling.{alignment_in, is_askew_in, Aligns, AlignsBelow, decided_of, DidDecide, serial_among, serial_to_lose, serial_for};
+ghost use Rattle.lane_upkeep.specs.Quiet.{IsParted, IsAlignedQuietly, DoesQuietly, HasNote, NoneDeletes, AreKnown, Becomes, PlaceBecomes, PlaceGoes, OnePlace, SettlesMade};
+ghost use Rattle.lane_upkeep.specs.QuietSettling.{is_asked_in, IsMadeReady, AreReadied, delete_one};
+ghost use Rattle.lane_upkeep.specs.Joining.{is_row_joined, was_joined};
+ghost use Rattle.lane_upkeep.specs.Settling.{alignment_in, is_askew_in, Aligns, AlignsBelow, decided_of, DidDecide, serial_among, serial_to_lose, serial_for, serial_beside};
+ghost use Rattle.lane_rest.specs.Settling.{activate_at, ready_at_row, delete_at as delete_place, align as align_place, settle as settle_place};
+ghost use Rattle.lane_rest.specs.Passes.{settle_all, settle_if};
+ghost use Rattle.lane_upkeep.specs.declared.rounding.RowNote.{RowNote as Note};
 
 use crate::deciding;
 use crate::joining::Joined;
@@ -29,6 +36,7 @@ use bucket_ids::Bucket;
 use carriers::Carrier;
 use lane_states::LaneState;
 use node_sets::NodeSet;
+use quiet_spans::laws::quiet_spans_part;
 use value_lists::NoMemory;
 
 // ---- align
@@ -105,7 +113,11 @@ fn align<C: Carrier>(
     ensures says { (row : Row) → HasRow lane.old owner.now at row
         → OnOk result (AlignsBelow owner.now note.now row.bucket 32 lane.old lane.new
         (C.given carrier.old) (C.given carrier.new)) }
+    ensures quiet { IfOk result (λ any. (row : Row) → HasRow lane.old owner.now at row
+        → DoesQuietly (C.given carrier.old) (C.given carrier.new) lane.old lane.new owner.now
+        (λ d s. IsParted owner.now note.now → IsAlignedQuietly d s lane.old lane.new owner.now note.now row any)) }
 {
+    quiet_spans_part();
     let mut any = false;
     for node in 0..32 {
         let told = align_node(lane, carrier, owner, note, at, node)?;
@@ -137,6 +149,9 @@ fn make_one_ready<C: Carrier>(
     ensures rows { rows_in lane.new owner.now ≡ rows_in lane.old owner.now }
     ensures ready { IfOk result (λ more. (row : Row) → HasRow lane.old owner.now at row
         → AreReady lane.old owner.now row ready → AreReady lane.new owner.now row more) }
+    ensures quiet { IfOk result (λ more. (row : Row) → HasRow lane.old owner.now at row
+        → DoesQuietly (C.given carrier.old) (C.given carrier.new) lane.old lane.new owner.now
+        (λ d s. IsMadeReady d lane.old lane.new row.bucket node (is_asked_in owner.now nodes node) ready more)) }
 {
     if !nodes.has(node) {
         return Ok(ready);
@@ -165,7 +180,11 @@ fn make_ready<C: Carrier>(
     ensures rows { rows_in lane.new owner.now ≡ rows_in lane.old owner.now }
     ensures ready { IfOk result (λ ready. (row : Row) → HasRow lane.old owner.now at row
         → AreReady lane.new owner.now row ready) }
+    ensures quiet { IfOk result (λ ready. (row : Row) → HasRow lane.old owner.now at row
+        → DoesQuietly (C.given carrier.old) (C.given carrier.new) lane.old lane.new owner.now
+        (λ d s. AreReadied d lane.old lane.new owner.now nodes row.bucket ready)) }
 {
+    quiet_spans_part();
     let mut ready = NodeSet::none();
     for node in 0..32 {
         ready = make_one_ready(lane, carrier, owner, at, nodes, ready, node)?;
@@ -222,7 +241,11 @@ fn make_active<C: Carrier>(
     ensures planned { C.planned carrier.new ≡ C.planned carrier.old }
     ensures kind { C.takes_plans carrier.new ≡ C.takes_plans carrier.old }
     ensures known { StaysKnown lane.old lane.new owner.now }
+    ensures quiet { OnOk result (DoesQuietly (C.given carrier.old) (C.given carrier.new) lane.old lane.new owner.now
+        (λ d s. (row : Row) (note : Note) → HasRow lane.old owner.now at row
+        → PlaceBecomes d lane.old lane.new owner.now at note row note (λ x. activate_at (ready_at_row s x)))) }
 {
+    quiet_spans_part();
     if row_count(lane, owner) <= at {
         return Ok(());
     }
@@ -278,6 +301,9 @@ fn serial_in_row(lane: &LaneState, owner: &Owner, notes: &Notes, at: usize, node
     ensures exact { (row : Row) → HasRow lane.now owner.now at row → (set : ℕ)
         → AreTargetsAt (part_of lane.now owner.now.distributor) at set
         → result ≡ serial_for row (note_for row.bucket notes.now.by_number) set lane.now.rules.acks node }
+    ensures listed { (row : Row) → HasRow lane.now owner.now at row → (ideal : List ℕ) → IsIdeal row.bucket owner.now.state ideal
+        → result ≡ serial_beside row (note_for row.bucket notes.now.by_number)
+        (is_target_in lane.now.rules.redundancy ideal row.active node) lane.now.rules.acks node }
     ensures none { slice_get (rows_in lane.now owner.now) at ≡ None → result ≡ None }
 {
     let Some(row) = row_at(lane, owner, at) else {
@@ -311,7 +337,12 @@ fn delete_at<C: Carrier>(
     ensures planned { C.planned carrier.new ≡ C.planned carrier.old }
     ensures kind { C.takes_plans carrier.new ≡ C.takes_plans carrier.old }
     ensures known { StaysKnown lane.old lane.new owner.now }
+    ensures quiet { OnOk result (DoesQuietly (C.given carrier.old) (C.given carrier.new) lane.old lane.new owner.now
+        (λ d s. (row : Row) → HasRow lane.old owner.now at row
+        → (was : HasNote lane.old.rules.redundancy owner.now notes.now.by_number row) → NoneDeletes lane.old owner.now
+        → PlaceBecomes d lane.old lane.new owner.now at was.note row was.note (delete_one s node))) }
 {
+    quiet_spans_part();
     let Some(serial) = serial_in_row(lane, owner, notes, at, node) else {
         return Ok(());
     };
@@ -336,7 +367,12 @@ fn delete_outside<C: Carrier>(
     ensures planned { C.planned carrier.new ≡ C.planned carrier.old }
     ensures kind { C.takes_plans carrier.new ≡ C.takes_plans carrier.old }
     ensures known { StaysKnown lane.old lane.new owner.now }
+    ensures quiet { OnOk result (DoesQuietly (C.given carrier.old) (C.given carrier.new) lane.old lane.new owner.now
+        (λ d s. (row : Row) → HasRow lane.old owner.now at row
+        → (was : HasNote lane.old.rules.redundancy owner.now notes.now.by_number row) → NoneDeletes lane.old owner.now
+        → PlaceBecomes d lane.old lane.new owner.now at was.note row was.note (delete_place s))) }
 {
+    quiet_spans_part();
     for node in 0..32 {
         delete_at(lane, carrier, owner, notes, at, node)?;
     }
@@ -362,7 +398,12 @@ fn align_row<C: Carrier>(
     ensures planned { C.planned carrier.new ≡ C.planned carrier.old }
     ensures kind { C.takes_plans carrier.new ≡ C.takes_plans carrier.old }
     ensures notes { OnOk result (AreNotes (journal_of lane.new) owner.now.state notes.new.by_number) }
+    ensures quiet { (row : Row) → HasRow lane.old owner.now at row → row.bucket ≡ bucket
+        → OnOk result (DoesQuietly (C.given carrier.old) (C.given carrier.new) lane.old lane.new owner.now
+        (λ d s. HasNote lane.old.rules.redundancy owner.now notes.old.by_number row
+        → PlaceGoes d lane.old lane.new owner.now notes.old.by_number notes.new.by_number at row (align_place s))) }
 {
+    quiet_spans_part();
     let Some(note) = notes.of(bucket) else {
         return Ok(());
     };
@@ -388,7 +429,10 @@ pub fn settle<C: Carrier>(
     ensures planned { C.planned carrier.new ≡ C.planned carrier.old }
     ensures kind { C.takes_plans carrier.new ≡ C.takes_plans carrier.old }
     ensures notes { OnOk result (AreNotes (journal_of lane.new) owner.now.state notes.new.by_number) }
+    ensures quiet { OnOk result (DoesQuietly (C.given carrier.old) (C.given carrier.new) lane.old lane.new owner.now
+        (λ d s. (row : Row) → HasRow lane.old owner.now at row → AreKnown lane.old owner.now notes.old.by_number → Becomes d lane.old lane.new owner.now notes.old.by_number notes.new.by_number (OnePlace (settle_place s) at))) }
 {
+    quiet_spans_part();
     let Some(row) = row_at(lane, owner, at) else {
         return Ok(());
     };
@@ -419,7 +463,10 @@ pub fn settle_rows<C: Carrier>(
     ensures planned { C.planned carrier.new ≡ C.planned carrier.old }
     ensures kind { C.takes_plans carrier.new ≡ C.takes_plans carrier.old }
     ensures notes { OnOk result (AreNotes (journal_of lane.new) owner.now.state notes.new.by_number) }
+    ensures quiet { OnOk result (DoesQuietly (C.given carrier.old) (C.given carrier.new) lane.old lane.new owner.now
+        (λ d s. AreKnown lane.old owner.now notes.old.by_number → Becomes d lane.old lane.new owner.now notes.old.by_number notes.new.by_number (λ w v. v ≡ settle_all s w))) }
 {
+    quiet_spans_part();
     for at in 0..row_count(lane, owner) {
         settle(lane, carrier, owner, notes, at)?;
     }
@@ -453,6 +500,8 @@ fn settle_if_joined<C: Carrier>(
     ensures planned { C.planned carrier.new ≡ C.planned carrier.old }
     ensures kind { C.takes_plans carrier.new ≡ C.takes_plans carrier.old }
     ensures notes { OnOk result (AreNotes (journal_of lane.new) owner.now.state notes.new.by_number) }
+    ensures quiet { OnOk result (DoesQuietly (C.given carrier.old) (C.given carrier.new) lane.old lane.new owner.now
+        (λ d s. (row : Row) → HasRow lane.old owner.now at row → AreKnown lane.old owner.now notes.old.by_number → Becomes d lane.old lane.new owner.now notes.old.by_number notes.new.by_number (OnePlace (settle_if s (was_joined joined.now.buckets)) at))) }
 {
     if !is_joined(lane, owner, joined, at) {
         return Ok(());
@@ -476,7 +525,10 @@ pub fn settle_joined<C: Carrier>(
     ensures planned { C.planned carrier.new ≡ C.planned carrier.old }
     ensures kind { C.takes_plans carrier.new ≡ C.takes_plans carrier.old }
     ensures notes { OnOk result (AreNotes (journal_of lane.new) owner.now.state notes.new.by_number) }
+    ensures quiet { OnOk result (DoesQuietly (C.given carrier.old) (C.given carrier.new) lane.old lane.new owner.now
+        (λ d s. AreKnown lane.old owner.now notes.old.by_number → Becomes d lane.old lane.new owner.now notes.old.by_number notes.new.by_number (SettlesMade s joined.now.buckets))) }
 {
+    quiet_spans_part();
     for at in 0..row_count(lane, owner) {
         settle_if_joined(lane, carrier, owner, notes, joined, at)?;
     }

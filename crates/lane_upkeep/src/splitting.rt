@@ -1,18 +1,24 @@
-ghost use Rattle.std.specs.Prelude.{◌≡◌, ◌<◌, ◌≤◌, length, true, OnOk, IfSome, slice_get};
+ghost use Rattle.std.specs.Prelude.{◌≡◌, ◌<◌, ◌≤◌, length, true, OnOk, IfSome, slice_get, IfOk};
 ghost use Rattle.lane_states.specs.LaneStates.{journal_of};
-ghost use Rattle.lane_upkeep.specs.Passing.{IsPassing, PassesOn, rows_in};
+ghost use Rattle.lane_upkeep.specs.Passing.{IsPassing, PassesOn, rows_in, HasRow};
 ghost use Rattle.lane_upkeep.specs.Noted.{AreNotes, StaysKnown};
 ghost use Rattle.lane_upkeep.specs.Kept.{note_for, documents_in, is_full_by};
+ghost use Rattle.lane_rest.specs.Nodes.{split_node};
+ghost use Rattle.lane_rest.specs.Passes.{to_all};
+ghost use Rattle.lane_upkeep.specs.Quiet.{DoesQuietly, NodesBecome, AreKnown, Becomes, IsSplitAt, SplitsAt, SplitsLevel, SplitsAll};
+ghost use Rattle.bucket_db.specs.declared.row.Row.{Row};
 
 use crate::deciding::split_row;
 use crate::notes::Notes;
 use crate::owner::Owner;
 use crate::rounds_of_rows::round_at;
 use crate::row_messages::send_split;
-use crate::row_places::{first_with_bits, place_of, row_at};
+use crate::row_places::{first_with_bits, place_of, row_at, rows_are_whole};
 use bucket_ids::Bucket;
 use carriers::Carrier;
 use lane_states::LaneState;
+use quiet_spans::laws::quiet_spans_part;
+use shown_shapes::laws::targets_are_of_the_list;
 use value_lists::NoMemory;
 
 /// Whether a row of fewer than 58 bits has too many documents, which is known only after a whole round.
@@ -42,7 +48,10 @@ fn send_splits<C: Carrier>(
     ensures kind { C.takes_plans carrier.new ≡ C.takes_plans carrier.old }
     ensures known { StaysKnown lane.old lane.new owner.now }
     ensures rows { rows_in lane.new owner.now ≡ rows_in lane.old owner.now }
+    ensures quiet { OnOk result (DoesQuietly (C.given carrier.old) (C.given carrier.new) lane.old lane.new owner.now
+        (λ d s. (row : Row) → HasRow lane.old owner.now at row → NodesBecome d lane.old lane.new (to_all s (split_node row.bucket)))) }
 {
+    quiet_spans_part();
     for node in 0..32 {
         send_split(lane, carrier, owner, at, node)?;
     }
@@ -69,7 +78,12 @@ fn split<C: Carrier>(
     ensures planned { C.planned carrier.new ≡ C.planned carrier.old }
     ensures kind { C.takes_plans carrier.new ≡ C.takes_plans carrier.old }
     ensures notes { OnOk result (AreNotes (journal_of lane.new) owner.now.state notes.new.by_number) }
+    ensures quiet { OnOk result (DoesQuietly (C.given carrier.old) (C.given carrier.new) lane.old lane.new owner.now
+        (λ d s. AreKnown lane.old owner.now notes.old.by_number → Becomes d lane.old lane.new owner.now notes.old.by_number notes.new.by_number (IsSplitAt s at))) }
 {
+    quiet_spans_part();
+    targets_are_of_the_list();
+    rows_are_whole(lane, owner);
     let (first, second) = bucket.children();
     split_row(lane, owner, at)?;
     let place = place_of(lane, owner, first);
@@ -95,6 +109,8 @@ fn split_at<C: Carrier>(
     ensures planned { C.planned carrier.new ≡ C.planned carrier.old }
     ensures kind { C.takes_plans carrier.new ≡ C.takes_plans carrier.old }
     ensures notes { OnOk result (AreNotes (journal_of lane.new) owner.now.state notes.new.by_number) }
+    ensures quiet { IfOk result (λ stays. DoesQuietly (C.given carrier.old) (C.given carrier.new) lane.old lane.new owner.now
+        (λ d s. (row : Row) → HasRow lane.old owner.now at row → AreKnown lane.old owner.now notes.old.by_number → Becomes d lane.old lane.new owner.now notes.old.by_number notes.new.by_number (SplitsAt s at stays))) }
 {
     let Some(row) = row_at(lane, owner, at) else {
         return Ok(true);
@@ -124,9 +140,14 @@ fn split_level<C: Carrier>(
     ensures planned { C.planned carrier.new ≡ C.planned carrier.old }
     ensures kind { C.takes_plans carrier.new ≡ C.takes_plans carrier.old }
     ensures notes { OnOk result (AreNotes (journal_of lane.new) owner.now.state notes.new.by_number) }
+    ensures quiet { OnOk result (DoesQuietly (C.given carrier.old) (C.given carrier.new) lane.old lane.new owner.now
+        (λ d s. AreKnown lane.old owner.now notes.old.by_number → Becomes d lane.old lane.new owner.now notes.old.by_number notes.new.by_number (SplitsLevel s bits))) }
 {
+    quiet_spans_part();
+    rows_are_whole(lane, owner);
     let mut at = first_with_bits(lane, owner, bits);
     for _row in at..first_with_bits(lane, owner, bits + 1) {
+        rows_are_whole(lane, owner);
         let stays = split_at(lane, carrier, owner, notes, at)?;
         at += usize::from(stays);
     }
@@ -148,9 +169,14 @@ pub fn split_rows<C: Carrier>(
     ensures planned { C.planned carrier.new ≡ C.planned carrier.old }
     ensures kind { C.takes_plans carrier.new ≡ C.takes_plans carrier.old }
     ensures notes { OnOk result (AreNotes (journal_of lane.new) owner.now.state notes.new.by_number) }
+    ensures quiet { OnOk result (DoesQuietly (C.given carrier.old) (C.given carrier.new) lane.old lane.new owner.now
+        (λ d s. AreKnown lane.old owner.now notes.old.by_number → Becomes d lane.old lane.new owner.now notes.old.by_number notes.new.by_number (SplitsAll s))) }
 {
+    quiet_spans_part();
+    rows_are_whole(lane, owner);
     for bits in 1..58 {
         split_level(lane, carrier, owner, notes, bits)?;
     }
+    rows_are_whole(lane, owner);
     Ok(())
 }

@@ -58,4 +58,5 @@ module _ (old new : LaneValue) (shown now : List LaneEvent) (before : past shown
     to = sym (length-past now) ∙ ap length after;
     cause = subst (λ n. IsCause new.given n new.journal answer) (sym from_is) u.1.1;
     rests = λ calm. remembers answer told (rests (calm_is old new u.0 calm));
+    at_rest = λ is. (subst (IsUpkept old new) is upkept).4;
   }

@@ -7,6 +7,8 @@ use Rattle.cluster_states.specs.declared.cluster_state.ClusterState.{ClusterStat
 use Rattle.lane_journals.specs.Meanings.{history}
 use Rattle.lane_journals.specs.Readers.{stopped}
 use Rattle.lane_journals.specs.declared.event.LaneEvent.{LaneEvent}
+use Rattle.lane_keeping.specs.LaneKeeping.{setting_of}
+use Rattle.lane_rest.specs.Rest.{IsAtRest}
 use Rattle.lane_carriage.specs.Carriage.{IsCarried}
 use Rattle.lane_carriage.specs.Readers.{fate_of, is_returned}
 use Rattle.upkeep_answers.specs.Causes.{first_late, IsCause}
@@ -14,7 +16,7 @@ use Rattle.upkeep_answers.specs.Spans.{later}
 use Rattle.upkeep_answers.specs.declared.answers.Upkeep.TheVariants.{Rested}
 use Rattle.lane_states.specs.Growing.{last_state}
 use Rattle.lane_core.specs.LaneValues.{LaneValue}
-use Rattle.lane_core.specs.Upkept.{Maintains}
+use Rattle.lane_core.specs.Upkept.{Maintains, IsLaneAtRest}
 use Rattle.session_settings.specs.declared.setting.Setting.{Setting}
 use Rattle.session_lanes.specs.Lives.{Deed, IsLife, IsMaintained}
 use Rattle.session_lanes.specs.declared.spans.UpkeepSpan.{UpkeepSpan}
@@ -34,13 +36,15 @@ pub record WasCalm (before after : List LaneEvent) (earlier fates : List Fate) :
   pub answered : (k : ℕ) → length earlier < k → k ≤ length fates → is_returned (fate_of k fates) ≡ true
   pub unlate : first_late fates (later (length before) after) ≡ None
 
--- a pass was made, which came to what its events tell, and rested where nothing disturbed it
+-- a pass was made, which came to what its events tell, and rested where nothing disturbed it; where it rested the lane is
+-- at rest
 pub record IsSpan (span : UpkeepSpan) (old new : LaneValue) : Type 0 where
   pub pass : Maintains old new
   pub from : span.from ≡ length old.journal
   pub to : span.to ≡ length new.journal
   pub cause : IsCause new.given span.from new.journal span.answer
   pub rests : WasCalm old.journal new.journal old.given new.given → span.answer ≡ Rested
+  pub at_rest : span.answer ≡ Rested → IsLaneAtRest new
 
 -- ---- in the whole journal
 
@@ -64,3 +68,5 @@ pub record Stands (s : Setting) (lane : Low) (deeds : List Deed) (J : List LaneE
   pub carried : IsCarried fates after
   pub cause : IsCause fates span.from after span.answer
   pub rests : WasCalm before after earlier fates → span.answer ≡ Rested
+  -- where that is Rested, the lane was at rest as the span ended
+  pub at_rest : span.answer ≡ Rested → IsAtRest (setting_of lane s.rules) (s.rules).searchable (s.rules).split_at after

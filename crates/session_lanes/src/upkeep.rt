@@ -11,7 +11,8 @@ use upkeep_answers::Upkeep;
 use value_lists::NoMemory;
 
 /// Upkeep in a lane: the owner under the newest state hears it and makes a pass, which comes to what its span
-/// tells, and rests where nothing disturbs it. The only error is want of memory, and then a part of the pass may have been made.
+/// tells, and rests where nothing disturbs it; where it rests the lane is at rest. The only error is want of memory, and
+/// then a part of the pass may have been made.
 pub fn maintain<C: Carrier + Drop>(lane: &mut Lane<C>) -> Result<UpkeepSpan, NoMemory>
     requires idle { lane.old.under_way ≡ None }
     requires published { IsSome (last_state lane.old.journal) }

@@ -1,9 +1,16 @@
-use Rattle.std.proofs.Common.{◌≡◌, ◌<◌, length, slice_set, get_or, refl, ap, subst, rules}
+use Rattle.std.proofs.Common.{◌≡◌, ◌∙◌, ◌<◌, ℕ, List, Some, length, slice_get, slice_set, get_or, refl, sym, ap, subst, rules}
 use Rattle.std.specs.Vec.{with_item}
+use Rattle.carriers.specs.declared.fate.Fate.{Fate}
+use Rattle.bucket_db.specs.declared.row.Row.{Row}
+use Rattle.distributor_part.specs.Parts.{Part, rows_of, version_of}
 use Rattle.distributor_part.specs.Upkeep.{AcceptsAt}
+use Rattle.lane_journals.specs.Meanings.{history}
 use Rattle.lane_states.specs.declared.lane_state.LaneState.{LaneState}
 use Rattle.lane_states.specs.LaneStates.{journal_of}
-use Rattle.lane_upkeep.proofs.Decisions.{Writes, writes-after, writes-len, writes-others, writes-now, opened-then, resting-then, still-on, still-passes}
+use Rattle.lane_states.specs.Accepting.{HasAccepted}
+use Rattle.lane_upkeep.specs.Passing.{IsPassing}
+use Rattle.lane_upkeep.proofs.Decisions.{Writes, writes-accepted, writes-after, writes-len, writes-others, writes-now, part-before, opened-then, resting-then, still-on, still-passes}
+use Rattle.lane_upkeep.proofs.Accepted.{accepted_accepted}
 use Rattle.lane_upkeep.proofs.deciding.accept.Goals as goal
 
 -- the lane then
@@ -23,6 +30,14 @@ writes c =
       len = refl;
     }
 
+-- the row was accepted at the version of the part
+now-accepted : (c : goal.After-lane-1) (given : List Fate) → IsPassing c.args.lane.now c.args.owner.now given → (row : Row) → slice_get (rows_of c.index_mut.result.now.rows) c.args.at ≡ Some row
+    → HasAccepted (version_of c.index_mut.result.now.state) (history (journal_of c.args.lane.now)) row
+now-accepted c given h row found =
+    let is = part-before (writes c) in
+    subst (λ (v : ℕ). HasAccepted v (history (journal_of c.args.lane.now)) row) (sym (ap (λ (p : Part). version_of p.state) (sym is) ∙ ap version_of h.opened.heard))
+    (c.requires.accepted row (ap (λ (p : Part). slice_get (rows_of p.rows) c.args.at) is ∙ found))
+
 pub returns-clause-passing : goal.returns-clause-passing
 returns-clause-passing c given h =
     let a = c.args.lane.now in
@@ -31,6 +46,7 @@ returns-clause-passing c given h =
     still-passes a (then_is c) o (writes-after w) (writes-len w) refl (writes-others w) given h.spare
     (c.acceptances_are_kept.ensures a.lane a.rules (journal_of a) a.newest a.last a.nodes.items a.parts.items h.keeps.keeps (then_is c).parts.items o.distributor c.args.at
     (writes-now w (λ y z. AcceptsAt y z c.args.at) c.accept.ensures) (writes-others w))
+    (writes-accepted w (accepted_accepted (history (journal_of a)) c.index_mut.result.now c.accept.new.self c.args.at c.accept.ensures (now-accepted c given h)) h.keeps)
     _ (opened-then w _ c.accept.ensures.after o.state h.rows h.opened) (resting-then w _ c.accept.ensures.after h.resting) h
 
 pub returns-clause-on : goal.returns-clause-on

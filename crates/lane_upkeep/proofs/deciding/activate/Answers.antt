@@ -1,20 +1,18 @@
-use Rattle.std.proofs.Common.{◌≡◌, ◌<◌, ◌≤◌, ◌+◌, ◌∷◌, List, length, Some, slice_set, get_or, refl, sym, ap, ap₂, ◌∙◌, subst, arith, rules}
+use Rattle.std.proofs.Common.{◌≡◌, ◌<◌, ◌∷◌, length, slice_set, get_or, refl, sym, ap, ap₂, ◌∙◌, subst, arith, rules}
 use Rattle.std.specs.Vec.{with_item}
-use Rattle.messages.specs.declared.decision.Decision.{Decision}
 use Rattle.messages.specs.declared.decision.Decision.TheVariants.{ActiveOn}
 use Rattle.bucket_db.specs.declared.row.Row.{Row}
-use Rattle.distributor_part.specs.Parts.{Part}
 use Rattle.distributor_part.specs.Upkeep.{ActivatesAt}
 use Rattle.lane_journals.specs.Meanings.{history}
 use Rattle.lane_journals.specs.KeptJournals.{past}
 use Rattle.lane_journals.specs.declared.event.LaneEvent.TheVariants.{Decided}
-use Rattle.lane_keeping.specs.LaneKeeping.{part_in}
 use Rattle.lane_keeping.specs.Laws.{IsKeptNext}
 use Rattle.row_keeping.specs.Deciding.{MayActivate}
 use Rattle.lane_states.specs.declared.lane_state.LaneState.{LaneState}
-use Rattle.lane_states.specs.LaneStates.{journal_of, part_of, HasRoom}
+use Rattle.lane_states.specs.LaneStates.{journal_of, HasRoom}
 use Rattle.lane_upkeep.specs.Passing.{HasRow}
-use Rattle.lane_upkeep.proofs.Decisions.{Writes, writes-after, writes-len, writes-others, writes-both, writes-now, deciding, row-read, row-is, opened-then, resting-then, decided-on, decided-known, decided-passes, roomy-on, roomy-passes}
+use Rattle.lane_upkeep.proofs.Decisions.{Writes, writes-accepted, writes-after, writes-len, writes-others, writes-both, writes-now, deciding, row-read, row-is, opened-then, resting-then, decided-on, decided-known, decided-passes, roomy-on, roomy-passes}
+use Rattle.lane_upkeep.proofs.Accepted.{accepted_activated}
 use Rattle.lane_upkeep.proofs.deciding.activate.Goals as goal
 
 pub returns-in_err-room_for_decision-clause-passing : goal.returns-in_err-room_for_decision-clause-passing
@@ -72,7 +70,9 @@ pub returns-clause-passing : goal.returns-clause-passing
 returns-clause-passing c given h =
     let w = writes c in
     decided-passes c.args.lane.now (then_is c) c.args.owner.now (writes-after w) (writes-len w) (ActiveOn c.index-rows-at.result.bucket c.args.node) tt (grows c) (writes-others w)
-    c.upkeep_leaves_lines.ensures.idle given (room c) (next c) _ (opened-then w _ c.activate.ensures.after c.args.owner.now.state h.rows h.opened) (resting-then w _ c.activate.ensures.after h.resting) h
+    c.upkeep_leaves_lines.ensures.idle given (room c) (next c)
+    (writes-accepted w (accepted_activated (history (journal_of c.args.lane.now)) c.index_mut-part.result.now c.activate.new.self c.args.at c.args.node c.activate.ensures) h.keeps)
+    _ (opened-then w _ c.activate.ensures.after c.args.owner.now.state h.rows h.opened) (resting-then w _ c.activate.ensures.after h.resting) h
 
 pub returns-clause-on : goal.returns-clause-on
 returns-clause-on c = let w = writes c in

@@ -1,20 +1,18 @@
-use Rattle.std.proofs.Common.{◌≡◌, ◌<◌, ◌≤◌, ◌+◌, ◌∷◌, List, length, Some, slice_set, get_or, refl, sym, ap, ap₂, ◌∙◌, subst, arith, rules}
+use Rattle.std.proofs.Common.{◌≡◌, ◌<◌, ◌∷◌, length, slice_set, get_or, refl, sym, ap, ap₂, ◌∙◌, subst, arith, rules}
 use Rattle.std.specs.Vec.{with_item}
 use Rattle.bucket_ids.specs.Buckets.{Low, parent_of}
-use Rattle.messages.specs.declared.decision.Decision.{Decision}
 use Rattle.messages.specs.declared.decision.Decision.TheVariants.{RowsJoined}
 use Rattle.bucket_db.specs.declared.row.Row.{Row}
-use Rattle.distributor_part.specs.Parts.{Part}
 use Rattle.distributor_part.specs.Upkeep.{JoinsRows}
 use Rattle.lane_journals.specs.Meanings.{history}
 use Rattle.lane_journals.specs.KeptJournals.{past}
 use Rattle.lane_journals.specs.declared.event.LaneEvent.TheVariants.{Decided}
-use Rattle.lane_keeping.specs.LaneKeeping.{part_in}
 use Rattle.lane_keeping.specs.Laws.{IsKeptNext}
 use Rattle.lane_states.specs.declared.lane_state.LaneState.{LaneState}
-use Rattle.lane_states.specs.LaneStates.{journal_of, part_of, HasRoom}
+use Rattle.lane_states.specs.LaneStates.{journal_of, HasRoom}
 use Rattle.lane_upkeep.specs.Passing.{HasRow}
-use Rattle.lane_upkeep.proofs.Decisions.{Writes, writes-after, writes-len, writes-others, writes-both, writes-now, deciding, row-read, row-is, opened-then, resting-then, decided-on, decided-known, decided-passes, roomy-on, roomy-passes, has-parent}
+use Rattle.lane_upkeep.proofs.Decisions.{Writes, writes-accepted, writes-after, writes-len, writes-others, writes-both, writes-now, deciding, row-read, row-is, opened-then, resting-then, decided-on, decided-known, decided-passes, roomy-on, roomy-passes, has-parent}
+use Rattle.lane_upkeep.proofs.Accepted.{accepted_joined}
 use Rattle.lane_upkeep.proofs.deciding.join_rows.Goals as goal
 
 pub returns-in_err-room_for_decision-clause-passing : goal.returns-in_err-room_for_decision-clause-passing
@@ -74,7 +72,9 @@ pub returns-clause-passing : goal.returns-clause-passing
 returns-clause-passing c given h =
     let w = writes c in
     decided-passes c.args.lane.now (then_is c) c.args.owner.now (writes-after w) (writes-len w) (RowsJoined c.parent-parent.result) tt (grows c) (writes-others w)
-    c.upkeep_leaves_lines.ensures.idle given (room c) (next c) _ (opened-then w _ c.join_rows.ensures.after c.args.owner.now.state h.rows h.opened) (resting-then w _ c.join_rows.ensures.after h.resting) h
+    c.upkeep_leaves_lines.ensures.idle given (room c) (next c)
+    (writes-accepted w (accepted_joined (history (journal_of c.args.lane.now)) c.index_mut-part.result.now c.join_rows.new.self c.args.at c.rows.ensures.whole c.join_rows.ensures) h.keeps)
+    _ (opened-then w _ c.join_rows.ensures.after c.args.owner.now.state h.rows h.opened) (resting-then w _ c.join_rows.ensures.after h.resting) h
 
 pub returns-clause-on : goal.returns-clause-on
 returns-clause-on c = let w = writes c in

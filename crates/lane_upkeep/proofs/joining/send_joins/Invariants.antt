@@ -1,6 +1,8 @@
 use Rattle.std.proofs.Common.{◌≡◌}
 use Rattle.lane_upkeep.specs.Passing.{IsPassing, PassesOn, rows_in}
 use Rattle.lane_upkeep.specs.Noted.{StaysKnown}
+use Rattle.lane_upkeep.specs.Quiet.{DoesQuietly}
+use Rattle.lane_upkeep.proofs.QuietJoinsSent.{JoinsBelow}
 use Rattle.lane_upkeep.proofs.joining.send_joins.Given as goal
 
 -- the pass goes on
@@ -12,4 +14,5 @@ invariant-loop-node g l = record {
   kind : g.C.Carrier.takes_plans l.carrier ≡ g.C.Carrier.takes_plans l.fn.carrier;
   known : StaysKnown l.fn.lane l.lane l.owner;
   rows : rows_in l.lane l.owner ≡ rows_in l.fn.lane l.owner;
+  quiet : DoesQuietly (g.C.Carrier.given l.fn.carrier) (g.C.Carrier.given l.carrier) l.fn.lane l.lane l.owner (JoinsBelow l.fn.lane l.lane l.owner l.at l.node);
 }

@@ -5,8 +5,9 @@ use Rattle.lane_states.specs.declared.lane_state.LaneState.{LaneState}
 use Rattle.lane_states.specs.declared.rounds.RoundRun.{RoundRun}
 use Rattle.lane_states.specs.LaneStates.{journal_of, part_of}
 use Rattle.lane_states.specs.RoundRuns.{IsRunning, IsRunBy, Begins}
+use Rattle.lane_states.specs.Shortages.{NoneIsShort, EndsAtOnce, HadMemory}
+use Rattle.lane_states.proofs.Shortages.{once-still}
 use Rattle.upkeep_answers.specs.Spans.{AreUpkeep}
-use Rattle.lane_upkeep.specs.Notes.{KnowsNote}
 use Rattle.lane_upkeep.proofs.Passing.{still-passing-in, still-passes-in, passing-gained}
 use Rattle.lane_upkeep.proofs.RoundsLeft.{gains-left, upkeep-left, others-left, answers-left, ran-left, row-left, buckets-gained, note-whole}
 use Rattle.lane_upkeep.proofs.Upkept.{upkeep-whole, upkeep-cut}
@@ -338,4 +339,55 @@ returns-clause-ran g c =
     let job = c.run_round.ensures.job in
     let step = c.begin_round_at-run.ensures.step in
     let go = c.run_round.ensures.same in
-    ran-left x m n o c.args.at run y job.0 _ p begins step go job.1 (record x { journal = c.reserve.new.self }) c.begin_round_at-run.ensures.after refl refl refl c.in_ok-run_round.field-0 _ _ c.in_ok-run_round.ensures.whole c.in_ok-run_round.ensures.end
+    ran-left x m n o c.args.at run y job.0 _ p begins step go job.1 (record x { journal = c.reserve.new.self }) c.begin_round_at-run.ensures.after refl refl refl refl c.run_round.ensures.took c.in_ok-run_round.field-0 _ _ c.in_ok-run_round.ensures.whole c.in_ok-run_round.ensures.end
+
+pub returns-clause-had : goal.returns-clause-had
+returns-clause-had g c =
+    let x = c.args.lane.now in
+    let d = c.args.owner.now.distributor in
+    let m = c.begin_round_at-run.new.self in
+    let run = c.begin_round_at-run.result in
+    let begins : Begins x.lane (journal_of x) (journal_of m) d run.key run = rw c.in_ok-reserve.ensures.items at c.begin_round_at-run.ensures.begins in
+    let last : m.last ≡ x.last = ap (λ (z : LaneState). z.last) c.begin_round_at-run.ensures.after in
+    let had : HadMemory run = record { read = ap (λ (z : RoundRun). z.unread) begins.new.is; applied = ap (λ (z : RoundRun). z.unapplied) begins.new.is } in
+    let n = c.run_round.new.self in
+    c.in_ok-run_round.ensures.fine refl had
+
+pub returns-clause-none_is_short : goal.returns-clause-none_is_short
+returns-clause-none_is_short g c =
+    let x = c.args.lane.now in
+    let d = c.args.owner.now.distributor in
+    let m = c.begin_round_at-run.new.self in
+    let run = c.begin_round_at-run.result in
+    let begins : Begins x.lane (journal_of x) (journal_of m) d run.key run = rw c.in_ok-reserve.ensures.items at c.begin_round_at-run.ensures.begins in
+    let last : m.last ≡ x.last = ap (λ (z : LaneState). z.last) c.begin_round_at-run.ensures.after in
+    let had : HadMemory run = record { read = ap (λ (z : RoundRun). z.unread) begins.new.is; applied = ap (λ (z : RoundRun). z.unapplied) begins.new.is } in
+    let n = c.run_round.new.self in
+    subst (λ (i : ℕ). NoneIsShort i n.last (journal_of n)) last (c.in_ok-run_round.ensures.none_is_short refl had)
+
+pub returns-clause-at_once : goal.returns-clause-at_once
+returns-clause-at_once g c =
+    let x = c.args.lane.now in
+    let d = c.args.owner.now.distributor in
+    let m = c.begin_round_at-run.new.self in
+    let run = c.begin_round_at-run.result in
+    let begins : Begins x.lane (journal_of x) (journal_of m) d run.key run = rw c.in_ok-reserve.ensures.items at c.begin_round_at-run.ensures.begins in
+    let last : m.last ≡ x.last = ap (λ (z : LaneState). z.last) c.begin_round_at-run.ensures.after in
+    let had : HadMemory run = record { read = ap (λ (z : RoundRun). z.unread) begins.new.is; applied = ap (λ (z : RoundRun). z.unapplied) begins.new.is } in
+    let n = c.run_round.new.self in
+    subst (λ (i : ℕ). EndsAtOnce i n.last (journal_of n)) last (c.run_round.ensures.at_once refl had)
+
+pub returns-in_err-run_round-clause-at_once : goal.returns-in_err-run_round-clause-at_once
+returns-in_err-run_round-clause-at_once g c =
+    let x = c.args.lane.now in
+    let d = c.args.owner.now.distributor in
+    let m = c.begin_round_at-run.new.self in
+    let run = c.begin_round_at-run.result in
+    let begins : Begins x.lane (journal_of x) (journal_of m) d run.key run = rw c.in_ok-reserve.ensures.items at c.begin_round_at-run.ensures.begins in
+    let last : m.last ≡ x.last = ap (λ (z : LaneState). z.last) c.begin_round_at-run.ensures.after in
+    let had : HadMemory run = record { read = ap (λ (z : RoundRun). z.unread) begins.new.is; applied = ap (λ (z : RoundRun). z.unapplied) begins.new.is } in
+    let n = c.run_round.new.self in
+    subst (λ (i : ℕ). EndsAtOnce i n.last (journal_of n)) last (c.run_round.ensures.at_once refl had)
+
+pub returns-in_err-reserve-clause-at_once : goal.returns-in_err-reserve-clause-at_once
+returns-in_err-reserve-clause-at_once g c = once-still c.args.lane.now.last c.args.lane.now.last _ refl

@@ -1,10 +1,9 @@
-use Rattle.std.proofs.Common.{◌≡◌, ◌∙◌, ℕ, sym, subst}
+use Rattle.std.proofs.Common.{◌∙◌, ℕ, sym, subst}
 use Rattle.lane_states.specs.LaneStates.{journal_of, part_of}
 use Rattle.lane_states.proofs.Results.{if_ok}
-use Rattle.lane_upkeep.specs.declared.rounding.RowNote.{RowNote}
-use Rattle.lane_upkeep.specs.Notes.{KnowsNote}
-use Rattle.lane_upkeep.specs.RoundNotes.{IsNoteOf, NotesRound, GainsMarks}
+use Rattle.lane_upkeep.specs.RoundNotes.{NotesRound, NotesRun, GainsMarks}
 use Rattle.lane_upkeep.proofs.NotesStay.{knows-of}
+use Rattle.lane_upkeep.proofs.QuietRan.{rounds-quietly}
 use Rattle.lane_upkeep.proofs.rounding.run_round_at.Goals as goal
 
 pub returns-clause-gains : goal.returns-clause-gains
@@ -34,6 +33,25 @@ returns-clause-ran g c = if_ok c.note_of.result (λ note i. record {
   run = c.in_ok-run.run';
   ran = c.in_ok-run.ensures.ran;
   note_is = i;
-  all_read = c.in_ok-had_memory.ensures.read;
-  all_applied = c.in_ok-had_memory.ensures.applied;
+  all_read = c.in_ok-run.ensures.had.read;
+  all_applied = c.in_ok-run.ensures.had.applied;
 }) c.note_of.ensures
+
+pub returns-clause-quiet : goal.returns-clause-quiet
+returns-clause-quiet g c = if_ok c.note_of.result (λ note i.
+    let x = c.args.lane.now in
+    let e = c.run_at.new.lane in
+    let o = c.args.owner.now in
+    let r : NotesRun x e o c.args.at (g.C.Carrier.given c.args.carrier.now) (g.C.Carrier.given c.run_at.new.carrier) note = record {
+      run = c.in_ok-run.run';
+      ran = c.in_ok-run.ensures.ran;
+      note_is = i;
+      all_read = c.in_ok-run.ensures.had.read;
+      all_applied = c.in_ok-run.ensures.had.applied;
+    } in
+    rounds-quietly c.quiet_rounds_end.ensures c.targets_are_of_the_list.ensures x e o c.args.at (g.C.Carrier.given c.args.carrier.now) (g.C.Carrier.given c.run_at.new.carrier) note r
+    c.requires.passing c.run_at.ensures.passing c.run_at.ensures.on
+    (subst (λ (set : ℕ). GainsMarks (part_of x o.distributor) (part_of e o.distributor) c.args.at set) (sym i.holders_are) c.in_ok-run.ensures.gains) c.in_ok-run.ensures.fates) c.note_of.ensures
+
+pub returns-clause-none_is_short : goal.returns-clause-none_is_short
+returns-clause-none_is_short g c = if_ok c.note_of.result (λ note i. c.in_ok-run.ensures.none_is_short) c.note_of.ensures

@@ -1,4 +1,4 @@
-use Rattle.std.proofs.Common.{◌≡◌, ◌∙◌, true, false, sym, ap, refl, rules}
+use Rattle.std.proofs.Common.{◌≡◌, ◌∙◌, true, false, ap, refl, rules}
 use Rattle.std.specs.Prelude.{slice_get}
 use Rattle.lane_states.specs.LaneStates.{journal_of}
 use Rattle.lane_states.proofs.Results.{on_ok}
@@ -32,7 +32,7 @@ returns-then-not-ends_delete-clause-says g c = λ row delete found deleting serv
     let reply = c.in_ok-reply.reply in
     let not_over : is_end reply ≡ false = search rules in
     says_delete x e e o c.args.at has.0 c.in-Some.delete (g.C.Carrier.given c.args.carrier.now) (g.C.Carrier.given c.tell_node.new.carrier) reply has.1
-    has.2 (record { went = told.went; parts = told.parts; came = told.came; silent = told.silent }) (if_not (is_end reply) _ _ not_over refl) row delete found deleting
+    has.2 (record { went = told.went; parts = told.parts; came = told.came; silent = told.silent; fates = told.fates; quiet = told.quiet }) told.on told.passing (if_not (is_end reply) _ _ not_over refl) row delete found deleting
 
 pub returns-clause-passing : goal.returns-clause-passing
 returns-clause-passing g c = c.delete_over.ensures.passing (g.C.Carrier.given c.tell_node.new.carrier) c.in_ok-reply.ensures.passing
@@ -48,4 +48,4 @@ returns-clause-says g c = λ row delete found deleting serving.
     let reply = c.in_ok-reply.reply in
     let over : is_end reply ≡ true = search rules in
     on_ok c.delete_over.result (λ did. says_delete x b e o c.args.at has.0 c.in-Some.delete (g.C.Carrier.given c.args.carrier.now) (g.C.Carrier.given c.tell_node.new.carrier) reply has.1
-    has.2 (record { went = told.went; parts = told.parts; came = told.came; silent = told.silent }) (if_so (is_end reply) _ _ over did) row delete found deleting) c.delete_over.ensures.did
+    has.2 (record { went = told.went; parts = told.parts; came = told.came; silent = told.silent; fates = told.fates; quiet = told.quiet }) told.on told.passing (if_so (is_end reply) _ _ over did) row delete found deleting) c.delete_over.ensures.did

@@ -2,6 +2,7 @@ use Rattle.std.proofs.Common.{◌∙◌, sym}
 use Rattle.lane_states.specs.LaneStates.{journal_of}
 use Rattle.lane_upkeep.proofs.RowsAsked.{serials_may}
 use Rattle.lane_upkeep.proofs.Settlings.{serial_is}
+use Rattle.lane_upkeep.proofs.QuietDeleting.{serial_listed}
 use Rattle.lane_upkeep.proofs.settling.serial_in_row.Goals as goal
 
 pub returns-clause-may : goal.returns-clause-may
@@ -17,3 +18,8 @@ returns-clause-exact c = λ row found set are.
     let o = c.args.owner.now in
     serial_is x o c.args.at set c.targets-targets.result x.rules.acks c.args.node c.in-Some.row row c.in-Some-of.note.now c.serial_to_delete.result c.args.notes.now.by_number c.serial_to_delete.ensures.exact (sym c.is_some.ensures ∙ c.if-is_some.false)
     c.targets-targets.ensures are c.in-Some-of.ensures.exact (sym c.in-Some.ensures) found
+
+pub returns-clause-listed : goal.returns-clause-listed
+returns-clause-listed c = λ row found ideal is_ideal.
+    serial_listed c.args.lane.now c.args.owner.now c.args.at c.targets-targets.result c.args.node c.in-Some.row row c.in-Some-of.note.now c.serial_to_delete.result c.args.notes.now.by_number ideal c.requires.passing c.serial_to_delete.ensures.exact
+    (sym c.is_some.ensures ∙ c.if-is_some.false) c.targets-targets.ensures c.in-Some-of.ensures.exact (sym c.in-Some.ensures) found is_ideal

@@ -1,4 +1,4 @@
-use Rattle.std.proofs.Common.{◌≡◌, ◌∙◌, ◌==◌, ◌&&◌, not, ℕ, Bool, sym, ap}
+use Rattle.std.proofs.Common.{◌∙◌, ◌==◌, ◌&&◌, not, Bool, sym, ap}
 use Rattle.lane_upkeep.proofs.Settlings.{too_few, enough_lose}
 use Rattle.lane_upkeep.proofs.settling.serial_to_delete.Goals as goal
 

@@ -2,6 +2,9 @@ use Rattle.std.proofs.Common.{◌≡◌}
 use Rattle.lane_states.specs.LaneStates.{journal_of}
 use Rattle.lane_upkeep.specs.Passing.{IsPassing, PassesOn}
 use Rattle.lane_upkeep.specs.Noted.{AreNotes}
+use Rattle.lane_upkeep.specs.Quiet.{DoesQuietly}
+use Rattle.lane_upkeep.proofs.QuietSplits.{SplitsTo}
+use Rattle.lane_upkeep.proofs.QuietSplitSteps.{Done}
 use Rattle.lane_upkeep.proofs.splitting.split_rows.Given as goal
 
 -- the pass goes on
@@ -12,4 +15,5 @@ invariant-loop-bits g l = record {
   planned : g.C.Carrier.planned l.carrier ≡ g.C.Carrier.planned l.fn.carrier;
   kind : g.C.Carrier.takes_plans l.carrier ≡ g.C.Carrier.takes_plans l.fn.carrier;
   notes : AreNotes (journal_of l.lane) l.owner.state l.notes.by_number;
+  quiet : DoesQuietly (g.C.Carrier.given l.fn.carrier) (g.C.Carrier.given l.carrier) l.fn.lane l.lane l.owner (Done l.fn.lane l.lane l.owner l.fn.notes.by_number l.notes.by_number (λ s. SplitsTo s l.bits));
 }

@@ -1,18 +1,17 @@
-use Rattle.std.proofs.Common.{[], ◌∷◌, ◌≡◌, ◌∙◌, ◌+◌, false, Option, Some, IfSome, IfNone, sym, ap, subst}
+use Rattle.std.proofs.Common.{[], ◌∷◌, ◌≡◌, ◌+◌, false, Option, Some, IfSome, IfNone, sym, subst}
 use Rattle.lane_journals.specs.Readers.{returned}
 use Rattle.lane_journals.specs.Meanings.{history}
 use Rattle.messages.specs.declared.message.Message.{Message}
 use Rattle.messages.specs.declared.reply.Reply.{Reply}
 use Rattle.row_keeping.specs.Telling.{IsTelling}
-use Rattle.lane_states.specs.declared.lane_state.LaneState.{LaneState}
-use Rattle.lane_states.specs.LaneStates.{journal_of, part_of, Went}
+use Rattle.lane_states.specs.LaneStates.{journal_of, part_of}
 use Rattle.lane_states.specs.Tellings.{IsAnsweredBy, IsFirstReply}
 use Rattle.lane_states.proofs.Results.{if_ok}
 use Rattle.lane_states.proofs.Tellings.{stays-went}
 use Rattle.lane_upkeep.specs.CameBack.{CameBack}
 use Rattle.lane_upkeep.specs.Notes.{KnowsNote}
 use Rattle.lane_upkeep.proofs.NotesStay.{note-message}
-use Rattle.lane_upkeep.proofs.Passing.{telling-of, says-row, went-passing, went-passes, went-as, still-passing, still-passes}
+use Rattle.lane_upkeep.proofs.Passing.{telling-of, went-passing, went-passes, went-as, still-passing, still-passes}
 use Rattle.lane_upkeep.proofs.Tellings.{row-body, came-all}
 use Rattle.messages.specs.declared.reply.Reply.TheVariants as replies
 use Rattle.lane_upkeep.specs.Quiet.{InQuiet, IsToldQuietly}
@@ -120,10 +119,16 @@ returns-clause-quiet g c =
     let e = c.tell.new.self in
     let o = c.args.owner.now in
     let now = g.C.Carrier.given c.tell.new.carrier in
+    let t = c.requires.may in
+    let m = c.message_to-message.result in
+    let back : IfSome c.in_ok-reply.reply (IsAnsweredBy (journal_of e) o.state.version c.args.node c.args.body) =
+    subst (λ (y : Message). IfSome c.in_ok-reply.reply (IsAnsweredBy (journal_of e) y.version y.receiver y.body)) c.message_to-message.ensures c.in_ok-reply.ensures.back in
+    let came = came-all (journal_of e) o c.args.node c.args.body c.in_ok-reply.reply (row-body t.row c.args.node c.args.body t.of_row) back in
     both-ok (λ y. y ≡ c.in_ok-reply.reply) (λ y. y ≡ Some replies.NoMemory → ⊥) (λ y. InQuiet now x e o (λ d s. IsToldQuietly d x e c.args.node c.args.body y)) c.unless_short.result
     (λ y same fine d s settings current goes.
     quiet-told c.late_messages_wait.ensures.taken c.quiet_tellings_are_told.ensures.back c.quiet_tellings_are_told.ensures.told x e o (g.C.Carrier.given c.args.carrier.now) now c.args.node c.args.body c.requires.passing c.requires.may
-    (went-as c.message_to-message.ensures c.in_ok-reply.ensures.went) c.tell.ensures.took d current goes y
+    (went-as c.message_to-message.ensures c.in_ok-reply.ensures.went) c.tell.ensures.took c.tell.ensures.keeps d current goes y
     (subst (λ (z : Option Reply). IfSome z (IsFirstReply (journal_of e) (x.last + 1))) (sym same) c.in_ok-reply.ensures.first)
-    (subst (λ (z : Option Reply). IfNone z (returned (x.last + 1) (history (journal_of e)) ≡ false)) (sym same) c.in_ok-reply.ensures.none) fine)
+    (subst (λ (z : Option Reply). IfNone z (returned (x.last + 1) (history (journal_of e)) ≡ false)) (sym same) c.in_ok-reply.ensures.none) fine
+    (subst (λ (z : Option Reply). IfSome z (λ r. CameBack (journal_of e) o c.args.node c.args.body r)) (sym same) came))
     c.unless_short.ensures.same c.unless_short.ensures.fine

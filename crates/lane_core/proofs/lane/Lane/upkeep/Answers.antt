@@ -21,7 +21,7 @@ tell-requires-clause-before g c =
 pub returns : goal.returns
 returns g c = elim c.match-upkeep.branch [
   | in-Ok w ↦ lane-told c.self.inside.work c.upkeep.new.self c.self.inside.carrier.given c.upkeep.new.carrier.given (planned_in c.self.inside.carrier.plans) _ (takes_plans c.self.inside.carrier.plans) _ c.args.self.now w.tell.result c.match-upkeep.result c.len-from.result
-      c.self.view_is c.upkeep.ensures.planned c.upkeep.ensures.kind c.in_default.is (c.len-from.ensures ∙ c.self.inside.work.state.journal.ok.0) w.in-Ok.ensures.ok w.in-Ok.ensures.opened (rw w.deref.ensures.value at w.tell.ensures) w.result-is
+      c.self.view_is c.upkeep.ensures.planned c.upkeep.ensures.kind c.in_default.is (c.len-from.ensures ∙ c.self.inside.work.state.journal.ok.0) w.in-Ok.ensures.ok w.in-Ok.ensures.opened w.in-Ok.ensures.rests (rw w.deref.ensures.value at w.tell.ensures) w.result-is
   | in-Err w ↦ lane-short c.self.inside.work c.upkeep.new.self c.self.inside.carrier.given c.upkeep.new.carrier.given (planned_in c.self.inside.carrier.plans) _ (takes_plans c.self.inside.carrier.plans) _ c.args.self.now c.match-upkeep.result
       c.self.view_is c.upkeep.ensures.planned c.upkeep.ensures.kind c.in_default.is w.in-Err.ensures.err w.result-is
 ]

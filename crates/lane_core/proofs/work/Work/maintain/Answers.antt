@@ -1,5 +1,5 @@
 use Rattle.lane_states.specs.LaneStates.{journal_of}
-use Rattle.lane_core.proofs.Upkeeping.{between-work, work-passed}
+use Rattle.lane_core.proofs.Upkeeping.{between-work, work-passed, rests-on}
 use Rattle.lane_core.proofs.work.Work.maintain.Goals as goal
 
 pub maintain-requires : goal.maintain-requires
@@ -16,3 +16,6 @@ returns-clause-keeps g c =
       ended = c.upkeep_leaves_lines.ensures.closed o.distributor (o.state).version (journal_of x.state) (journal_of y) span;
       stamps = c.upkeep_leaves_lines.ensures.stamps o.distributor (o.state).version (journal_of x.state) (journal_of y) span;
     }) c.maintain.ensures.between c.maintain.ensures.on
+
+pub returns-clause-rests : goal.returns-clause-rests
+returns-clause-rests g c = rests-on c.maintain.result c.args.self.now c.maintain.new.lane (g.C.Carrier.given c.maintain.new.carrier) (returns-clause-keeps g c).set_up c.maintain.ensures.rests

@@ -8,7 +8,7 @@ use Rattle.lane_states.specs.LaneStates.{journal_of}
 use Rattle.lane_core.specs.declared.work.Work.{Work}
 use Rattle.lane_core.specs.LaneValues.{LaneValue}
 use Rattle.lane_core.specs.Upkeeping.{MaintainsBy}
-use Rattle.lane_core.proofs.Upkeeping.{maintains-by, opens-by, on-any-ok, on-any-err}
+use Rattle.lane_core.proofs.Upkeeping.{maintains-by, opens-by, rests-by, on-any-ok, on-any-err}
 use Rattle.lane_core.proofs.work.Work.upkeep.Goals as goal
 
 pub maintain-requires-clause-there : goal.maintain-requires-clause-there
@@ -56,3 +56,12 @@ returns-clause-opened g c =
     opens-by c.upkeep_goes_on.ensures.span c.upkeep_goes_on.ensures.behind c.maintain.result c.args.self.now c.hear_within.new.self c.maintain.new.self (record { distributor = d; state = s })
     (sym c.requires.keeps.newest_is ∙ c.in-Some.is) (c.hear_within.ensures.grows ∙ ap (λ (K : List LaneEvent). heard_next d (Some s) K) same)
     c.maintain.ensures.on c.maintain.ensures.opened
+
+pub returns-clause-rests : goal.returns-clause-rests
+returns-clause-rests g c =
+    let d = c.owner_by-distributor.result in
+    let s = c.in-Some.state in
+    let same : journal_of c.need_part.new.self.state ≡ journal_of c.args.self.now.state = ap (λ (w : Work). journal_of w.state) c.need_part.ensures.after ∙ ap past c.room_to_begin.ensures.items in
+    rests-by c.upkeep_goes_on.ensures.span c.upkeep_goes_on.ensures.behind c.maintain.result c.args.self.now c.hear_within.new.self c.maintain.new.self (record { distributor = d; state = s })
+    (g.C.Carrier.given c.maintain.new.carrier) (c.hear_within.ensures.grows ∙ ap (λ (K : List LaneEvent). heard_next d (Some s) K) same)
+    c.maintain.ensures.on c.maintain.ensures.rests

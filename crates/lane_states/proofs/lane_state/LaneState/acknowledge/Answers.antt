@@ -2,9 +2,12 @@ use Rattle.std.proofs.Common.{rules, ◌≡◌, ◌<◌, ◌∙◌, sym, ap, sub
 use Rattle.bucket_ids.specs.Buckets.{Low, IsIn}
 use Rattle.distributor_part.specs.Parts.{Part}
 use Rattle.lane_keeping.specs.LaneKeeping.{part_in}
+use Rattle.lane_journals.specs.Meanings.{history}
+use Rattle.lane_states.specs.LaneStates.{journal_of}
 use Rattle.lane_states.proofs.Places.{part-at, part-others}
 use Rattle.lane_states.proofs.Kept.{kept_more}
 use Rattle.lane_states.proofs.Owners.{closed-part, closed-resting, part-there, some-rows}
+use Rattle.lane_states.proofs.Accepting.{accepted-at, accepted-closed}
 use Rattle.lane_states.proofs.lane_state.LaneState.acknowledge.Goals as goal
 
 pub index_mut-requires : goal.index_mut-requires
@@ -47,7 +50,8 @@ returns-clause-keeps c =
     (kept_more c.requires.keeps (c.marks_are_kept.ensures.acked _ _ _ _ _ _ _ c.requires.keeps.keeps (slice_set x.parts.items d c.closed.new.self) d m.state
     c.args.line c.args.key c.args.answered m.id c.args.stamp m.acting
     (closed-part x.lane x.rules x.parts.items d p c.closed.new.self c.args.key c.args.answered within is c.closed.ensures)
-    (part-others x.lane x.rules x.parts.items d c.closed.new.self) m.begun m.key_is m.answers m.legal) tt)
+    (part-others x.lane x.rules x.parts.items d c.closed.new.self) m.begun m.key_is m.answers m.legal) tt
+    (accepted-at x.lane x.rules (journal_of x) x.parts.items d p c.closed.new.self within is (accepted-closed (history (journal_of x)) p c.closed.new.self c.args.key c.args.answered c.closed.ensures) c.requires.keeps.accepted))
 
 pub returns-clause-resting : goal.returns-clause-resting
 returns-clause-resting c =

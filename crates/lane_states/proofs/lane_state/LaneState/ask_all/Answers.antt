@@ -1,9 +1,10 @@
-use Rattle.std.proofs.Common.{◌∙◌, ap, refl, subst}
+use Rattle.std.proofs.Common.{◌∙◌, ap, refl, sym, subst}
 use Rattle.lane_states.specs.declared.lane_state.LaneState.{LaneState}
 use Rattle.lane_states.specs.declared.opening.Asking.{Asking}
 use Rattle.lane_states.specs.LaneStates.{journal_of, part_of}
 use Rattle.lane_states.specs.Openings.{AsksOn, AsksOne, IsOpenedNow, IsLacking, Nobody, StopsAfter}
 use Rattle.lane_states.proofs.Askings.{moved, fewer-left, asked-more, others-more, opened-after, lacks-after, stops-after, on-err}
+use Rattle.lane_states.proofs.Shortages.{not-ended, or-none, none-nothing, none-asked, once-asked, none-opened, none-same, once-none}
 use Rattle.lane_states.proofs.NodeSpans.{on-same, on-then}
 use Rattle.lane_states.proofs.lane_state.LaneState.ask_all.Goals as goal
 
@@ -17,6 +18,8 @@ asking-init g c = record {
   kind = refl;
   opening = c.requires.opening;
   asked = Nobody;
+  fine = λ it. refl;
+  none_is_short = λ it. none-nothing _ _ _ refl;
   others = λ e off. refl;
   after = refl;
   parts = refl;
@@ -47,6 +50,9 @@ asking-preserved g c =
       kind = c.in_ok-one.ensures.kind ∙ i.kind;
       opening = one.opening;
       asked = rw c.either-short.ensures (asked-more x y z d c.asking.short i.keeps i.asked i.after c.in-Further.one one);
+      fine = λ it. not-ended c.args.at_shortage c.either-short.result (sym c.if-ends.ensures) it;
+      none_is_short = λ it. none-asked x.last y.last z.last one.message (journal_of y) (journal_of z) one.gone one.next (i.none_is_short it) c.in-Further.one
+          ((or-none c.asking.short c.in-Further.one (sym c.either-short.ensures ∙ not-ended c.args.at_shortage c.either-short.result (sym c.if-ends.ensures) it)).1) one.settled;
       others = others-more x y z d c.asking.short i.keeps i.asked i.after i.others c.in_ok-one.ensures.others;
       after = c.in_ok-one.ensures.after ∙ ap (λ (w : LaneState). moved w z) i.after;
       parts = c.in_ok-one.ensures.parts ∙ i.parts;
@@ -85,3 +91,51 @@ returns-in-Lacks-clause-took g c = on-then c.args.self.now c.asking.self c.ask_n
 
 pub returns-in_err-one-clause-took : goal.returns-in_err-one-clause-took
 returns-in_err-one-clause-took g c = on-then c.args.self.now c.asking.self c.ask_next.new.self c.asking.invariant.took c.in_err-one.ensures.took
+
+pub returns-in-Opened-clause-none_is_short : goal.returns-in-Opened-clause-none_is_short
+returns-in-Opened-clause-none_is_short g c it =
+    let y = c.asking.self in
+    let z = c.ask_next.new.self in
+    let o : IsOpenedNow y z c.args.distributor = subst (λ (a : Asking). AsksOn y z c.args.distributor a) c.in-Opened.is c.in_ok-one.ensures.asks in
+    none-opened c.args.self.now.last y.last z.last (journal_of y) (journal_of z) o.last _ _ _ o.grows (c.asking.invariant.none_is_short it)
+
+pub returns-in-Opened-clause-at_once : goal.returns-in-Opened-clause-at_once
+returns-in-Opened-clause-at_once g c it = once-none _ _ _ (returns-in-Opened-clause-none_is_short g c it)
+
+pub returns-in-Lacks-clause-none_is_short : goal.returns-in-Lacks-clause-none_is_short
+returns-in-Lacks-clause-none_is_short g c it =
+    let y = c.asking.self in
+    let z = c.ask_next.new.self in
+    let l : IsLacking y z c.args.distributor c.in-Lacks.missing = subst (λ (a : Asking). AsksOn y z c.args.distributor a) c.in-Lacks.is c.in_ok-one.ensures.asks in
+    none-same c.args.self.now.last y.last z.last (journal_of y) (journal_of z) l.last l.same (c.asking.invariant.none_is_short it)
+
+pub returns-in-Lacks-clause-at_once : goal.returns-in-Lacks-clause-at_once
+returns-in-Lacks-clause-at_once g c it = once-none _ _ _ (returns-in-Lacks-clause-none_is_short g c it)
+
+pub returns-in_err-one-clause-at_once : goal.returns-in_err-one-clause-at_once
+returns-in_err-one-clause-at_once g c it =
+    let y = c.asking.self in
+    let z = c.ask_next.new.self in
+    once-none _ _ _ (none-same c.args.self.now.last y.last z.last (journal_of y) (journal_of z) c.in_err-one.ensures.stops.last c.in_err-one.ensures.stops.same (c.asking.invariant.none_is_short it))
+
+pub returns-then-ends-clause-at_once : goal.returns-then-ends-clause-at_once
+returns-then-ends-clause-at_once g c it =
+    let x = c.args.self.now in
+    let y = c.asking.self in
+    let z = c.ask_next.new.self in
+    let d = c.args.distributor in
+    let one : AsksOne y z d c.in-Further.one = subst (λ (a : Asking). AsksOn y z d a) c.in-Further.is c.in_ok-one.ensures.asks in
+    once-asked x.last y.last z.last one.message (journal_of y) (journal_of z) one.gone one.next (c.asking.invariant.none_is_short it)
+
+pub returns-then-ends-clause-stops : goal.returns-then-ends-clause-stops
+returns-then-ends-clause-stops g c =
+    let x = c.args.self.now in
+    let y = c.asking.self in
+    let z = c.ask_next.new.self in
+    let d = c.args.distributor in
+    let i = c.asking.invariant in
+    let one : AsksOne y z d c.in-Further.one = subst (λ (a : Asking). AsksOn y z d a) c.in-Further.is c.in_ok-one.ensures.asks in
+    record { part = part_of z d; short = _; asked = asked-more x y z d c.asking.short i.keeps i.asked i.after c.in-Further.one one; opening = one.opening; after = refl }
+
+pub returns-then-ends-clause-took : goal.returns-then-ends-clause-took
+returns-then-ends-clause-took g c = on-then c.args.self.now c.asking.self c.ask_next.new.self c.asking.invariant.took c.in_ok-one.ensures.took

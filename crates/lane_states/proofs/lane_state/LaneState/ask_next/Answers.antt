@@ -1,4 +1,4 @@
-use Rattle.std.proofs.Common.{◌+◌, ℕ, ap, refl, subst}
+use Rattle.std.proofs.Common.{◌∙◌, ◌+◌, ℕ, ap, refl, subst}
 use Rattle.lane_states.specs.declared.lane_state.LaneState.{LaneState}
 use Rattle.lane_states.specs.declared.opening.OpeningStep.{OpeningStep}
 use Rattle.lane_states.specs.LaneStates.{journal_of, part_of}
@@ -30,6 +30,7 @@ returns-in_ok-short-in-Asks-clause-asks g c =
       message = m;
       asks = a.asks;
       gone = gone-by x y z m _ _ (ap (λ (w : LaneState). w.last) c.in_ok-message.ensures.after) a.same c.in_ok-short-in-Asks.ensures.went;
+      next = c.in_ok-short-in-Asks.ensures.went.next ∙ ap (λ (i : ℕ). i + 1) (ap (λ (w : LaneState). w.last) c.in_ok-message.ensures.after);
       settled = subst (λ (i : ℕ). IsSettled (i + 1) (journal_of z) c.in_ok-short-in-Asks.short) (ap (λ (w : LaneState). w.last) c.in_ok-message.ensures.after) c.in_ok-short-in-Asks.ensures.settled;
       heard = c.in_ok-short-in-Asks.ensures.told;
       more = more-asked (part_of x d) (part_of y d) (part_of z d) m a.asks c.in_ok-short-in-Asks.ensures.told;

@@ -16,6 +16,7 @@ use Rattle.lane_states.proofs.RoundEnds.{owning-of, inside-of, owner-as, begun-o
 use Rattle.lane_states.proofs.Runs.{carried-decided}
 use Rattle.lane_states.proofs.Wanted.{begin-wanted}
 use Rattle.lane_states.specs.declared.rounds.RoundRun.{RoundRun}
+use Rattle.lane_states.proofs.Accepting.{accepted-changed}
 use Rattle.lane_states.proofs.lane_state.LaneState.begin_round.Goals as goal
 
 pub begin_step-requires-clause-owner : goal.begin_step-requires-clause-owner
@@ -94,7 +95,8 @@ returns-clause-keeps c =
     rw (c.push_within.ensures.past, c.version.ensures.value, c.from.ensures)
     (kept_more c.requires.keeps (c.parts_are_told.ensures.alike _ _ _ _ _ _ _ keep1 d (slice_set x.parts.items d q) p.asked p.awaited (Running c.in-Some-begin_step.ensures.some.at plan.receivers)
     (alike-at x.lane x.rules x.parts.items d p q here is p.asked p.awaited (Running c.in-Some-begin_step.ensures.some.at plan.receivers) c.in-Some-begin_step.ensures.some.after)
-    (part-others x.lane x.rules x.parts.items d q)) tt)
+    (part-others x.lane x.rules x.parts.items d q)) tt
+    (accepted-changed x.lane x.rules (journal_of x) x.parts.items d p q here is p.asked p.awaited (Running c.in-Some-begin_step.ensures.some.at plan.receivers) c.in-Some-begin_step.ensures.some.after c.requires.keeps.accepted))
 
 pub returns-clause-begins : goal.returns-clause-begins
 returns-clause-begins c =
@@ -152,7 +154,8 @@ returns-in_default-begin_step-clause-keeps c =
     let is : part_in x.lane x.rules x.parts.items d ≡ p = part-at x.lane x.rules x.parts.items d p here (rw c.from.ensures at c.index_mut-part.ensures.value) in
     rw c.from.ensures
     (kept_still c.requires.keeps (search rules) (c.parts_are_told.ensures.alike _ _ _ _ _ _ _ c.requires.keeps.keeps d (slice_set x.parts.items d q) 0 p.awaited Before
-    (alike-at x.lane x.rules x.parts.items d p q here is 0 p.awaited Before c.in_default-begin_step.ensures.none.after) (part-others x.lane x.rules x.parts.items d q)))
+    (alike-at x.lane x.rules x.parts.items d p q here is 0 p.awaited Before c.in_default-begin_step.ensures.none.after) (part-others x.lane x.rules x.parts.items d q))
+    (accepted-changed x.lane x.rules (journal_of x) x.parts.items d p q here is 0 p.awaited Before c.in_default-begin_step.ensures.none.after c.requires.keeps.accepted))
 
 pub returns-in_default-begin_step-clause-enough : goal.returns-in_default-begin_step-clause-enough
 returns-in_default-begin_step-clause-enough c =

@@ -15,6 +15,7 @@ use Rattle.lane_states.proofs.Kept.{kept_more}
 use Rattle.lane_states.proofs.Places.{part-at, part-others}
 use Rattle.lane_states.proofs.RoundEnds.{owner-place, begun-of, begins-by, run-by, begins-there, both-at, now-at, alike-at}
 use Rattle.lane_states.proofs.Runs.{carried-decided}
+use Rattle.lane_states.proofs.Accepting.{accepted-changed}
 use Rattle.lane_states.proofs.lane_state.LaneState.begin_round_at.Goals as goal
 
 pub begin_at-plan-requires-clause-heard : goal.begin_at-plan-requires-clause-heard
@@ -80,7 +81,8 @@ returns-clause-keeps c =
     rw (c.push_within.ensures.past, c.version.ensures.value, c.from.ensures)
     (kept_more c.requires.keeps (c.parts_are_told.ensures.alike _ _ _ _ _ _ _ keep1 d (slice_set x.parts.items d q) p.asked p.awaited (Running c.args.at plan.receivers)
     (alike-at x.lane x.rules x.parts.items d p q here is p.asked p.awaited (Running c.args.at plan.receivers) c.begin_at-plan.ensures.begins.after)
-    (part-others x.lane x.rules x.parts.items d q)) tt)
+    (part-others x.lane x.rules x.parts.items d q)) tt
+    (accepted-changed x.lane x.rules (journal_of x) x.parts.items d p q here is p.asked p.awaited (Running c.args.at plan.receivers) c.begin_at-plan.ensures.begins.after c.requires.keeps.accepted))
 
 pub returns-clause-begins : goal.returns-clause-begins
 returns-clause-begins c =

@@ -5,6 +5,7 @@ use Rattle.distributor_part.specs.Parts.{Part}
 use Rattle.node_journals.specs.NodeKeeping.{NodeKeeps}
 use Rattle.lane_keeping.specs.LaneKeeping.{node_in, part_in}
 use Rattle.lane_keeping.specs.Asking.{IsTakenBy}
+use Rattle.lane_journals.specs.Meanings.{history}
 use Rattle.lane_states.specs.LaneStates.{journal_of}
 use Rattle.lane_states.proofs.Kept.{kept_back, kept_runs}
 use Rattle.lane_states.proofs.LaneSteps.{past-length, has-room, node-at, taken-at}
@@ -12,6 +13,7 @@ use Rattle.lane_states.proofs.Places.{part-at}
 use Rattle.lane_states.proofs.Settled.{settled-back}
 use Rattle.lane_states.proofs.Telling.{heard-after, taken-told, told-to, heard-at, awaited-at}
 use Rattle.lane_states.proofs.NodeSpans.{go-back}
+use Rattle.lane_states.proofs.Accepting.{accepted-at, accepted-told}
 use Rattle.lane_states.proofs.lane_state.LaneState.bring_back.Goals as goal
 
 pub take-taken-requires-clause-room : goal.take-taken-requires-clause-room
@@ -50,7 +52,8 @@ returns-clause-keeps c =
     (slice_set x.nodes.items m.receiver c.take-taken.new.self) d (slice_set x.parts.items d q) c.requires.just (kept_runs c.requires.keeps m.receiver c.requires.receives)
     (taken-told x.nodes.items (slice_set x.nodes.items m.receiver c.take-taken.new.self) m c.take-taken.result.reply r (λ y z. c.nodes_refuse_for_memory.ensures.asks y z m c.take-taken.result.reply c.requires.asks.body_is) c.tell-reply.ensures.is taken)
     c.requires.asks
-    (told-to x.lane x.rules x.parts.items d p q m.receiver r here is (c.parts_are_told.ensures.told p q m.receiver r c.tell-reply.ensures.after))))
+    (told-to x.lane x.rules x.parts.items d p q m.receiver r here is (c.parts_are_told.ensures.told p q m.receiver r c.tell-reply.ensures.after)))
+    (accepted-at x.lane x.rules (journal_of x) x.parts.items d p q here is (accepted-told (history (journal_of x)) p q m.receiver r (c.parts_are_told.ensures.told p q m.receiver r c.tell-reply.ensures.after)) c.requires.keeps.accepted))
 
 pub returns-clause-dealt : goal.returns-clause-dealt
 returns-clause-dealt c = (c.tell-reply.result, rw (c.push_within-2.ensures.past, c.push_within.ensures.past) refl)

@@ -19,7 +19,7 @@ returns-clause-keeps c =
     rw c.push_within.ensures.past
     (kept_more c.deliver-reply.ensures.keeps (c.events_are_kept.ensures.returned b.lane b.rules (journal_of b) b.newest b.last b.nodes.items b.parts.items c.deliver-reply.ensures.keeps.keeps c.args.number c.args.message.now
     (rw c.deliver-reply.ensures.grows (c.messages_fly.ensures.stays _ _ _ _ just.flight)) (next-no-ask c.args.machine.now c.args.message.now c.requires.next)
-    (rw c.deliver-reply.ensures.grows (now-replied _ _ _ _ just)) (rw c.deliver-reply.ensures.grows just.unreturned)).keeps tt)
+    (rw c.deliver-reply.ensures.grows (now-replied _ _ _ _ just)) (rw c.deliver-reply.ensures.grows just.unreturned)).keeps tt c.deliver-reply.ensures.keeps.accepted)
 
 pub returns-clause-dealt : goal.returns-clause-dealt
 returns-clause-dealt c = (_, c.push_within.ensures.past ∙ ap (λ J. Returned c.args.number ∷ J) c.deliver-reply.ensures.grows)

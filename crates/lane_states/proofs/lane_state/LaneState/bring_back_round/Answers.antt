@@ -7,6 +7,8 @@ use Rattle.lane_states.specs.LaneStates.{journal_of}
 use Rattle.lane_states.proofs.Kept.{kept_back, kept_runs}
 use Rattle.lane_states.proofs.LaneSteps.{past-length, has-room, node-at, taken-at}
 use Rattle.lane_states.proofs.Running.{no-ask, taken-as, knows-as, runs-back, goes-back, reply-told, reply-left}
+use Rattle.lane_states.proofs.Settled.{settled-back}
+use Rattle.lane_states.proofs.Shortages.{told-short}
 use Rattle.lane_states.proofs.NodeSpans.{go-back}
 use Rattle.lane_states.proofs.lane_state.LaneState.bring_back_round.Goals as goal
 
@@ -36,7 +38,7 @@ returns-clause-keeps c =
     (kept_back c.requires.keeps (search rules) (c.events_are_kept.ensures.answered _ _ _ _ _ _ _ keep c.args.number m told.told.reply
     (slice_set x.nodes.items m.receiver c.take-taken.new.self) c.requires.awaited.just (kept_runs c.requires.keeps m.receiver c.requires.receives) (no-ask c.args.run.now.round m c.requires.awaited.is)
     (taken-as keep c.args.run.now c.tell_run-reply.new.run c.requires.runs c.args.number m c.take-taken.result.reply c.tell_run-reply.result (slice_set x.nodes.items m.receiver c.take-taken.new.self) c.requires.awaited taken told
-    (λ y u b h. c.nodes_refuse_for_memory.ensures.reads y u m c.take-taken.result.reply b h))))
+    (λ y u b h. c.nodes_refuse_for_memory.ensures.reads y u m c.take-taken.result.reply b h))) c.requires.keeps.accepted)
 
 pub returns-clause-runs : goal.returns-clause-runs
 returns-clause-runs c =
@@ -93,3 +95,8 @@ returns-clause-took c =
     (go-back (journal_of x) x.nodes.items (slice_set x.nodes.items m.receiver c.take-taken.new.self) c.args.number m told.told.reply c.requires.awaited.just.flight keep.nodes_are
     (taken-as keep c.args.run.now c.tell_run-reply.new.run c.requires.runs c.args.number m c.take-taken.result.reply c.tell_run-reply.result (slice_set x.nodes.items m.receiver c.take-taken.new.self) c.requires.awaited taken told
     (λ y u b h. c.nodes_refuse_for_memory.ensures.reads y u m c.take-taken.result.reply b h)))
+
+pub returns-clause-settled : goal.returns-clause-settled
+returns-clause-settled c had =
+    let told = told-short c.args.run.now c.tell_run-reply.new.run c.args.message.now.receiver c.take-taken.result.reply c.tell_run-reply.result had c.tell_run-reply.ensures in
+    rw (c.push_within-2.ensures.past, c.push_within.ensures.past, told) (settled-back c.args.number (journal_of c.args.self.now) c.tell_run-reply.result c.requires.awaited.just.unreplied)

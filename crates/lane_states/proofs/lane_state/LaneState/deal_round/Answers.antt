@@ -1,4 +1,9 @@
-use Rattle.std.proofs.Common.{refl, ap}
+use Rattle.std.proofs.Common.{List, false, refl, sym, ap, subst}
+use Rattle.lane_journals.specs.declared.event.LaneEvent.{LaneEvent}
+use Rattle.lane_states.specs.Growing.{IsSettled}
+use Rattle.lane_states.specs.Shortages.{wants_memory}
+use Rattle.lane_states.proofs.Settled.{settled-none}
+use Rattle.lane_states.proofs.Shortages.{settled-as, settled-again, had-not, had-still}
 use Rattle.lane_states.proofs.NodeSpans.{on-same, on-then}
 use Rattle.lane_states.specs.LaneStates.{journal_of}
 use Rattle.lane_states.specs.declared.lane_state.LaneState.{LaneState}
@@ -16,3 +21,27 @@ returns-in-Twice-clause-took c = on-then c.args.self.now c.bring_back_round-in-T
 
 pub returns-in-Late-clause-took : goal.returns-in-Late-clause-took
 returns-in-Late-clause-took c = on-same c.args.self.now c.keep_late.new.self (ap (λ (w : LaneState). journal_of w) c.keep_late.ensures.after) (λ n. ap (λ (w : LaneState). node_in w.nodes.items n) c.keep_late.ensures.after)
+
+pub returns-in-LoseRequest-clause-settled : goal.returns-in-LoseRequest-clause-settled
+returns-in-LoseRequest-clause-settled c had =
+    let x = c.args.self.now in
+    settled-as x.last (journal_of x) false (wants_memory c.bring_none_round.new.run) (had-not _ (had-still c.args.run.now c.bring_none_round.new.run c.bring_none_round.ensures.minds had)) (settled-none x.last (journal_of x) c.requires.awaited.just.unreturned)
+
+pub returns-in-LoseReply-clause-settled : goal.returns-in-LoseReply-clause-settled
+returns-in-LoseReply-clause-settled c had =
+    let x = c.args.self.now in
+    let e = c.deliver_round.new.self in
+    settled-as x.last (journal_of e) false (wants_memory c.bring_none_round-in-LoseReply.new.run) (had-not _ (had-still c.args.run.now c.bring_none_round-in-LoseReply.new.run c.bring_none_round-in-LoseReply.ensures.minds had))
+    (settled-again x.last x.last (journal_of x) (journal_of e) false c.deliver_round.ensures.grows (settled-none x.last (journal_of x) c.requires.awaited.just.unreturned))
+
+pub returns-in-Twice-clause-settled : goal.returns-in-Twice-clause-settled
+returns-in-Twice-clause-settled c had =
+    let x = c.args.self.now in
+    settled-again x.last x.last (journal_of c.bring_back_round-in-Twice.new.self) (journal_of c.deliver_round-in-Twice.new.self) (wants_memory c.bring_back_round-in-Twice.new.run) c.deliver_round-in-Twice.ensures.grows
+    (c.bring_back_round-in-Twice.ensures.settled had)
+
+pub returns-in-Late-clause-settled : goal.returns-in-Late-clause-settled
+returns-in-Late-clause-settled c had =
+    let x = c.args.self.now in
+    settled-as x.last (journal_of c.keep_late.new.self) false (wants_memory c.bring_none_round-in-Late.new.run) (had-not _ (had-still c.args.run.now c.bring_none_round-in-Late.new.run c.bring_none_round-in-Late.ensures.minds had))
+    (subst (λ (J : List LaneEvent). IsSettled x.last J false) (sym (ap (λ (w : LaneState). journal_of w) c.keep_late.ensures.after)) (settled-none x.last (journal_of x) c.requires.awaited.just.unreturned))

@@ -21,6 +21,7 @@ use Rattle.lane_states.proofs.Places.{part-at, part-own, part-others}
 use Rattle.lane_states.proofs.Refusals.{refusals-decided}
 use Rattle.lane_states.proofs.RoundEnds.{both-at, alike-at, others-then, ended-as, over-owning, over-inside, end-by, none-then, answers-as, same-row}
 use Rattle.lane_states.proofs.Runs.{carried-decided}
+use Rattle.lane_states.proofs.Accepting.{accepted-at, accepted-alike, accepted-ended}
 use Rattle.lane_states.proofs.lane_state.LaneState.end_round.Goals as goal
 
 pub tell_over-requires : goal.tell_over-requires
@@ -134,7 +135,10 @@ returns-clause-keeps c =
     let keep3 = c.parts_are_told.ensures.alike _ _ _ _ _ _ _ keep2 d parts3 0 None Before
     (part-own x.lane x.rules x.parts.items d q here ∙ ends.after ∙ ap (λ (z : Part). record z { asked = 0; awaited = None; stage = Before }) (sym (part-own x.lane x.rules x.parts.items d ends.ended here)))
     (others-then x.lane x.rules x.parts.items d ends.ended q) in
-    rw (c.push_within.ensures.past, c.version.ensures.value, c.row.ensures, c.holders.ensures, c.from.ensures) (kept_more c.requires.keeps keep3 tt)
+    rw (c.push_within.ensures.past, c.version.ensures.value, c.row.ensures, c.holders.ensures, c.from.ensures) (kept_more c.requires.keeps keep3 tt
+    (accepted-at x.lane x.rules (journal_of x) x.parts.items d p q here is (λ a. accepted-alike (history (journal_of x)) ends.ended q (ap (λ (z : Part). z.state) ends.after) (ap (λ (z : Part). z.rows) ends.after)
+    (accepted-ended (history (journal_of x)) over ends.ended b h (ended-as p over q y c.end_step-row.result run told ends)
+    (accepted-alike (history (journal_of x)) p over (ap (λ (z : Part). z.state) told.after) (ap (λ (z : Part). z.rows) told.after) a))) c.requires.keeps.accepted))
 
 pub returns-clause-grows : goal.returns-clause-grows
 returns-clause-grows c =

@@ -5,6 +5,7 @@ use Rattle.lane_states.specs.LaneStates.{journal_of, part_of}
 use Rattle.lane_states.specs.Openings.{EndsAsking, StopsAfter, EndsOpening}
 use Rattle.lane_states.proofs.Staying.{stays-ended, stays-stopped, RunsAs, IsIdleIn, runs-stay, runs-opened, idle-stays, idle-opened}
 use Rattle.lane_states.proofs.Askings.{rests-ended, rests-stopped}
+use Rattle.lane_states.proofs.Shortages.{none-same, once-same}
 use Rattle.lane_states.proofs.NodeSpans.{on-same, on-then}
 use Rattle.lane_keeping.specs.LaneKeeping.{node_in}
 use Rattle.lane_states.proofs.lane_state.LaneState.open_state.Goals as goal
@@ -88,3 +89,21 @@ returns-in-Err-clause-took g c =
     let y = c.ask_all.new.self in
     let e = c.give_up-in-Err.new.self in
     on-then c.args.self.now y e c.in-Err.ensures.took (on-same y e (ap (λ (w : LaneState). journal_of w) c.give_up-in-Err.ensures.after) (λ n. ap (λ (w : LaneState). node_in w.nodes.items n) c.give_up-in-Err.ensures.after))
+
+pub returns-in-Ok-clause-none_is_short : goal.returns-in-Ok-clause-none_is_short
+returns-in-Ok-clause-none_is_short g c it =
+    let y = c.ask_all.new.self in
+    let e = c.give_up.new.self in
+    none-same c.args.self.now.last y.last e.last (journal_of y) (journal_of e) (ap (λ (w : LaneState). w.last) c.give_up.ensures.after) (ap (λ (w : LaneState). journal_of w) c.give_up.ensures.after) (c.in-Ok.ensures.none_is_short it)
+
+pub returns-in-Ok-clause-at_once : goal.returns-in-Ok-clause-at_once
+returns-in-Ok-clause-at_once g c it =
+    let y = c.ask_all.new.self in
+    let e = c.give_up.new.self in
+    once-same c.args.self.now.last y.last e.last (journal_of y) (journal_of e) (ap (λ (w : LaneState). w.last) c.give_up.ensures.after) (ap (λ (w : LaneState). journal_of w) c.give_up.ensures.after) (c.in-Ok.ensures.at_once it)
+
+pub returns-in-Err-clause-at_once : goal.returns-in-Err-clause-at_once
+returns-in-Err-clause-at_once g c it =
+    let y = c.ask_all.new.self in
+    let e = c.give_up-in-Err.new.self in
+    once-same c.args.self.now.last y.last e.last (journal_of y) (journal_of e) (ap (λ (w : LaneState). w.last) c.give_up-in-Err.ensures.after) (ap (λ (w : LaneState). journal_of w) c.give_up-in-Err.ensures.after) (c.in-Err.ensures.at_once it)

@@ -8,6 +8,7 @@ use Rattle.lane_states.specs.LaneStates.{journal_of, part_of}
 use Rattle.lane_states.specs.RoundRuns.{IsCutOff, IsRunBy, EndsRun}
 use Rattle.lane_states.proofs.RoundEnds.{run-by-goes, whole-of, cut-of}
 use Rattle.lane_states.proofs.Runs.{runs-carried}
+use Rattle.lane_states.proofs.Shortages.{none-ended, once-ended}
 use Rattle.lane_states.proofs.Wanted.{whole-wanted, cut-wanted}
 use Rattle.lane_states.proofs.NodeSpans.{on-event, on-then}
 use Rattle.lane_keeping.specs.LaneKeeping.{node_in}
@@ -163,3 +164,24 @@ returns-in-Err-clause-took g c =
     let e = c.send_all-sent.new.self in
     let f = c.end_round-end.new.self in
     on-then x e f c.send_all-sent.ensures.took (on-event e f _ tt c.end_round-end.ensures.grows (λ n. ap (λ (w : LaneState). node_in w.nodes.items n) c.end_round-end.ensures.after))
+
+pub returns-in-Ok-clause-at_once : goal.returns-in-Ok-clause-at_once
+returns-in-Ok-clause-at_once g c it had =
+    let x = c.args.self.now in
+    let e = c.send_all-sent.new.self in
+    let f = c.end_round-end.new.self in
+    once-ended x.last e.last f.last (journal_of e) (journal_of f) (ap (λ (z : LaneState). z.last) c.end_round-end.ensures.after) _ _ _ c.end_round-end.ensures.grows (c.send_all-sent.ensures.at_once it had)
+
+pub returns-in-Err-clause-at_once : goal.returns-in-Err-clause-at_once
+returns-in-Err-clause-at_once g c it had =
+    let x = c.args.self.now in
+    let e = c.send_all-sent.new.self in
+    let f = c.end_round-end.new.self in
+    once-ended x.last e.last f.last (journal_of e) (journal_of f) (ap (λ (z : LaneState). z.last) c.end_round-end.ensures.after) _ _ _ c.end_round-end.ensures.grows (c.send_all-sent.ensures.at_once it had)
+
+pub returns-in-Ok-clause-none_is_short : goal.returns-in-Ok-clause-none_is_short
+returns-in-Ok-clause-none_is_short g c it had =
+    let x = c.args.self.now in
+    let e = c.send_all-sent.new.self in
+    let f = c.end_round-end.new.self in
+    none-ended x.last e.last f.last (journal_of e) (journal_of f) (ap (λ (z : LaneState). z.last) c.end_round-end.ensures.after) _ _ _ c.end_round-end.ensures.grows (c.in-Ok.ensures.none_is_short it had)

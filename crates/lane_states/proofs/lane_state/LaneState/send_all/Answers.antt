@@ -1,16 +1,18 @@
-use Rattle.std.proofs.Common.{◌∙◌, ap, refl, subst}
+use Rattle.std.proofs.Common.{◌∙◌, false, ap, refl, sym, subst}
 use Rattle.bucket_ids.specs.Buckets.{Low}
 use Rattle.lane_states.specs.declared.lane_state.LaneState.{LaneState}
 use Rattle.lane_states.specs.LaneStates.{journal_of}
 use Rattle.lane_states.specs.RoundRuns.{IsRunning}
+use Rattle.lane_states.specs.Shortages.{wants_memory}
+use Rattle.lane_states.proofs.Shortages.{not-ended, had-as, settled-as, none-nothing, none-step, once-step, none-idle, once-none}
 use Rattle.lane_states.proofs.Running.{goes-none, goes-on}
 use Rattle.lane_states.proofs.RoundTelling.{cut-as}
 use Rattle.lane_states.proofs.Runs.{runs-nothing, runs-then, runs-of, runs-numbered}
 use Rattle.lane_states.proofs.NodeSpans.{on-same, on-then}
 use Rattle.lane_states.proofs.lane_state.LaneState.send_all.Goals as goal
 
-pub loop-init : goal.loop-init
-loop-init g c =
+pub sending-init : goal.sending-init
+sending-init g c =
     record {
       keeps = c.requires.keeps;
       took = on-same c.args.self.now c.args.self.now refl (λ n. refl);
@@ -22,12 +24,14 @@ loop-init g c =
       numbered = c.requires.numbered;
       on = runs-nothing _ _ _ _ _ _ _;
       same = goes-none _;
+      fine = λ it had. had;
+      none_is_short = λ it had. none-nothing _ _ _ refl;
       after = refl;
     }
 
-pub loop-preserved : goal.loop-preserved
-loop-preserved g c =
-    let l = c.loop in
+pub sending-preserved : goal.sending-preserved
+sending-preserved g c =
+    let l = c.sending in
     let e = c.step_round.new.self in
     let n = c.in_ok-step_round.ensures in
     record {
@@ -42,32 +46,79 @@ loop-preserved g c =
       on = runs-then _ _ _ _ _ _ _ _ _ _ _ _ _ _ _ l.invariant.on
           (runs-of l.self.lane c.args.self.now.lane l.run c.args.run.now _ _ _ _ _ _ _ _ (ap (λ (z : LaneState). z.lane) l.invariant.after) l.invariant.same n.on);
       same = goes-on _ _ _ l.invariant.same n.same;
+      fine = λ it had. had-as c.step_round.new.run (sym c.wants_memory.ensures ∙ not-ended c.args.at_shortage c.wants_memory.result (sym c.if-ends.ensures) it);
+      none_is_short = λ it had. none-step l.self.lane l.run.distributor l.run.state _ _ c.args.self.now.last l.self.last e.last _ _ (journal_of l.self) (journal_of e) n.on (l.invariant.none_is_short it had) (n.next c.if-branch.true)
+          (settled-as e.last (journal_of e) (wants_memory c.step_round.new.run) false (sym (sym c.wants_memory.ensures ∙ not-ended c.args.at_shortage c.wants_memory.result (sym c.if-ends.ensures) it)) (n.settled c.if-branch.true (l.invariant.fine it had)));
       after = n.after ∙ ap (λ (z : LaneState). record z { journal = e.journal; nodes = e.nodes; late = e.late; last = e.last }) l.invariant.after;
     }
 
 pub returns-in_err-step_round-clause-on : goal.returns-in_err-step_round-clause-on
 returns-in_err-step_round-clause-on g c =
-    let l = c.loop in
+    let l = c.sending in
     let e = c.step_round.new.self in
     runs-then _ _ _ _ _ _ _ _ _ _ _ _ _ _ _ l.invariant.on
     (runs-of l.self.lane c.args.self.now.lane l.run c.args.run.now _ _ _ _ _ _ _ _ (ap (λ (z : LaneState). z.lane) l.invariant.after) l.invariant.same c.in_err-step_round.ensures.on)
 
 pub returns-clause-on : goal.returns-clause-on
 returns-clause-on g c =
-    let l = c.loop in
+    let l = c.sending in
     let e = c.step_round.new.self in
     runs-then _ _ _ _ _ _ _ _ _ _ _ _ _ _ _ l.invariant.on
     (runs-of l.self.lane c.args.self.now.lane l.run c.args.run.now _ _ _ _ _ _ _ _ (ap (λ (z : LaneState). z.lane) l.invariant.after) l.invariant.same c.in_ok-step_round.ensures.on)
 
 pub returns-clause-cut : goal.returns-clause-cut
 returns-clause-cut g c =
-    let l = c.loop in
+    let l = c.sending in
     let e = c.step_round.new.self in
     let y = c.step_round.new.run in
     cut-as c.args.self.now.lane (journal_of e) y y.round (subst (λ (k : Low). IsRunning k (journal_of e) y) (ap (λ (z : LaneState). z.lane) l.invariant.after) c.in_ok-step_round.ensures.runs) refl
 
 pub returns-in_err-step_round-clause-took : goal.returns-in_err-step_round-clause-took
-returns-in_err-step_round-clause-took g c = on-then c.args.self.now c.loop.self c.step_round.new.self c.loop.invariant.took c.in_err-step_round.ensures.took
+returns-in_err-step_round-clause-took g c = on-then c.args.self.now c.sending.self c.step_round.new.self c.sending.invariant.took c.in_err-step_round.ensures.took
 
 pub returns-clause-took : goal.returns-clause-took
-returns-clause-took g c = on-then c.args.self.now c.loop.self c.step_round.new.self c.loop.invariant.took c.in_ok-step_round.ensures.took
+returns-clause-took g c = on-then c.args.self.now c.sending.self c.step_round.new.self c.sending.invariant.took c.in_ok-step_round.ensures.took
+
+pub returns-clause-fine : goal.returns-clause-fine
+returns-clause-fine g c it had = c.in_ok-step_round.ensures.minds c.if-branch.false (c.sending.invariant.fine it had)
+
+pub returns-clause-none_is_short : goal.returns-clause-none_is_short
+returns-clause-none_is_short g c it had =
+    let l = c.sending in
+    let e = c.step_round.new.self in
+    let n = c.in_ok-step_round.ensures in
+    none-idle l.self.lane l.run.distributor l.run.state _ _ c.args.self.now.last l.self.last e.last _ _ (journal_of l.self) (journal_of e) n.on (l.invariant.none_is_short it had) (n.still c.if-branch.false)
+
+pub returns-clause-at_once : goal.returns-clause-at_once
+returns-clause-at_once g c it had = once-none _ _ _ (returns-clause-none_is_short g c it had)
+
+pub returns-in_err-step_round-clause-at_once : goal.returns-in_err-step_round-clause-at_once
+returns-in_err-step_round-clause-at_once g c it had =
+    let l = c.sending in
+    let e = c.step_round.new.self in
+    let n = c.in_err-step_round.ensures in
+    once-none _ _ _ (none-idle l.self.lane l.run.distributor l.run.state _ _ c.args.self.now.last l.self.last e.last _ _ (journal_of l.self) (journal_of e) n.on (l.invariant.none_is_short it had) n.unsent)
+
+pub returns-then-ends-clause-on : goal.returns-then-ends-clause-on
+returns-then-ends-clause-on g c =
+    let l = c.sending in
+    let e = c.step_round.new.self in
+    runs-then _ _ _ _ _ _ _ _ _ _ _ _ _ _ _ l.invariant.on
+    (runs-of l.self.lane c.args.self.now.lane l.run c.args.run.now _ _ _ _ _ _ _ _ (ap (λ (z : LaneState). z.lane) l.invariant.after) l.invariant.same c.in_ok-step_round.ensures.on)
+
+pub returns-then-ends-clause-cut : goal.returns-then-ends-clause-cut
+returns-then-ends-clause-cut g c =
+    let l = c.sending in
+    let e = c.step_round.new.self in
+    let y = c.step_round.new.run in
+    cut-as c.args.self.now.lane (journal_of e) y y.round (subst (λ (k : Low). IsRunning k (journal_of e) y) (ap (λ (z : LaneState). z.lane) l.invariant.after) c.in_ok-step_round.ensures.runs) refl
+
+pub returns-then-ends-clause-took : goal.returns-then-ends-clause-took
+returns-then-ends-clause-took g c = on-then c.args.self.now c.sending.self c.step_round.new.self c.sending.invariant.took c.in_ok-step_round.ensures.took
+
+pub returns-then-ends-clause-at_once : goal.returns-then-ends-clause-at_once
+returns-then-ends-clause-at_once g c it had =
+    let l = c.sending in
+    let e = c.step_round.new.self in
+    let n = c.in_ok-step_round.ensures in
+    once-step l.self.lane l.run.distributor l.run.state _ _ c.args.self.now.last l.self.last e.last _ _ (journal_of l.self) (journal_of e) n.on (l.invariant.none_is_short it had) (n.next c.if-branch.true)

@@ -1,4 +1,4 @@
-use Rattle.std.proofs.Common.{◌+◌, ◌∷◌, ℕ, List, ap, sym, subst}
+use Rattle.std.proofs.Common.{◌≡◌, ◌∙◌, ◌+◌, ◌∷◌, ℕ, List, ap, sym, subst}
 use Rattle.bucket_ids.specs.Buckets.{Low}
 use Rattle.merge_rounds.specs.Rounds.{RoundState}
 use Rattle.late_messages.specs.Waiting.{AreSentBefore}
@@ -9,12 +9,15 @@ use Rattle.lane_keeping.specs.LaneKeeping.{setting_of, node_in}
 use Rattle.lane_rounds.specs.RoundKeeping.{KnowsRound, IsAwaited}
 use Rattle.lane_states.specs.declared.lane_state.LaneState.{LaneState}
 use Rattle.lane_states.specs.LaneStates.{journal_of}
+use Rattle.lane_states.specs.Growing.{IsSettled}
+use Rattle.lane_states.specs.Shortages.{wants_memory}
 use Rattle.lane_states.specs.RoundRuns.{IsRunning}
 use Rattle.lane_states.proofs.Going.{IsSentIn, went-by}
 use Rattle.lane_states.proofs.Running.{running-sent, running-all}
 use Rattle.lane_states.proofs.RoundTelling.{next-small, sent-rest}
 use Rattle.lane_states.proofs.Runs.{runs-once}
 use Rattle.lane_states.proofs.NodeSpans.{on-event, on-then}
+use Rattle.lane_states.proofs.Settled.{settled-delivered}
 use Rattle.lane_states.proofs.lane_state.LaneState.send_round.Goals as goal
 
 pub send_message-requires-clause-legal : goal.send_message-requires-clause-legal
@@ -95,3 +98,18 @@ returns-clause-took g c =
     let e = c.deliver_due.new.self in
     on-then x d e (on-then x b d (on-event x b (sending (x.last + 1) c.args.message) tt c.send_message.ensures.grows (λ n. ap (λ (w : LaneState). node_in w.nodes.items n) c.send_message.ensures.after)) c.deal_round.ensures.took)
     c.deliver_due.ensures.took
+
+pub returns-clause-settled : goal.returns-clause-settled
+returns-clause-settled g c had =
+    let b = c.send_message.new.self in
+    let d = c.deal_round.new.self in
+    let e = c.deliver_due.new.self in
+    let short = wants_memory c.deal_round.new.run in
+    let same : e.last ≡ b.last = ap (λ (z : LaneState). z.last) c.deliver_due.ensures.after ∙ ap (λ (z : LaneState). z.last) c.deal_round.ensures.after in
+    subst (λ (i : ℕ). IsSettled i (journal_of e) short) (sym same)
+    (settled-delivered b.last _ (journal_of d) (journal_of e) short c.deliver_due.ensures.due.delivered (c.deal_round.ensures.settled had))
+
+pub returns-clause-next : goal.returns-clause-next
+returns-clause-next g c =
+    let b = c.send_message.new.self in
+    ap (λ (z : LaneState). z.last) c.deliver_due.ensures.after ∙ ap (λ (z : LaneState). z.last) c.deal_round.ensures.after ∙ ap (λ (z : LaneState). z.last) c.send_message.ensures.after

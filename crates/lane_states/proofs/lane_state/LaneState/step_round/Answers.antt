@@ -1,4 +1,4 @@
-use Rattle.std.proofs.Common.{◌≡◌, List, Option, ap, refl, sym, subst}
+use Rattle.std.proofs.Common.{◌≡◌, ◌∙◌, ◌+◌, ℕ, List, Option, ap, refl, sym, subst}
 use Rattle.bucket_ids.specs.Buckets.{Low}
 use Rattle.messages.specs.declared.message.Message.{Message}
 use Rattle.merge_rounds.specs.Rounds.{IsNext, after_send}
@@ -81,3 +81,21 @@ pub returns-clause-took : goal.returns-clause-took
 returns-clause-took g c =
     on-then c.args.self.now c.room_for_message.new.self c.send_round.new.self (on-same c.args.self.now c.room_for_message.new.self (rw c.in_ok-room_for_message.ensures.same refl) c.in_ok-room_for_message.ensures.nodes)
     c.send_round.ensures.took
+
+pub returns-clause-settled : goal.returns-clause-settled
+returns-clause-settled g c e had = c.send_round.ensures.settled (record { read = had.read; applied = had.applied })
+
+pub returns-clause-next : goal.returns-clause-next
+returns-clause-next g c e = c.send_round.ensures.next ∙ ap (λ (n : ℕ). n + 1) (ap (λ (z : LaneState). z.last) c.in_ok-room_for_message.ensures.after)
+
+pub returns-in_default-clause-minds : goal.returns-in_default-clause-minds
+returns-in_default-clause-minds g c e had = record { read = had.read; applied = had.applied }
+
+pub returns-in_err-message-clause-unsent : goal.returns-in_err-message-clause-unsent
+returns-in_err-message-clause-unsent g c = on-err c.from_residual.result _ refl
+
+pub returns-in_err-body-clause-unsent : goal.returns-in_err-body-clause-unsent
+returns-in_err-body-clause-unsent g c = on-err c.from_residual-in_err-body.result _ refl
+
+pub returns-in_err-room_for_message-clause-unsent : goal.returns-in_err-room_for_message-clause-unsent
+returns-in_err-room_for_message-clause-unsent g c = on-err c.from_residual-in_err-room_for_message.result _ (ap (λ (z : LaneState). z.last) c.in_err-room_for_message.ensures.after)

@@ -1,0 +1,16 @@
+use Rattle.std.proofs.Common.{rules}
+use Rattle.lane_upkeep.proofs.Resting.{rests-if}
+use Rattle.lane_upkeep.proofs.maintaining.maintain.Goals as goal
+
+pub returns-clause-rests : goal.returns-clause-rests
+returns-clause-rests g c =
+    rests-if c.make_pass.result _ _
+    (λ does. c.passes_bring_rest.ensures c.args.lane.now c.open_owner.new.lane c.make_pass.new.lane c.args.owner.now (g.C.Carrier.given c.open_owner.new.carrier) (g.C.Carrier.given c.make_pass.new.carrier) (record {
+      newest = c.requires.newest;
+      opening = c.open_owner.ensures.on;
+      between = search rules;
+      whole = c.rows_are_whole.ensures.whole;
+      pass = c.make_pass.ensures.on;
+      passing = c.make_pass.ensures.passing;
+      does = does;
+    })) c.make_pass.ensures.quiet

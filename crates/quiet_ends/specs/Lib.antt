@@ -1,0 +1,2 @@
+-- What a caller needs: `Ending`.
+pub mod Ending
