@@ -1,8 +1,9 @@
-ghost use Rattle.std.specs.Prelude.{◌≡◌, ◌++◌, ◌≤◌, ◌^◌, ℕ, List, IfOk, OnOk, OnErr, Some, option_map};
+ghost use Rattle.std.specs.Prelude.{◌≡◌, ◌++◌, ◌≤◌, ◌^◌, ℕ, List, IfOk, OnOk, OnErr, IfSome, Some, true, option_map};
+ghost use Rattle.std.specs.List.{All};
 ghost use Rattle.std.specs.FinMap as fin;
 ghost use Rattle.entry_maps.specs.Chunks.{place, AreSome, AreRows, IsSeat, flat_of, flat_before, flat_behind};
 ghost use Rattle.entry_maps.specs.Entries.{newer_of};
-ghost use Rattle.entry_maps.specs.Merging.{newer_slot, merged, next_of};
+ghost use Rattle.entry_maps.specs.Merging.{newer_slot, merged, next_of, IsAsNew, HasAsNew};
 ghost use Rattle.entry_maps.specs.Slots.{IsCounted, IsStored, slots_in, entries_of};
 
 use crate::chunks::{Chunks, Spot};
@@ -73,6 +74,20 @@ fn next_of<'a>(one: Option<&'a Slot>, two: Option<&'a Slot>) -> Option<Taken<'a>
             other: true,
         }),
         (None, None) => None,
+    }
+}
+
+/// Whether an own slot is of the same document as another map's one, which is not newer; none where the other one
+/// is newer or stands below.
+fn passes(own: &Slot, theirs: &Slot) -> Option<bool>
+    ensures { IfSome result (λ same. same ≡ true → IsAsNew own.now theirs.now) }
+{
+    let one = own.entry.entry();
+    let two = theirs.entry.entry();
+    match own.order(theirs.path, two.id.text()) {
+        Ordering::Less => Some(false),
+        Ordering::Equal if !one.stamp.is_before(two.stamp) => Some(true),
+        _ => None,
     }
 }
 
@@ -157,8 +172,33 @@ impl Stored {
         Ok(())
     }
 
+    /// Whether each entry of another map, whose first slot is lent, is here with the same or a greater stamp, so
+    /// that a merge changes nothing. Both lists are walked side by side, to the first entry that is newer.
+    fn has_as_new(&self, other: &Stored, first: &Slot) -> bool
+        requires own { IsStored self.now }
+        requires other { IsStored other.now }
+        ensures { result ≡ true → All (HasAsNew (slots_in self.now)) (slots_in other.now) }
+    {
+        let from = self
+            .list
+            .first_from(first.path, first.entry.entry().id.text());
+        let mut one = self.list.settled(from);
+        let mut two = other.list.first();
+        while let Some(theirs) = other.list.slot(two) {
+            let Some(own) = self.list.slot(one) else {
+                return false;
+            };
+            let Some(same) = passes(own, theirs) else {
+                return false;
+            };
+            one = self.list.next(one);
+            two = other.list.next_if(two, same);
+        }
+        true
+    }
+
     /// Takes the entries of another map that are newer; rows that lie apart from the other map's entries stay
-    /// as they are. The only error is want of memory.
+    /// as they are, and all where no entry is newer. The only error is want of memory.
     pub fn merge(&mut self, alloc: Global, other: &Stored) -> Result<(), NoMemory>
         requires stored { IsStored self.old }
         requires other { IsStored other.now }
@@ -171,6 +211,9 @@ impl Stored {
         let Some(first) = other.list.slot(other.list.first()) else {
             return Ok(());
         };
+        if self.has_as_new(other, first) {
+            return Ok(());
+        }
         let rows = self.list.rows_about(first, other.list.last());
         let part = self.rows_copied(alloc, rows)?;
         let both = part.merged(alloc, other)?;

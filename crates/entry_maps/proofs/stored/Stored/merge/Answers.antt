@@ -5,7 +5,7 @@ use Rattle.entry_maps.specs.Chunks.{flat_before, flat_behind, flat_of}
 use Rattle.entry_maps.specs.Entries.{newer_of}
 use Rattle.entry_maps.specs.Merging.{merged}
 use Rattle.entry_maps.specs.Slots.{slots_in, entries_of}
-use Rattle.entry_maps.proofs.MergeLaws.{kept_merged, get_merged}
+use Rattle.entry_maps.proofs.MergeLaws.{kept_merged, get_merged, get_same}
 use Rattle.entry_maps.proofs.RowLaws.{in_three, merged_between}
 use Rattle.entry_maps.proofs.SlotLists.{get-entries_of}
 use Rattle.entry_maps.proofs.stored.Stored.merge.Goals as goal
@@ -30,6 +30,9 @@ returns-in_default-clause-ok c q =
     let ys = slots_in c.args.other.now in
     let none : ys ≡ [] = nil_from_length ys (sym c.in_default.ensures.none ∙ c.first.ensures.first) in
     sym (ap (newer_of (fin.get (entries_of (slots_in c.args.self.now)) q)) (ap (λ l. fin.get (entries_of l) q) none ∙ get-entries_of [] q))
+
+pub returns-then-has_as_new-clause-ok : goal.returns-then-has_as_new-clause-ok
+returns-then-has_as_new-clause-ok c q = get_same (slots_in c.args.self.now) (slots_in c.args.other.now) q (c.has_as_new.ensures c.if-has_as_new.true)
 
 pub returns-clause-ok : goal.returns-clause-ok
 returns-clause-ok c q = rw (whole c) (get_merged (slots_in c.args.self.now) (slots_in c.args.other.now) q c.requires.stored.kept c.requires.other.kept)
