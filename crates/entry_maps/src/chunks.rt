@@ -9,7 +9,7 @@ use crate::slots::{Slot, first_from};
 use document_ids::DocId;
 use std::alloc::Global;
 
-/// Slots in order, in rows; one that grows past 512 slots is cut in two where there is memory.
+/// Slots in order, in rows; one that grows past 128 slots is cut in two where there is memory.
 #[derive(Drop)]
 pub struct Chunks {
     pub rows: Vec<Vec<Slot>>,

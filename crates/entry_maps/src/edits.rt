@@ -7,6 +7,16 @@ use crate::slots::Slot;
 use std::alloc::Global;
 use value_lists::NoMemory;
 
+/// How many slots a row may have: one that grows past this is cut in two. An insert moves the slots behind it in
+/// its row, so rows are short.
+const MOST: usize = 128;
+
+/// How many slots stay in a row that is cut in two.
+const CUT_AT: usize = 64;
+
+/// How many slots are laid in a new row, so that more find room there before it is cut.
+pub const LAID: usize = 96;
+
 impl Chunks {
     /// Puts another slot at a seat.
     pub fn replace(&mut self, seat: Spot, slot: Slot)
@@ -46,18 +56,18 @@ impl Chunks {
         Ok(())
     }
 
-    /// Cuts a row of more than 256 slots in two, where there is memory for that.
+    /// Cuts a row of more than `CUT_AT` slots in two, where there is memory for that.
     fn halve(&mut self, row: usize)
         requires some { AreSome self.old }
         requires row { row < length self.old.rows.items }
-        requires long { HoldsAt (λ r. 256 < length r.items) self.old.rows.items row }
+        requires long { HoldsAt (λ r. 64 < length r.items) self.old.rows.items row }
         ensures slots { flat self.new ≡ flat self.old }
         ensures some { AreSome self.new }
     {
         let Ok(()) = self.rows.reserve(1) else {
             return;
         };
-        let Ok(tail) = self.rows[row].split_off(256) else {
+        let Ok(tail) = self.rows[row].split_off(CUT_AT) else {
             return;
         };
         match self.rows.insert(row + 1, tail) {
@@ -79,7 +89,7 @@ impl Chunks {
             return self.begin(alloc, slot);
         }
         self.insert_in(spot, slot)?;
-        if self.rows[spot.row].len() > 512 {
+        if self.rows[spot.row].len() > MOST {
             self.halve(spot.row);
         }
         Ok(())

@@ -3,8 +3,8 @@
 //! An `Entry` is a stamp with a document or with a remove. A contract sees an `EntryMap` as the finite
 //! map of std's from the text of an id to its entry (`Entries`). Inside, entries are shared and lie in
 //! the order of their keys' bits turned round, so that each bucket is one run (`specs/Slots.antt`), in
-//! rows of some hundreds (`specs/Chunks.antt`). A merge makes new rows only of those among which the other
-//! map's entries lie; the rows before and behind them stay.
+//! rows of about a hundred (`specs/Chunks.antt`). A merge makes new rows only of those among which the other
+//! map's entries lie; the rows before and behind them stay, and all where no entry of the other map is newer.
 //!
 //! ```text
 //! let mut map = EntryMap::new(alloc);

@@ -7,6 +7,7 @@ ghost use Rattle.entry_maps.specs.Merging.{newer_slot, merged, next_of, IsAsNew,
 ghost use Rattle.entry_maps.specs.Slots.{IsCounted, IsStored, slots_in, entries_of};
 
 use crate::chunks::{Chunks, Spot};
+use crate::edits::LAID;
 use crate::rows::Rows;
 use crate::slots::Slot;
 use crate::stored::Stored;
@@ -95,7 +96,7 @@ fn passes(own: &Slot, theirs: &Slot) -> Option<bool>
 fn row_length(slots: usize) -> usize
     requires { slots ≤ 2 ^ 63 }
 {
-    let rows = slots / 384 + 1;
+    let rows = slots / LAID + 1;
     slots / rows + 1
 }
 
@@ -107,7 +108,7 @@ impl Stored {
         ensures counted { OnOk result (IsCounted self.new) }
     {
         for slot in slots {
-            self.append(alloc, 384, slot.copy(alloc)?)?;
+            self.append(alloc, LAID, slot.copy(alloc)?)?;
         }
         Ok(())
     }

@@ -6,6 +6,7 @@ ghost use Rattle.entry_maps.specs.Runs.{IsRun, IsWhole};
 ghost use Rattle.entry_maps.specs.Slots.{IsCounted, IsStored, slots_in, entries_of};
 
 use crate::chunks::Spot;
+use crate::edits::LAID;
 use crate::stored::Stored;
 use bucket_ids::Bucket;
 use bucket_ids::laws::buckets_are_runs;
@@ -59,7 +60,7 @@ impl Stored {
         let mut part = Stored::new(alloc);
         let mut seat = run.from;
         for _ in 0..run.entries {
-            part.append(alloc, 384, self.list.at(seat).copy(alloc)?)?;
+            part.append(alloc, LAID, self.list.at(seat).copy(alloc)?)?;
             seat = self.list.next(seat);
         }
         Ok(part)
