@@ -151,6 +151,28 @@ module _ {R X : Type 0} (f : R → List X) (rs : List R) (i : ℕ) (d : R) (lt :
       ∙ sym (append_assoc front (take a row) (drop a row ++ back)) in
       ap (drop (length front + a)) parts ∙ drop_at (front ++ take a row) (drop a row ++ back) (length front + a) (omega (arith, length-append front (take a row), length-take-le a row le))
 
+-- the first of two lists together: what the first list has of them, and the rest from the second
+pub take_two : {X : Type 0} (xs ys : List X) (n many rest : ℕ) → n ≡ many + rest → many ≤ length xs → (many < length xs → rest ≡ 0) → take n (xs ++ ys) ≡ take many xs ++ take rest ys
+take_two [] ys n zero rest is le none = ap (λ k. take k ys) (omega (arith, is))
+take_two [] ys n (suc many) rest is le none = absurd (omega (arith, le))
+take_two (x ∷ xs) ys n zero rest is le none =
+    let no : rest ≡ 0 = none (omega arith) in
+    ap (λ k. take k (x ∷ xs ++ ys)) (let e : n ≡ 0 = omega (arith, is, no) in e) ∙ ap (λ k. take k ys) (sym no)
+take_two (x ∷ xs) ys zero (suc many) rest is le none = absurd (omega (arith, is))
+take_two (x ∷ xs) ys (suc n) (suc many) rest is le none = ap (λ l. x ∷ l) (take_two xs ys n many rest (omega (arith, is)) (omega (arith, le)) (λ lt. none (omega (arith, lt))))
+
+-- so many elements from a place on: some of its row, and the rest from the next row on
+pub take_along : {R X : Type 0} (f : R → List X) (rs : List R) (i a n many rest : ℕ) (d : R) → i < length rs → a ≤ length (f (get_or rs i d)) → n ≡ many + rest
+    → many ≤ length (drop a (f (get_or rs i d))) → (many < length (drop a (f (get_or rs i d))) → rest ≡ 0)
+    → take n (drop (length (flat_map f (take i rs)) + a) (flat_map f rs)) ≡ take many (drop a (f (get_or rs i d))) ++ take rest (drop (length (flat_map f (take (i + 1) rs)) + 0) (flat_map f rs))
+take_along f rs i a n many rest d lt le is few none =
+    let front = flat_map f (take (i + 1) rs) in
+    let behind : drop (length front + 0) (flat_map f rs) ≡ flat_map f (drop (suc i) rs) =
+    ap (drop (length front + 0)) (ap (flat_map f) (sym (take-append-drop (i + 1) rs)) ∙ flat_map-append f (take (i + 1) rs) (drop (i + 1) rs))
+    ∙ drop_at front (flat_map f (drop (i + 1) rs)) (length front + 0) (omega arith) ∙ ap (λ k. flat_map f (drop k rs)) (add-one i) in
+    ap (take n) (drop_place f rs i d lt a le) ∙ take_two (drop a (f (get_or rs i d))) (flat_map f (drop (suc i) rs)) n many rest is few none
+    ∙ ap (λ l. take many (drop a (f (get_or rs i d))) ++ take rest l) (sym behind)
+
 -- a row of which a part is taken out
 pub cut_one : {R X : Type 0} (f : R → List X) (rs : List R) (i : ℕ) (d r : R) (a b : ℕ) → i < length rs → a ≤ b → b ≤ length (f (get_or rs i d)) → f r ≡ take a (f (get_or rs i d)) ++ drop b (f (get_or rs i d))
     → flat_map f (set rs i r) ≡ take (length (flat_map f (take i rs)) + a) (flat_map f rs) ++ drop (length (flat_map f (take i rs)) + b) (flat_map f rs)

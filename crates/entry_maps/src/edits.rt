@@ -14,9 +14,6 @@ const MOST: usize = 128;
 /// How many slots stay in a row that is cut in two.
 const CUT_AT: usize = 64;
 
-/// How many slots are laid in a new row, so that more find room there before it is cut.
-pub const LAID: usize = 96;
-
 impl Chunks {
     /// Puts another slot at a seat.
     pub fn replace(&mut self, seat: Spot, slot: Slot)

@@ -19,6 +19,7 @@
 #![tactic(auto)]
 
 mod chunks;
+mod copies;
 mod cuts;
 mod edits;
 pub mod entry;

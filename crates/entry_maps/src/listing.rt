@@ -1,9 +1,8 @@
 ghost use Rattle.std.specs.Prelude.{◌≡◌, ◌++◌, map, IfOk, OnOk};
 ghost use Rattle.std.specs.List.{flat_map};
-ghost use Rattle.entry_maps.specs.Slots.{IsCounted, IsStored, slots_in, entries_of};
+ghost use Rattle.entry_maps.specs.Slots.{IsStored, slots_in, entries_of};
 ghost use Rattle.entry_maps.specs.Stamps.{rising_of, stamps_of};
 
-use crate::runs::Run;
 use crate::slots::Slot;
 use crate::stored::Stored;
 use stamps::Stamp;
@@ -48,23 +47,5 @@ impl Stored {
         ensures { IfOk result (λ stamps. stamps.items ≡ stamps_of (entries_of (slots_in self.now))) }
     {
         Ok(rising(stamps_in(alloc, &self.list.rows, self.entries)?))
-    }
-
-    /// A copy that shares all entries. The only error is want of memory.
-    pub fn shared(&self, alloc: Global) -> Result<Stored, NoMemory>
-        requires { IsStored self.now }
-        ensures slots { IfOk result (λ copy. slots_in copy ≡ slots_in self.now) }
-        ensures counted { IfOk result IsCounted }
-    {
-        let first = self.list.first();
-        self.copied(
-            alloc,
-            Run {
-                from: first,
-                to: first,
-                entries: self.entries,
-                documents: self.documents,
-            },
-        )
     }
 }

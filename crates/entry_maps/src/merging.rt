@@ -1,19 +1,20 @@
 ghost use Rattle.std.specs.Prelude.{◌≡◌, ◌++◌, ◌≤◌, ◌^◌, ℕ, List, IfOk, OnOk, OnErr, IfSome, Some, true, option_map};
 ghost use Rattle.std.specs.List.{All};
 ghost use Rattle.std.specs.FinMap as fin;
-ghost use Rattle.entry_maps.specs.Chunks.{place, AreSome, AreRows, IsSeat, flat_of, flat_before, flat_behind};
+ghost use Rattle.entry_maps.specs.Chunks.{AreRows, flat_of, flat_before, flat_behind};
 ghost use Rattle.entry_maps.specs.Entries.{newer_of};
 ghost use Rattle.entry_maps.specs.Merging.{newer_slot, merged, next_of, IsAsNew, HasAsNew};
 ghost use Rattle.entry_maps.specs.Slots.{IsCounted, IsStored, slots_in, entries_of};
 
-use crate::chunks::{Chunks, Spot};
-use crate::edits::LAID;
 use crate::rows::Rows;
 use crate::slots::Slot;
 use crate::stored::Stored;
 use std::alloc::Global;
 use std::cmp::Ordering;
 use value_lists::{NoMemory, TryCopy};
+
+/// How many slots a merge lays in a row, so that some more find room there before it is cut.
+const LAID: usize = 96;
 
 /// The slot that a merge takes next, and whether it goes on in its own list and in the other one.
 #[derive(Clone, Copy)]
@@ -101,31 +102,6 @@ fn row_length(slots: usize) -> usize
 }
 
 impl Stored {
-    /// Adds copies of slots behind all. The only error is want of memory.
-    fn append_copies(&mut self, alloc: Global, slots: &[Slot]) -> Result<(), NoMemory>
-        requires { IsCounted self.old }
-        ensures ok { OnOk result (slots_in self.new ≡ slots_in self.old ++ slots.now) }
-        ensures counted { OnOk result (IsCounted self.new) }
-    {
-        for slot in slots {
-            self.append(alloc, LAID, slot.copy(alloc)?)?;
-        }
-        Ok(())
-    }
-
-    /// Copies of the slots of some rows. The only error is want of memory.
-    fn rows_copied(&self, alloc: Global, rows: Rows) -> Result<Stored, NoMemory>
-        requires { AreRows self.now.list rows }
-        ensures slots { IfOk result (λ part. slots_in part ≡ flat_of self.now.list rows) }
-        ensures counted { IfOk result IsCounted }
-    {
-        let mut part = Stored::new(alloc);
-        for row in &self.list.rows[rows.from..rows.to] {
-            part.append_copies(alloc, row)?;
-        }
-        Ok(part)
-    }
-
     /// The entries of both maps, of each document the newer. The only error is want of memory.
     fn merged(&self, alloc: Global, other: &Stored) -> Result<Stored, NoMemory>
         requires own { IsCounted self.now }
@@ -133,6 +109,9 @@ impl Stored {
         ensures slots { IfOk result (λ both. slots_in both ≡ merged (slots_in self.now) (slots_in other.now)) }
         ensures counted { IfOk result IsCounted }
     {
+        if self.entries == 0 {
+            return other.shared(alloc);
+        }
         let long = row_length(self.entries + other.entries);
         let mut both = Stored::new(alloc);
         let mut one = self.list.first();

@@ -70,6 +70,17 @@ impl Chunks {
         }
     }
 
+    /// Adds a row behind all. The only error is want of memory.
+    pub fn append_row(&mut self, row: Vec<Slot>) -> Result<(), NoMemory>
+        requires old { AreSome self.old }
+        requires row { 0 < length row.items }
+        ensures ok { OnOk result (flat self.new ≡ flat self.old ++ row.items) }
+        ensures some { AreSome self.new }
+    {
+        self.rows.push(row)?;
+        Ok(())
+    }
+
     /// Puts others in the place of some rows; those behind are moved, and no slot is copied. The only error
     /// is want of memory.
     pub fn replace_rows(&mut self, rows: Rows, others: Chunks) -> Result<(), NoMemory>

@@ -1,18 +1,16 @@
-ghost use Rattle.std.specs.Prelude.{◌≡◌, not, IfOk, take, drop};
+ghost use Rattle.std.specs.Prelude.{◌≡◌, not, IfOk};
 ghost use Rattle.std.specs.FinMap as fin;
-ghost use Rattle.entry_maps.specs.Chunks.{place};
 ghost use Rattle.entry_maps.specs.Entries.{in_bucket};
-ghost use Rattle.entry_maps.specs.Runs.{IsRun, IsWhole};
-ghost use Rattle.entry_maps.specs.Slots.{IsCounted, IsStored, slots_in, entries_of};
+ghost use Rattle.entry_maps.specs.Runs.{IsRun};
+ghost use Rattle.entry_maps.specs.Slots.{IsStored, slots_in, entries_of};
 
 use crate::chunks::Spot;
-use crate::edits::LAID;
 use crate::stored::Stored;
 use bucket_ids::Bucket;
 use bucket_ids::laws::buckets_are_runs;
 use global_ids::laws::keys_locate;
 use std::alloc::Global;
-use value_lists::{NoMemory, TryCopy};
+use value_lists::NoMemory;
 
 /// From where to where some slots lie, how many they are, and how many of them hold documents.
 #[derive(Clone, Copy)]
@@ -47,23 +45,6 @@ impl Stored {
             entries,
             documents,
         }
-    }
-
-    /// Copies of the slots of a run. The only error is want of memory.
-    pub fn copied(&self, alloc: Global, run: Run) -> Result<Stored, NoMemory>
-        requires stored { IsStored self.now }
-        requires run { IsWhole self.now.list run }
-        ensures slots { IfOk result (λ part. slots_in part
-            ≡ take run.entries (drop (place self.now.list run.from) (slots_in self.now))) }
-        ensures counted { IfOk result IsCounted }
-    {
-        let mut part = Stored::new(alloc);
-        let mut seat = run.from;
-        for _ in 0..run.entries {
-            part.append(alloc, LAID, self.list.at(seat).copy(alloc)?)?;
-            seat = self.list.next(seat);
-        }
-        Ok(part)
     }
 
     /// Copies of the entries whose keys lie in a bucket. The only error is want of memory.

@@ -3,7 +3,7 @@ use Rattle.std.proofs.lemmas.List.{append_assoc, append-nil}
 use Rattle.entry_maps.specs.Chunks.{place}
 use Rattle.entry_maps.specs.Merging.{merged}
 use Rattle.entry_maps.specs.Slots.{slots_in}
-use Rattle.entry_maps.proofs.MergeLaws.{head_there, step_is, end_is}
+use Rattle.entry_maps.proofs.MergeLaws.{head_there, step_is, end_is, none_merged}
 use Rattle.entry_maps.proofs.stored.Stored.merged.Goals as goal
 
 pub loop-taken-preserved : goal.loop-taken-preserved
@@ -28,6 +28,9 @@ loop-taken-preserved c =
           ∙ append_assoc both (t.slot.now ∷ []) (merged (drop (i + cond t.own 1 0) xs) (drop (j + cond t.other 1 0) ys))
           ∙ ap (λ l. both ++ l) (sym step) ∙ inv.5,
     )
+
+pub returns-then-self-eq0-clause-slots : goal.returns-then-self-eq0-clause-slots
+returns-then-self-eq0-clause-slots c = rw (← none_merged (slots_in c.args.self.now) (slots_in c.args.other.now) (sym c.requires.own.many ∙ c.if-self-eq0.true)) c.shared.ensures.slots
 
 pub returns-clause-slots : goal.returns-clause-slots
 returns-clause-slots c =
