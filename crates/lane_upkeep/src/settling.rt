@@ -315,6 +315,10 @@ fn serial_in_row(lane: &LaneState, owner: &Owner, notes: &Notes, at: usize, node
     let Some(note) = notes.of(row.bucket) else {
         return None;
     };
+    // most nodes showed no such piece, and then nothing is asked about the targets
+    if serial_at(note, node).is_none() {
+        return None;
+    }
     let targets = targets(lane, owner, at);
     serial_to_delete(&row, note, targets, lane.rules.acks, node)
 }
