@@ -1,11 +1,11 @@
 -- What the nodes of a lane go through.
-use Rattle.std.proofs.Common.{◌≡◌, ◌∷◌, ◌+◌, ℕ, Bool, List, refl, sym, ap, subst}
+use Rattle.std.proofs.Common.{◌≡◌, ◌∷◌, ℕ, List, refl, sym, subst}
 use Rattle.messages.specs.declared.message.Message.{Message}
 use Rattle.messages.specs.declared.reply.Reply.{Reply}
 use Rattle.messages.specs.Noting.{noted_reply}
 use Rattle.service_layer.specs.Nodes.{Node}
 use Rattle.lane_journals.specs.declared.event.LaneEvent.{LaneEvent}
-use Rattle.lane_journals.specs.declared.event.LaneEvent.TheVariants.{Sent, Opened, Delivered, Returned}
+use Rattle.lane_journals.specs.declared.event.LaneEvent.TheVariants.{Delivered, Returned}
 use Rattle.node_journals.specs.Flights.{IsInFlight}
 use Rattle.node_journals.specs.Replaying.{IsNoDelivery}
 use Rattle.node_spans.specs.Spans.{IsTakenIn, NodesGo}

@@ -1,7 +1,7 @@
 -- The lowest key of a row lies in its lane.
-use Rattle.std.proofs.Common.{◌≡◌, ◌≤◌, ◌^◌, ◌<◌, ℕ, Bool, true, false, List, Option, None, Some, IsSome, IfSome, slice_get, if◌then◌else◌, refl, sym, subst, ◌∙◌, arith}
+use Rattle.std.proofs.Common.{◌≡◌, ◌≤◌, ◌^◌, ◌<◌, ℕ, Bool, true, false, List, Option, None, Some, IsSome, IfSome, slice_get, if◌then◌else◌, refl, sym, subst, arith}
 use Rattle.std.specs.List.{count_by}
-use Rattle.bucket_ids.specs.Buckets.{Low, IsIn, has_key}
+use Rattle.bucket_ids.specs.Buckets.{Low, has_key}
 use Rattle.bucket_db.specs.Rows.{Rows, AreRows, buckets_of}
 use Rattle.bucket_db.specs.declared.row.Row.{Row}
 use Rattle.bucket_db.proofs.Counts.{count_at}

@@ -1,5 +1,5 @@
 -- What holds of each row of a list, after rows came, went or changed.
-use Rattle.std.proofs.Common.{◌≡◌, ℕ, zero, suc, Bool, true, false, nat_lt, List, [], ◌∷◌, map, cond, Option, Some, None, refl, subst, slice_get}
+use Rattle.std.proofs.Common.{◌≡◌, ℕ, zero, suc, Bool, true, false, nat_lt, List, [], ◌∷◌, map, cond, Some, refl, subst, slice_get}
 use Rattle.std.specs.List.{AllByRecursion, filter, remove}
 use Rattle.bucket_ids.specs.Printed.{number_of}
 use Rattle.bucket_db.specs.Changes.{with_row, at_row}

@@ -1,5 +1,5 @@
 -- Which of the messages behind a number found a node that wants memory: what stays while more are sent.
-use Rattle.std.proofs.Common.{◌≡◌, ◌⊎◌, ◌<◌, ◌≤◌, ◌+◌, ◌||◌, ◌&&◌, not, ℕ, Bool, true, false, cond, eqb, nat_le, List, ◌∷◌, length, inl, inr, refl, sym, ap, subst, ◌∙◌, arith}
+use Rattle.std.proofs.Common.{◌≡◌, ◌<◌, ◌≤◌, ◌+◌, ◌||◌, ◌&&◌, not, ℕ, Bool, true, false, cond, eqb, nat_le, List, ◌∷◌, length, refl, sym, ap, subst, ◌∙◌, arith}
 use Rattle.std.proofs.lemmas.Bool.Decides.{nat_tests}
 use Rattle.bucket_ids.specs.Buckets.{Low}
 use Rattle.cluster_states.specs.declared.cluster_state.ClusterState.{ClusterState}

@@ -1,8 +1,7 @@
 -- A round that is run in a quiet span.
-use Rattle.std.proofs.Common.{◌≡◌, ◌≢◌, ◌==◌, ◌&&◌, ◌++◌, ◌+◌, ◌<◌, ◌≤◌, ◌⊎◌, ℕ, Bool, true, false, cond, nat_lt, List, [], ◌∷◌, length, Option, Some, None, is_some, inl, inr, refl, sym, ap, ap₂, ◌∙◌, subst, arith, append_assoc}
+use Rattle.std.proofs.Common.{◌≡◌, ◌&&◌, ◌++◌, ◌+◌, ◌<◌, ◌≤◌, ℕ, Bool, true, false, nat_lt, List, [], ◌∷◌, length, Some, None, is_some, inl, inr, refl, sym, ap, ap₂, ◌∙◌, subst, arith, append_assoc}
 use Rattle.std.proofs.lemmas.Bool.{cases_lt}
 use Rattle.std.proofs.lemmas.Bool.Decides.{nat_tests}
-use mathlib.Core.Bool.{true≢false}
 use Rattle.bucket_ids.specs.Buckets.{Low}
 use Rattle.node_sets.specs.Members.{has_node, size_of, size_below}
 use Rattle.cluster_states.specs.declared.cluster_state.ClusterState.{ClusterState}
@@ -15,7 +14,6 @@ use Rattle.messages.specs.declared.body.Body.TheVariants as body
 use Rattle.messages.specs.declared.message.Message.{Message}
 use Rattle.messages.specs.declared.message.Origin.{Origin}
 use Rattle.merge_rounds.specs.Rounds.{RoundState, did_show, IsRead, IsApply}
-use Rattle.service_layer.specs.Nodes.{Node}
 use Rattle.lane_journals.specs.Events as plain
 use Rattle.lane_journals.specs.Readers as readers
 use Rattle.lane_journals.specs.Readers.{Given, sent, first_reply, returned, stopped, answer, version, round_of, running, round_in}
@@ -31,18 +29,18 @@ use Rattle.lane_carriage.specs.Laws.{OfTaken}
 use Rattle.upkeep_answers.specs.Spans.{later, IsUpkeepBody, IsUpkeepEvent, AreUpkeep, OfUpkeep}
 use Rattle.lane_rest.specs.Lanes.{IsPassBody}
 use Rattle.lane_rest.specs.Scripts.{Script}
-use Rattle.lane_rounds.specs.RoundKeeping.{origin_in, was_sent, is_apply, is_of, is_among_first, KnowsRound}
+use Rattle.lane_rounds.specs.RoundKeeping.{origin_in, was_sent, is_apply, is_of, is_among_first}
 use Rattle.lane_states.specs.LaneStates.{AreCarried}
 use Rattle.lane_states.specs.RoundRuns.{Sends, SendsNext, IsRoundRun, Nothing, Further, WasRefused, is_read_in, is_apply_in}
 use Rattle.lane_states.proofs.Runs.{runs-carried}
 use Rattle.lane_journals.proofs.Basics.{sent-stays, first_reply-stays, returned-stays}
-use Rattle.quiet_spans.specs.Quiet.{GoesQuietly, IsTakenOnce, IsTakenTwice}
+use Rattle.quiet_spans.specs.Quiet.{GoesQuietly}
 use Rattle.quiet_passes.specs.Telling.{IsSaid, IsToldIn, IsFresh, IsAskedOf, IsShownIn}
 use Rattle.quiet_passes.proofs.Takings.{Nodes, Events, one-span, the, sent-now}
 use Rattle.quiet_rounds.specs.Rounding.{HasRounded, was_told, IsNextOf, AreAlike}
 use Rattle.quiet_rounds.proofs.Rounding.{begins, asked, told}
 use Rattle.quiet_rounds.proofs.Uniting.{unites}
-use Rattle.quiet_runs.specs.Running.{union_of, NoneWants, IsStarted, RunsQuietly, IsRunTo}
+use Rattle.quiet_runs.specs.Running.{union_of, NoneWants, IsStarted, IsRunTo}
 
 -- ---- want of memory stays known
 

@@ -1,11 +1,11 @@
-use Rattle.std.proofs.Common.{ℕ, rules, ◌≡◌, ◌∙◌, ◌<◌, ◌∷◌, true, Some, IsSome, length, slice_set, ap, refl, sym, subst}
-use Rattle.bucket_ids.specs.Buckets.{Low, IsIn, has_key}
+use Rattle.std.proofs.Common.{ℕ, rules, ◌≡◌, ◌∙◌, ◌<◌, ◌∷◌, true, Some, length, slice_set, ap, refl, sym, subst}
+use Rattle.bucket_ids.specs.Buckets.{Low, has_key}
 use Rattle.messages.specs.declared.decision.Decision.TheVariants.{RoundBegun}
 use Rattle.distributor_part.specs.declared.stage.Stage.TheVariants.{Running}
 use Rattle.distributor_part.specs.Parts.{Part, rows_of}
 use Rattle.distributor_part.specs.Upkeep.{BeginsRoundAt}
 use Rattle.lane_journals.specs.declared.event.LaneEvent.TheVariants.{Decided}
-use Rattle.lane_keeping.specs.LaneKeeping.{part_in, PartKeeps}
+use Rattle.lane_keeping.specs.LaneKeeping.{part_in}
 use Rattle.lane_keeping.specs.Acting.{IsActing}
 use Rattle.lane_rounds.specs.Laws.{IsBegun}
 use Rattle.lane_states.specs.LaneStates.{journal_of}

@@ -1,4 +1,4 @@
-use Rattle.std.proofs.Common.{◌∙◌, List, false, ap, sym, subst, refl}
+use Rattle.std.proofs.Common.{◌∙◌, List, false, ap, sym, subst}
 use Rattle.messages.specs.Noting.{noted_reply}
 use Rattle.lane_journals.specs.declared.event.LaneEvent.{LaneEvent}
 use Rattle.lane_states.specs.declared.lane_state.LaneState.{LaneState}

@@ -1,6 +1,4 @@
-use Rattle.std.proofs.Common.{◌≡◌, ◌+◌, false, ap, subst, ◌∙◌}
-use Rattle.lane_journals.specs.Readers.{returned}
-use Rattle.lane_journals.specs.Meanings.{history}
+use Rattle.std.proofs.Common.{◌≡◌, ◌+◌, ap}
 use Rattle.lane_carriage.specs.Waits.{numbers}
 use Rattle.lane_states.specs.declared.lane_state.LaneState.{LaneState}
 use Rattle.lane_states.specs.LaneStates.{journal_of}
