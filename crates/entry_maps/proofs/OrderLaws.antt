@@ -8,14 +8,15 @@ use Rattle.std.specs.Ordering.{nat_cmp, is_lt, ordering_then}
 use Rattle.std.specs.declared.cmp.Ordering.{Ordering}
 use Rattle.std.specs.declared.cmp.Ordering.TheVariants.{Less, Equal, Greater}
 use Rattle.std.specs.FinMap.{slice_cmp-IsAntisymmetric, nat_cmp-IsAntisymmetric}
-use Rattle.std.proofs.lemmas.Bool.{cases_order}
+use Rattle.std.proofs.lemmas.Bool.{cases_order, ltb-true, ltb-false}
 use Rattle.std.proofs.lemmas.Cmp.{nat_cmp_total, then_total, on_total, tied_itself}
 use Rattle.std.proofs.lemmas.List.Elements.{All-head, All-tail, All-cons}
+use Rattle.std.proofs.lemmas.List.Sorted.{IsPartitionedBy-ltb}
 use Rattle.std.proofs.lemmas.Map.Keys.{sorted_tail, Less-from_sorted}
 use Rattle.std.proofs.lemmas.Map.Views.{All-after_first}
 use Rattle.entry_maps.specs.declared.slots.Slot.{Slot}
 use Rattle.entry_maps.specs.EntryCodes.{id_cmp}
-use Rattle.entry_maps.specs.Order.{mark, mark_cmp, slot_cmp, is_below}
+use Rattle.entry_maps.specs.Order.{mark, mark_cmp, slot_cmp, is_below, is_low}
 use Rattle.entry_maps.specs.Slots.{entry_in, Apart, IsPlaced, path_by, IsKept}
 use Rattle.entry_maps.proofs.SlotLists.{none_of_others}
 
@@ -144,26 +145,51 @@ apart_of (s ∷ slots) kept = (
   apart_of slots (record { placed = All-tail IsPlaced s slots kept.placed; rising = sorted_tail slot_cmp s slots kept.rising }),
 )
 
--- with no id beside it a path parts the paths alone
-id_above : (id : List ℕ) → id_cmp id [] ≡ Less → ⊥
-id_above [] e = cc
-id_above (b ∷ id) e = cc
+-- those of a lower path come first
+pub low_parted : (path : ℕ) (slots : List Slot) → IsStrictlySortedBy slot_cmp slots → IsPartitionedBy (is_low path) slots
+low_parted path slots sorted = IsPartitionedBy-ltb (λ s. s.path) slots path (paths_rise slots sorted)
 
-pub below_path : (path : ℕ) (s : Slot) → is_below path [] s ≡ true → s.path < path
-below_path path s below = by_path (nat_cmp s.path path) refl (lt_less _ below)
-  where
-    by_path : (r : Ordering) → nat_cmp s.path path ≡ r → ordering_then r (id_cmp s.entry.id []) ≡ Less → s.path < path
-    by_path Less is e = search rules
-    by_path Equal is e = absurd (id_above s.entry.id e)
-    by_path Greater is e = cc
+less_below : (p q : ℕ) → nat_cmp p q ≡ Less → p < q
+less_below p q e = search rules
 
-pub not_below_path : (path : ℕ) (s : Slot) → is_below path [] s ≡ false → path ≤ s.path
-not_below_path path s above = by_path (nat_cmp s.path path) refl above
+greater_above : (p q : ℕ) → nat_cmp p q ≡ Greater → q < p
+greater_above p q e = search rules
+
+-- a slot of a lower path is below the path with any id, and one of a higher path is not
+low_below : (path : ℕ) (id : List ℕ) (s : Slot) → s.path < path → is_below path id s ≡ true
+low_below path id s low = by_path (nat_cmp s.path path) refl
   where
-    by_path : (r : Ordering) → nat_cmp s.path path ≡ r → is_lt (ordering_then r (id_cmp s.entry.id [])) ≡ false → path ≤ s.path
-    by_path Less is e = cc
-    by_path Equal is e = search rules
-    by_path Greater is e = search rules
+    by_path : (r : Ordering) → nat_cmp s.path path ≡ r → is_lt (ordering_then r (id_cmp s.entry.id id)) ≡ true
+    by_path Less is = refl
+    by_path Equal is = absurd (omega (arith, nat_cmp-IsAntisymmetric s.path path is))
+    by_path Greater is = absurd (omega (arith, greater_above s.path path is))
+
+high_above : (path : ℕ) (id : List ℕ) (s : Slot) → path < s.path → is_below path id s ≡ false
+high_above path id s high = by_path (nat_cmp s.path path) refl
+  where
+    by_path : (r : Ordering) → nat_cmp s.path path ≡ r → is_lt (ordering_then r (id_cmp s.entry.id id)) ≡ false
+    by_path Less is = absurd (omega (arith, less_below s.path path is))
+    by_path Equal is = absurd (omega (arith, nat_cmp-IsAntisymmetric s.path path is))
+    by_path Greater is = refl
+
+-- where the first slot of no lower path has another path, it is also the first that is not below the path with any id
+module _ (slots : List Slot) (path : ℕ) (id : List ℕ) (at : ℕ) (sorted : IsStrictlySortedBy slot_cmp slots) where
+  pub lower_before : AllWithin (λ s. is_low path s ≡ true) slots 0 at → AllWithin (λ s. is_below path id s ≡ true) slots 0 at
+  lower_before before k d low high = low_below path id (get_or slots k d) (ltb-true _ _ (before k d low high))
+
+  pub higher_from : AllWithin (λ s. is_low path s ≡ false) slots at (length slots) → (at < length slots → (d : Slot) → (get_or slots at d).path ≢ path)
+      → AllWithin (λ s. is_below path id s ≡ false) slots at (length slots)
+  higher_from from other k d low high =
+      let within : at < length slots = omega arith in
+      let first = ltb-false _ _ (from at d (omega arith) within) in
+      high_above path id (get_or slots k d) (omega (arith, paths_rise slots sorted at k d low high, first, other within d))
+
+  -- then no slot is the document's
+  pub none_of_path : IsKept slots → path ≡ path_by id → AllWithin (λ s. is_low path s ≡ true) slots 0 at → AllWithin (λ s. is_low path s ≡ false) slots at (length slots)
+      → (at < length slots → (d : Slot) → (get_or slots at d).path ≢ path) → entry_in slots id ≡ None
+  none_of_path kept path_is before from other =
+      none_at slots path id at kept path_is (lower_before before) (higher_from from other)
+      (λ lt d is. other lt d (kept.placed at d lt ∙ ap path_by is ∙ sym path_is))
 
 -- slots of one mark are of one document
 pub equal_mark : (a b : Slot) → slot_cmp a b ≡ Equal → mark a ≡ mark b

@@ -1,5 +1,5 @@
 -- The order of slots: by path, and by id among those of one path.
-use Rattle.std.specs.Prelude.{◌≡◌, ℕ, Bool, List}
+use Rattle.std.specs.Prelude.{◌≡◌, ℕ, Bool, List, nat_lt}
 use Rattle.std.specs.Ordering.{nat_cmp, on, then_cmp, is_lt}
 use Rattle.std.specs.declared.cmp.Ordering.{Ordering}
 use Rattle.std.specs.declared.cmp.Ordering.TheVariants.{Less}
@@ -19,6 +19,10 @@ slot_cmp = on mark mark_cmp
 -- the slot stands below a path with an id
 abbrev pub is_below : ℕ → List ℕ → Slot → Bool
 is_below path id s = is_lt (mark_cmp (mark s) (path, id))
+
+-- the slot's path is lower than another one
+abbrev pub is_low : ℕ → Slot → Bool
+is_low path s = nat_lt s.path path
 
 -- one slot stands below another
 abbrev pub IsLower : Slot → Slot → Type 0

@@ -1,12 +1,10 @@
-ghost use Rattle.std.specs.Prelude.{◌≡◌, ◌≢◌, None, ◌+◌, ◌<◌, ◌≤◌, [], true, false, length, IfOk, IfErr, IfSome, IfNone, slice_index_or, if◌then◌else◌};
-ghost use Rattle.std.specs.List.{AllWithin, HoldsAt, flat_map};
+ghost use Rattle.std.specs.Prelude.{◌≡◌, ◌+◌, ◌<◌, ◌≤◌, [], true, false, length, IfSome, IfNone, slice_index_or, if◌then◌else◌};
+ghost use Rattle.std.specs.List.{AllWithin};
 ghost use Rattle.std.specs.List.Sorted.{IsStrictlySortedBy};
-ghost use Rattle.entry_maps.specs.Chunks.{flat, place, AreSome, IsSpot, IsSeat, IsPlaceFor, begins};
-ghost use Rattle.entry_maps.specs.Slots.{IsKept, IsSlotOf, entry_in, path_by};
+ghost use Rattle.entry_maps.specs.Chunks.{flat, place, AreSome, IsSpot, IsSeat, begins};
 ghost use Rattle.entry_maps.specs.Order.{slot_cmp, is_below};
 
 use crate::slots::{Slot, first_from};
-use document_ids::DocId;
 use std::alloc::Global;
 
 /// Slots in order, in rows; one that grows past 128 slots is cut in two where there is memory.
@@ -171,39 +169,5 @@ impl Chunks {
             → place self.now result ≤ length (flat self.now) }
     {
         if goes { self.next(seat) } else { seat }
-    }
-
-    /// Whether the slot of a seat is the document's.
-    fn is_there(&self, seat: Spot, path: u64, id: &DocId) -> bool
-        requires kept { IsKept (flat self.now) }
-        requires seat { IsSeat self.now seat }
-        requires path { path ≡ path_by id.now }
-        ensures there { result ≡ true → IsSlotOf (flat self.now) id.now (place self.now seat) }
-        ensures other { result ≡ false → place self.now seat < length (flat self.now)
-            → HoldsAt (λ s. s.entry.id ≢ id.now) (flat self.now) (place self.now seat) }
-    {
-        match self.slot(seat) {
-            Some(slot) => slot.path == path && slot.entry.entry().id.text() == id.text(),
-            None => false,
-        }
-    }
-
-    /// The seat of a document's slot, or the spot where it would have to be added.
-    pub fn seek(&self, path: u64, id: &DocId) -> Result<Spot, Spot>
-        requires some { AreSome self.now }
-        requires kept { IsKept (flat self.now) }
-        requires path { path ≡ path_by id.now }
-        ensures seat { IfOk result (IsSeat self.now) }
-        ensures found { IfOk result (λ seat. IsSlotOf (flat self.now) id.now (place self.now seat)) }
-        ensures none { IfErr result (λ _. entry_in (flat self.now) id.now ≡ None) }
-        ensures spot { IfErr result (IsPlaceFor self.now path id.now) }
-    {
-        let spot = self.first_from(path, id.text());
-        let seat = self.settled(spot);
-        if self.is_there(seat, path, id) {
-            Ok(seat)
-        } else {
-            Err(spot)
-        }
     }
 }

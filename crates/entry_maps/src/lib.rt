@@ -29,6 +29,7 @@ mod listing;
 mod merging;
 mod rows;
 mod runs;
+mod seeks;
 mod slots;
 mod stored;
 

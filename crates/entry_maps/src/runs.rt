@@ -27,7 +27,7 @@ impl Stored {
         requires { IsStored self.now }
         ensures { IsRun self.now.list first last result }
     {
-        let from = self.list.settled(self.list.first_from(first, ""));
+        let from = self.list.settled(self.list.first_at(first));
         let mut to = from;
         let mut entries = 0;
         let mut documents = 0;

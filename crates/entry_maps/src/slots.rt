@@ -1,7 +1,7 @@
 ghost use Rattle.std.specs.Prelude.{◌≡◌, ◌≤◌, true, false, length, IfOk, is_some};
 ghost use Rattle.std.specs.List.{AllWithin};
 ghost use Rattle.std.specs.List.Sorted.{IsPartitionedBy};
-ghost use Rattle.entry_maps.specs.Order.{mark_cmp, mark, is_below};
+ghost use Rattle.entry_maps.specs.Order.{mark_cmp, mark, is_below, is_low};
 
 use crate::entry::Entry;
 use std::alloc::Global;
@@ -94,6 +94,13 @@ impl Slot {
         ensures { result ≡ is_below path id.now self.now }
     {
         self.order(path, id) == Ordering::Less
+    }
+
+    /// Whether the slot's path is lower than another one.
+    pub fn is_low(&self, path: u64) -> bool
+        ensures { result ≡ is_low path self.now }
+    {
+        self.path < path
     }
 }
 

@@ -1,7 +1,8 @@
-use Rattle.std.proofs.Common.{get_or, ap, ◌∙◌, arith}
+use Rattle.std.proofs.Common.{ap, ◌∙◌, arith}
+use Rattle.std.proofs.lemmas.Bool.{ltb-true, ltb-false}
 use Rattle.std.proofs.lemmas.List.{get_or_default}
 use Rattle.entry_maps.specs.Chunks.{flat, place}
-use Rattle.entry_maps.proofs.OrderLaws.{below_path, not_below_path, paths_rise}
+use Rattle.entry_maps.proofs.OrderLaws.{paths_rise}
 use Rattle.entry_maps.proofs.stored.Stored.run.Goals as goal
 
 pub returns-then-slot-last : goal.returns-then-slot-last
@@ -16,8 +17,8 @@ returns-then-slot-last c =
       many = inv.2;
       within = inv.1;
       documents = inv.3;
-      below = λ k d low high. below_path c.args.first (get_or slots k d) (c.first_from.ensures.before k d low (omega (arith, high, same)));
-      low = λ k d low high. not_below_path c.args.first (get_or slots k d) (c.first_from.ensures.from k d (omega (arith, low, same)) high);
+      below = λ k d low high. ltb-true _ _ (c.first_at.ensures.before k d low (omega (arith, high, same)));
+      low = λ k d low high. ltb-false _ _ (c.first_at.ensures.from k d (omega (arith, low, same)) high);
       high = inv.4;
       past = λ k d low high. omega (arith, paths_rise slots c.requires.kept.rising at k d low high, ap (λ s. s.path) (c.in-Some.ensures.slot ∙ get_or_default slots at c.in-Some.slot.now d c.in-Some.ensures.within), c.if-slot-last.true);
     }
@@ -33,8 +34,8 @@ returns-in_default c =
       many = inv.2;
       within = inv.1;
       documents = inv.3;
-      below = λ k d low high. below_path c.args.first (get_or slots k d) (c.first_from.ensures.before k d low (omega (arith, high, same)));
-      low = λ k d low high. not_below_path c.args.first (get_or slots k d) (c.first_from.ensures.from k d (omega (arith, low, same)) high);
+      below = λ k d low high. ltb-true _ _ (c.first_at.ensures.before k d low (omega (arith, high, same)));
+      low = λ k d low high. ltb-false _ _ (c.first_at.ensures.from k d (omega (arith, low, same)) high);
       high = inv.4;
       past = λ k d low high. absurd (omega (arith, low, high, c.in_default.ensures.none));
     }
