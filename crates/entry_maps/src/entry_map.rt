@@ -50,6 +50,9 @@ impl EntryMap {
     pub fn get(&self, id: &DocId) -> Option<&Entry>
         ensures { option_copied result ≡ fin.get self.now id.now }
     {
+        if self.stored.entries <= 1 {
+            return self.stored.only(id);
+        }
         self.get_at(key_of(id), id)
     }
 
@@ -58,6 +61,9 @@ impl EntryMap {
         requires { key ≡ key_of id.now }
         ensures { option_copied result ≡ fin.get self.now id.now }
     {
+        if self.stored.entries <= 1 {
+            return self.stored.only(id);
+        }
         self.stored.get(path_of(key), id)
     }
 

@@ -87,7 +87,7 @@ impl Chunks {
             → HoldsAt (λ s. s.entry.id ≢ id.now) (flat self.now) (place self.now seat) }
     {
         match self.slot(seat) {
-            Some(slot) => slot.path == path && slot.entry.entry().id.text() == id.text(),
+            Some(slot) => slot.path == path && slot.entry.is_of(id),
             None => false,
         }
     }

@@ -1,9 +1,10 @@
-ghost use Rattle.std.specs.Prelude.{◌≡◌, ◌≤◌, true, false, length, IfOk, is_some};
+ghost use Rattle.std.specs.Prelude.{◌≡◌, ◌≢◌, ◌≤◌, true, false, length, IfOk, is_some};
 ghost use Rattle.std.specs.List.{AllWithin};
 ghost use Rattle.std.specs.List.Sorted.{IsPartitionedBy};
 ghost use Rattle.entry_maps.specs.Order.{mark_cmp, mark, is_below, is_low};
 
 use crate::entry::Entry;
+use document_ids::DocId;
 use std::alloc::Global;
 use std::cmp::Ordering;
 use std::marker::Model;
@@ -44,6 +45,14 @@ impl Kept {
         ensures { result.now ≡ self.now }
     {
         &self.entry
+    }
+
+    /// Whether the entry is a document's.
+    pub fn is_of(&self, id: &DocId) -> bool
+        ensures its { result ≡ true → self.now.id ≡ id.now }
+        ensures other { result ≡ false → self.now.id ≢ id.now }
+    {
+        self.entry.id.text() == id.text()
     }
 
     /// Whether the entry has a document.

@@ -60,6 +60,24 @@ impl Stored {
         }
     }
 
+    /// The entry of a document where there is at most one slot: the ids are compared, and no path is asked for.
+    pub fn only(&self, id: &DocId) -> Option<&Entry>
+        requires stored { IsStored self.now }
+        requires few { self.now.entries ≤ 1 }
+        ensures { option_copied result ≡ fin.get (entries_of (slots_in self.now)) id.now }
+    {
+        match self.list.slot(self.list.first()) {
+            Some(slot) => {
+                if slot.entry.is_of(id) {
+                    Some(slot.entry.entry())
+                } else {
+                    None
+                }
+            }
+            None => None,
+        }
+    }
+
     /// Adds a slot behind all, in rows of a length. The only error is want of memory.
     pub fn append(&mut self, alloc: Global, long: usize, slot: Slot) -> Result<(), NoMemory>
         requires { IsCounted self.old }
