@@ -108,6 +108,13 @@ impl Document {
         Ok(document)
     }
 
+    /// All fields in the order of their names; takes no memory.
+    pub fn fields(&self) -> &[SharedField]
+        ensures { pairs result.now ≡ fin.entries self.now.fields }
+    {
+        &self.fields
+    }
+
     /// All fields in JSON, in the order of their names. The only error is want of memory.
     pub fn fields_json(&self, alloc: Global) -> Result<Value, NoMemory>
         ensures { IfOk result (λ json. view json ≡ object (fields_json self.now.fields)) }
