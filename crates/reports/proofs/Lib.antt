@@ -1,4 +1,4 @@
-pub mod NoFloats
+pub mod FieldTokens
 pub mod Texts
 pub mod OneObject
 pub mod Rising

@@ -10,6 +10,7 @@
 #![tactic(auto)]
 
 pub mod answer;
+mod fields;
 pub mod laws;
 pub mod reports;
 

@@ -1,12 +1,11 @@
 ghost use Rattle.std.specs.Prelude.{◌≡◌, ◌∷◌, ◌++◌, [], false, IfOk, OnOk, codes, decimal};
-ghost use Rattle.std.specs.String.{string_bytes};
 ghost use Rattle.json.specs.Token.{begin_object, key, string, number, boolean};
-ghost use Rattle.serde_json.specs.Written.{compact_text};
 ghost use Rattle.stamps.specs.Printed.{printed};
-ghost use Rattle.reports.specs.ReportText.{fields_of, acked_members, found_members, missing_members, condition_failed_members, nothing_members, field_fault_members, size_fault_members, result_members, bad_update_members, too_few_members, owned_elsewhere_members, cause_text, published_members, not_newer_members, too_few_up_members, too_many_out_members, count_members, planned_members, maintained_members, bad_line_members, report_text, usage_text, line_text};
-ghost use Rattle.reports.specs.Writing.{Puts, result_tokens, seen_tokens, IsWhole, IsBehindFields, fields_front};
+ghost use Rattle.reports.specs.ReportText.{acked_members, found_members, missing_members, condition_failed_members, nothing_members, field_fault_members, size_fault_members, result_members, bad_update_members, too_few_members, owned_elsewhere_members, cause_text, published_members, not_newer_members, too_few_up_members, too_many_out_members, count_members, planned_members, maintained_members, bad_line_members, report_text, usage_text, line_text};
+ghost use Rattle.reports.specs.Writing.{Puts, result_tokens, seen_tokens, IsWhole};
 
 use crate::answer::Answer;
+use crate::fields::begun_with;
 use doc_updates::UpdateFault;
 use document_ids::DocId;
 use documents::Document;
@@ -80,8 +79,7 @@ fn put_seen(out: &mut Writer, alloc: Global, seen: Option<Stamp>) -> Result<(), 
 /// Ends the object and the line.
 #[tactic(auto, unfolding(crate::specs::ReportText::line_text))]
 fn ended(out: Writer) -> Result<Vec<u8>, NoMemory>
-    ensures whole { IfOk result (λ bytes. IsWhole out bytes.items) }
-    ensures behind { IfOk result (λ bytes. IsBehindFields out bytes.items) }
+    ensures { IfOk result (λ bytes. IsWhole out bytes.items) }
 {
     let mut out = out;
     out.end_object()?;
@@ -101,26 +99,6 @@ fn acked_report(alloc: Global, line: u32, stamp: Stamp) -> Result<Vec<u8>, NoMem
     ended(out)
 }
 
-/// The fields of a document, which have no float.
-fn fields_text(alloc: Global, document: &Document) -> Result<String, NoMemory>
-    ensures { IfOk result (λ text. string_bytes text ≡ compact_text (fields_of document.now)) }
-{
-    let fields = document.fields_json(alloc)?;
-    Ok(fields.to_string(alloc)?)
-}
-
-/// An object that begins with the fields of a document.
-fn begun_with(alloc: Global, fields: &str) -> Result<Writer, NoMemory>
-    ensures before { IfOk result (λ out. out.before ≡ fields_front fields.now) }
-    ensures tokens { IfOk result (λ out. out.tokens ≡ []) }
-{
-    let mut bytes = Vec::with_capacity(alloc, ROOM + fields.len())?;
-    bytes.extend_from_slice(b"{\"fields\":")?;
-    bytes.extend_from_slice(fields.as_bytes())?;
-    bytes.push(b',')?;
-    Ok(Writer::new(bytes))
-}
-
 /// `{"fields":{..},"id":"..","line":2,"result":"found","stamp":"1:1"}`.
 #[tactic(auto, unfolding(crate::specs::ReportText::found_members))]
 fn found_report(
@@ -132,8 +110,7 @@ fn found_report(
 ) -> Result<Vec<u8>, NoMemory>
     ensures { IfOk result (λ bytes. bytes.items ≡ line_text (found_members line id.now document.now stamp)) }
 {
-    let fields = fields_text(alloc, document)?;
-    let mut out = begun_with(alloc, fields.as_str())?;
+    let mut out = begun_with(alloc, document)?;
     put_text(&mut out, "id", id.text())?;
     put_result(&mut out, line, "found")?;
     put_stamp(&mut out, alloc, "stamp", stamp)?;
