@@ -3,6 +3,7 @@ use Rattle.std.proofs.Common.{◌≡◌, ℕ, zero, suc, ◌+◌, ◌-◌, ◌*�
 use Rattle.std.specs.Int.{reverse_bits_onto}
 use Rattle.std.proofs.lemmas.Nat.{mod-pow-add, mod_below, shr-shr, pow-add, same_from_place, shr_high, mod_low}
 use Rattle.std.proofs.Math.Nat.{div-eq_of_lt}
+use Rattle.std.proofs.Math.Pow.{pow_mono}
 use Rattle.std.proofs.lemmas.Nat.Bits.{ones_shr}
 use Rattle.bucket_ids.specs.Buckets.{Low, IsBucket, IsIn, first_child, second_child}
 use Rattle.bucket_ids.specs.Paths.{path, first_path, last_path}
@@ -166,3 +167,26 @@ runs_last b ok h =
 
 pub run_end : (b : Low) → IsBucket b → path b.low + 18446744073709551615 / 2 ^ b.bits ≡ last_path b
 run_end b ok = ap (λ x. path b.low + x) (ones_shr 64 b.bits (omega (arith, ok.most)))
+
+-- ---- four bits at a time
+
+pub four_more : (k n a : ℕ) → reverse_bits_onto (4 + k) n a ≡ reverse_bits_onto k (n / 16) (a * 16 + reverse_bits_onto 4 (n % 16) 0)
+four_more k n a =
+    let same : n % 2 ^ 4 ≡ n % 16 % 2 ^ 4 = sym (mod-eq_of_lt (mod_below n 16 (omega arith))) in
+    onto (4 + k) n a
+    ∙ ap (λ x. a * 2 ^ (4 + k) + x) (turned-add 4 k n ∙ ap (λ t. t * 2 ^ k + turned k (n / 2 ^ 4)) (turned_same 4 n (n % 16) same))
+    ∙ rows a (2 ^ k) (2 ^ (4 + k)) (turned 4 (n % 16)) (turned k (n / 16)) (pow-add 2 4 k)
+    ∙ sym (onto k (n / 16) (a * 16 + turned 4 (n % 16)))
+  where
+    rows : (a b c x y : ℕ) → c ≡ 16 * b → a * c + (x * b + y) ≡ (a * 16 + x) * b + y
+    rows a b c x y e = rw (e, add-mul (a * 16) x b, mul_assoc a 16 b) (omega arith)
+
+pub four_fit : (k p t : ℕ) → p < 2 ^ (4 * k) → t < 16 → p * 16 + t < 2 ^ (4 * (k + 1))
+four_fit k p t h small =
+    let more : 2 ^ (4 * (k + 1)) ≡ 2 ^ (4 * k) * 2 ^ 4 = ap (λ m. 2 ^ m) (omega arith) ∙ pow-add 2 (4 * k) 4 in
+    omega (arith, more)
+
+pub four_within : (k : ℕ) → k < 16 → 2 ^ (4 * (k + 1)) ≤ 2 ^ 64
+four_within k h =
+    let few : 4 * (k + 1) ≤ 64 = omega (arith, h) in
+    pow_mono few
