@@ -6,6 +6,7 @@ ghost use Rattle.entry_maps.specs.Entries.{is_newer, with_entry, newer_of, in_bu
 ghost use Rattle.entry_maps.specs.Stamps.{stamps_of};
 
 use crate::entry::Entry;
+use crate::shared_entry::SharedEntry;
 use crate::stored::Stored;
 use bucket_ids::{Bucket, path_of};
 use document_ids::DocId;
@@ -35,6 +36,16 @@ impl Model for EntryMap {
     ghost invariant = { λ m. IsStored m.stored };
 }
 
+/// The entry that is shared, if there is one.
+fn lent(shared: Option<&SharedEntry>) -> Option<&Entry>
+    ensures { option_copied result ≡ option_copied shared.entry }
+{
+    match shared {
+        Some(shared) => Some(shared.entry()),
+        None => None,
+    }
+}
+
 impl EntryMap {
     /// A map without entries; takes no memory.
     pub fn new(alloc: Global) -> EntryMap
@@ -51,13 +62,21 @@ impl EntryMap {
         ensures { option_copied result ≡ fin.get self.now id.now }
     {
         if self.stored.entries <= 1 {
-            return self.stored.only(id);
+            return lent(self.stored.only(id));
         }
         self.get_at(key_of(id), id)
     }
 
     /// The same, with the key of the document's id beside it, so that nothing is digested.
     pub fn get_at(&self, key: u64, id: &DocId) -> Option<&Entry>
+        requires { key ≡ key_of id.now }
+        ensures { option_copied result ≡ fin.get self.now id.now }
+    {
+        lent(self.shared_at(key, id))
+    }
+
+    /// The same, so that copies of the entry share it.
+    pub fn shared_at(&self, key: u64, id: &DocId) -> Option<&SharedEntry>
         requires { key ≡ key_of id.now }
         ensures { option_copied result ≡ fin.get self.now id.now }
     {
@@ -95,11 +114,12 @@ impl EntryMap {
         ensures ok { OnOk result (self.new ≡ with_entry self.old entry) }
         ensures err { OnErr result (self.new ≡ self.old) }
     {
-        self.put_at(key_of(&entry.id), entry)
+        let key = key_of(&entry.id);
+        self.put_at(key, SharedEntry::new(self.alloc, entry)?)
     }
 
-    /// The same, with the key of the entry's id beside it, so that nothing is digested.
-    pub fn put_at(&mut self, key: u64, entry: Entry) -> Result<bool, NoMemory>
+    /// The same of an entry that may be shared, with the key of its id beside it, so that nothing is digested.
+    pub fn put_at(&mut self, key: u64, entry: SharedEntry) -> Result<bool, NoMemory>
         requires { key ≡ key_of entry.id }
         ensures taken { IfOk result (λ taken. taken ≡ is_newer entry (fin.get self.old entry.id)) }
         ensures ok { OnOk result (self.new ≡ with_entry self.old entry) }

@@ -1,6 +1,6 @@
 //! Entries of documents, and maps in which the newest entry of a document wins.
 //!
-//! An `Entry` is a stamp with a document or with a remove. A contract sees an `EntryMap` as the finite
+//! An `Entry` is a stamp with a document or with a remove; a `SharedEntry` is one that copies share. A contract sees an `EntryMap` as the finite
 //! map of std's from the text of an id to its entry (`Entries`). Inside, entries are shared and lie in
 //! the order of their keys' bits turned round, so that each bucket is one run (`specs/Slots.antt`), in
 //! rows of about a hundred (`specs/Chunks.antt`). A merge makes new rows only of those among which the other
@@ -30,9 +30,11 @@ mod merging;
 mod rows;
 mod runs;
 mod seeks;
+pub mod shared_entry;
 mod slots;
 mod stored;
 
 pub use documents::Document;
 pub use entry::Entry;
 pub use entry_map::EntryMap;
+pub use shared_entry::SharedEntry;

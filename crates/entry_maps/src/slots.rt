@@ -1,81 +1,18 @@
-ghost use Rattle.std.specs.Prelude.{◌≡◌, ◌≢◌, ◌≤◌, true, false, length, IfOk, is_some};
+ghost use Rattle.std.specs.Prelude.{◌≡◌, ◌≤◌, true, false, length, IfOk};
 ghost use Rattle.std.specs.List.{AllWithin};
 ghost use Rattle.std.specs.List.Sorted.{IsPartitionedBy};
 ghost use Rattle.entry_maps.specs.Order.{mark_cmp, mark, is_below, is_low};
 
-use crate::entry::Entry;
-use document_ids::DocId;
+use crate::shared_entry::SharedEntry;
 use std::alloc::Global;
 use std::cmp::Ordering;
-use std::marker::Model;
-use std::sync::Arc;
 use value_lists::{NoMemory, TryCopy};
-
-/// An entry that copies share.
-#[derive(Drop)]
-pub struct Kept {
-    entry: Arc<Entry>,
-}
-
-impl Model for Kept {
-    ghost use Rattle.std.specs.Arc.{arc_value};
-    ghost use Rattle.entry_maps.specs.declared.entry.Entry.{Entry};
-    ghost use Rattle.entry_maps.specs.EntryCodes.{entry_code};
-
-    ghost Value = { Entry };
-
-    ghost coded = { entry_code };
-
-    ghost view = { λ k. arc_value k.entry };
-}
-
-impl Kept {
-    /// Keeps an entry. The only error is want of memory.
-    pub fn new(alloc: Global, entry: Entry) -> Result<Kept, NoMemory>
-        ensures { IfOk result (λ kept. kept ≡ entry) }
-    {
-        match Arc::new(alloc, entry) {
-            Ok(entry) => Ok(Kept { entry }),
-            Err(_) => Err(NoMemory),
-        }
-    }
-
-    /// The entry.
-    pub fn entry(&self) -> &Entry
-        ensures { result.now ≡ self.now }
-    {
-        &self.entry
-    }
-
-    /// Whether the entry is a document's.
-    pub fn is_of(&self, id: &DocId) -> bool
-        ensures its { result ≡ true → self.now.id ≡ id.now }
-        ensures other { result ≡ false → self.now.id ≢ id.now }
-    {
-        self.entry.id.text() == id.text()
-    }
-
-    /// Whether the entry has a document.
-    pub fn has_document(&self) -> bool
-        ensures { result ≡ is_some self.now.body }
-    {
-        self.entry.body.is_some()
-    }
-}
-
-impl TryCopy for Kept {
-    fn copy(&self, _alloc: Global) -> Result<Kept, NoMemory> {
-        Ok(Kept {
-            entry: Arc::try_clone(&self.entry)?,
-        })
-    }
-}
 
 /// An entry, and the path of its document's key.
 #[derive(Drop)]
 pub struct Slot {
     pub path: u64,
-    pub entry: Kept,
+    pub entry: SharedEntry,
 }
 
 impl TryCopy for Slot {

@@ -6,8 +6,8 @@ ghost use Rattle.entry_maps.specs.Entries.{is_newer, with_entry};
 ghost use Rattle.entry_maps.specs.Slots.{IsCounted, IsStored, IsPlaced, IsSlotOf, slots_in, entries_of, entry_in, path_by};
 
 use crate::chunks::{Chunks, Spot};
-use crate::entry::Entry;
-use crate::slots::{Kept, Slot};
+use crate::shared_entry::SharedEntry;
+use crate::slots::Slot;
 use document_ids::DocId;
 use std::alloc::Global;
 use value_lists::NoMemory;
@@ -49,19 +49,19 @@ impl Stored {
     }
 
     /// The entry of a document at its path.
-    pub fn get(&self, path: u64, id: &DocId) -> Option<&Entry>
+    pub fn get(&self, path: u64, id: &DocId) -> Option<&SharedEntry>
         requires stored { IsStored self.now }
         requires path { path ≡ path_by id.now }
         ensures { option_copied result ≡ fin.get (entries_of (slots_in self.now)) id.now }
     {
         match self.list.seek(path, id) {
-            Ok(seat) => Some(self.list.at(seat).entry.entry()),
+            Ok(seat) => Some(&self.list.at(seat).entry),
             Err(_) => None,
         }
     }
 
     /// The entry of a document where there is at most one slot: the ids are compared, and no path is asked for.
-    pub fn only(&self, id: &DocId) -> Option<&Entry>
+    pub fn only(&self, id: &DocId) -> Option<&SharedEntry>
         requires stored { IsStored self.now }
         requires few { self.now.entries ≤ 1 }
         ensures { option_copied result ≡ fin.get (entries_of (slots_in self.now)) id.now }
@@ -69,7 +69,7 @@ impl Stored {
         match self.list.slot(self.list.first()) {
             Some(slot) => {
                 if slot.entry.is_of(id) {
-                    Some(slot.entry.entry())
+                    Some(&slot.entry)
                 } else {
                     None
                 }
@@ -132,47 +132,36 @@ impl Stored {
     }
 
     /// Whether an entry is newer than its document's one, which is at a seat.
-    fn is_newer(&self, seat: Spot, entry: &Entry) -> bool
+    fn is_newer(&self, seat: Spot, entry: &SharedEntry) -> bool
         requires stored { IsStored self.now }
         requires seat { IsSeat self.now.list seat }
         requires there { IsSlotOf (slots_in self.now) entry.now.id (place self.now.list seat) }
         ensures { result ≡ is_newer entry.now (fin.get (entries_of (slots_in self.now)) entry.now.id) }
     {
         let there = self.list.at(seat).entry.entry();
-        there.stamp.is_before(entry.stamp)
+        there.stamp.is_before(entry.entry().stamp)
     }
 
-    /// Takes an entry in the place of the document's one where it is newer, and says whether it is.
-    /// The only error is want of memory.
-    fn renew(
-        &mut self,
-        alloc: Global,
-        seat: Spot,
-        path: u64,
-        entry: Entry,
-    ) -> Result<bool, NoMemory>
+    /// Takes an entry in the place of the document's one where it is newer, and says whether it is; takes no memory.
+    fn renew(&mut self, seat: Spot, path: u64, entry: SharedEntry) -> bool
         requires stored { IsStored self.old }
         requires path { path ≡ path_by entry.id }
         requires seat { IsSeat self.old.list seat }
         requires there { IsSlotOf (slots_in self.old) entry.id (place self.old.list seat) }
-        ensures taken { IfOk result (λ taken. taken
-            ≡ is_newer entry (fin.get (entries_of (slots_in self.old)) entry.id)) }
-        ensures ok { OnOk result (entries_of (slots_in self.new)
-            ≡ with_entry (entries_of (slots_in self.old)) entry) }
-        ensures err { OnErr result (entries_of (slots_in self.new) ≡ entries_of (slots_in self.old)) }
+        ensures taken { result ≡ is_newer entry (fin.get (entries_of (slots_in self.old)) entry.id) }
+        ensures entries { entries_of (slots_in self.new) ≡ with_entry (entries_of (slots_in self.old)) entry }
         ensures stored { IsStored self.new }
     {
         if !self.is_newer(seat, &entry) {
-            return Ok(false);
+            return false;
         }
-        let entry = Kept::new(alloc, entry)?;
         self.replace(seat, Slot { path, entry });
-        Ok(true)
+        true
     }
 
     /// Takes an entry where it is newer than what is there, and says whether it is. The only error
     /// is want of memory.
-    pub fn put(&mut self, alloc: Global, path: u64, entry: Entry) -> Result<bool, NoMemory>
+    pub fn put(&mut self, alloc: Global, path: u64, entry: SharedEntry) -> Result<bool, NoMemory>
         requires stored { IsStored self.old }
         requires path { path ≡ path_by entry.id }
         ensures taken { IfOk result (λ taken. taken
@@ -182,10 +171,9 @@ impl Stored {
         ensures err { OnErr result (entries_of (slots_in self.new) ≡ entries_of (slots_in self.old)) }
         ensures stored { IsStored self.new }
     {
-        match self.list.seek(path, &entry.id) {
-            Ok(seat) => self.renew(alloc, seat, path, entry),
+        match self.list.seek(path, &entry.entry().id) {
+            Ok(seat) => Ok(self.renew(seat, path, entry)),
             Err(spot) => {
-                let entry = Kept::new(alloc, entry)?;
                 self.add(alloc, spot, Slot { path, entry })?;
                 Ok(true)
             }

@@ -1,9 +1,9 @@
 -- The state that was published last is the newest.
-use Rattle.std.proofs.Common.{◌≡◌, ◌==◌, ◌<◌, ◌≤◌, ℕ, Bool, true, false, List, [], ◌∷◌, Option, None, Some, refl, sym, ◌∙◌, subst, arith, if◌then◌else◌}
+use Rattle.std.proofs.Common.{◌≡◌, ◌==◌, ◌<◌, ◌≤◌, ℕ, Bool, true, false, List, [], ◌∷◌, Option, None, Some, refl, subst, arith, if◌then◌else◌}
 use Rattle.std.proofs.lemmas.Bool.Decides.{nat_tests}
 use Rattle.cluster_states.specs.Publishing.{serves}
 use Rattle.cluster_states.specs.declared.cluster_state.ClusterState.{ClusterState}
-use Rattle.lane_journals.specs.Readers.{or_else, only_if, published, held}
+use Rattle.lane_journals.specs.Readers.{or_else, only_if, published}
 use Rattle.lane_journals.specs.Legal.{MayPublish}
 use Rattle.lane_journals.specs.States.{state_of}
 use Rattle.lane_journals.specs.Meanings.{history}

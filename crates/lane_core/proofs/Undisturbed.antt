@@ -1,5 +1,5 @@
 -- An upkeep that nothing disturbs.
-use Rattle.std.proofs.Common.{◌≡◌, ◌≢◌, ◌==◌, ◌&&◌, ◌++◌, ◌+◌, ◌≤◌, ◌<◌, ◌⊎◌, ℕ, Bool, true, false, not, List, [], ◌∷◌, length, Option, Some, None, if◌then◌else◌, inl, inr, refl, sym, ap, ap₂, ◌∙◌, subst, arith, eq-eqb}
+use Rattle.std.proofs.Common.{◌≡◌, ◌==◌, ◌&&◌, ◌++◌, ◌+◌, ◌≤◌, ◌<◌, ◌⊎◌, ℕ, Bool, true, false, not, List, [], ◌∷◌, length, Option, Some, None, if◌then◌else◌, inl, inr, refl, sym, ap, ap₂, ◌∙◌, subst, arith, eq-eqb}
 use Rattle.std.proofs.lemmas.Bool.Decides.{nat_tests}
 use Rattle.carriers.specs.declared.fate.Fate.{Fate}
 use Rattle.cluster_states.specs.Publishing.{serves}
@@ -13,14 +13,14 @@ use Rattle.lane_journals.specs.Places.{Setting, state_in}
 use Rattle.lane_journals.specs.KeptJournals.{IsLegal}
 use Rattle.lane_journals.specs.declared.event.LaneEvent.{LaneEvent}
 use Rattle.lane_journals.specs.declared.event.LaneEvent.TheVariants as event
-use Rattle.lane_carriage.specs.Carriage.{IsCarried, is_stopped, is_cut_off}
+use Rattle.lane_carriage.specs.Carriage.{is_stopped, is_cut_off}
 use Rattle.lane_carriage.specs.Readers.{last_sent, receives, fate_of, is_returned}
 use Rattle.lane_carriage.specs.Laws.{OfCarried}
 use Rattle.lane_keeping.specs.LaneKeeping.{setting_of}
 use Rattle.lane_states.specs.Growing.{is_older, heard_next, last_state}
 use Rattle.lane_journals.specs.Readers.{held}
 use Rattle.upkeep_answers.specs.Spans.{IsUpkeepEvent, AreUpkeep, Nothing, More, OfUpkeep, later}
-use Rattle.upkeep_answers.specs.Causes.{first_late, first_absent, cause_of, IsCause}
+use Rattle.upkeep_answers.specs.Causes.{first_absent, cause_of, IsCause}
 use Rattle.upkeep_answers.specs.Scans.{ArePlaced}
 use Rattle.upkeep_answers.specs.declared.answers.Upkeep.{Upkeep}
 use Rattle.upkeep_answers.specs.declared.answers.Upkeep.TheVariants.{Rested, Blocked, Disturbed, Held, NoMemory}

@@ -1,5 +1,5 @@
 -- A lane's work after an upkeep, and its value.
-use Rattle.std.proofs.Common.{◌≡◌, ◌≢◌, ◌+◌, ◌≤◌, ◌<◌, ℕ, Bool, true, false, not, nat_eq, List, [], ◌∷◌, ◌++◌, length, Option, Some, None, is_some, if◌then◌else◌, IfSome, refl, sym, ap, subst, ◌∙◌, arith, vec_len, Result, Ok, Err, OnOk, OnErr}
+use Rattle.std.proofs.Common.{◌≡◌, ◌≢◌, ◌≤◌, ◌<◌, ℕ, Bool, true, false, not, nat_eq, List, [], ◌∷◌, ◌++◌, length, Option, Some, None, if◌then◌else◌, IfSome, refl, sym, ap, subst, ◌∙◌, arith, vec_len, Result, Ok, Err, OnOk, OnErr}
 use Rattle.std.proofs.lemmas.Bool.Decides.{nat_tests}
 use Rattle.std.proofs.lemmas.List.{append_assoc}
 use Rattle.bucket_ids.specs.Buckets.{Low}
@@ -31,11 +31,10 @@ use Rattle.lane_upkeep.specs.Passing.{PassesOn}
 use Rattle.lane_upkeep.specs.Maintaining as maintaining
 use Rattle.lane_upkeep.specs.Maintaining.{IsBetween, AreReturned}
 use Rattle.lane_core.specs.LaneValues.{LaneValue}
-use Rattle.lane_core.specs.Upkept.{HasOpened}
 use Rattle.lane_core.specs.Upkeeping.{MaintainsBy, OpensBy, RestsBy}
 use Rattle.lane_core.specs.declared.work.Work.{Work}
 use Rattle.lane_core.specs.declared.job.Job.{Job}
-use Rattle.lane_core.specs.Works.{IsWork, JobKeeps, JobLasts, value_of, room_for, one_if}
+use Rattle.lane_core.specs.Works.{IsWork, JobKeeps, JobLasts, value_of}
 
 -- ---- the span
 

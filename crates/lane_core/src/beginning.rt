@@ -24,8 +24,9 @@ use lane_journals::LaneEvent;
 use lane_keeping::laws::owners_act;
 use lane_operations::laws::{lines_are_refused, operations_begin};
 use lane_states::known_owner::KnownOwner;
-use messages::{OpKind, Operation, Outcome};
+use messages::{OpKind, Operation, Outcome, SharedOperation};
 use stamps::Stamp;
+use std::alloc::Global;
 use std::collections::BTreeMap;
 use value_lists::{NoMemory, TryCopy};
 
@@ -37,6 +38,13 @@ fn is_get(kind: &OpKind) -> bool
         OpKind::Get => true,
         OpKind::Put(_) | OpKind::Update(_) | OpKind::Remove => false,
     }
+}
+
+/// A copy of the operation, which its lane and its machine share. The only error is want of memory.
+fn shared_copy(alloc: Global, operation: &Operation) -> Result<SharedOperation, NoMemory>
+    ensures { IfOk result (λ copy. copy ≡ operation.now) }
+{
+    SharedOperation::new(alloc, operation.copy(alloc)?)
 }
 
 /// Begins to count the stamps of a version, if it isn't counted yet. The only error is want of memory.
@@ -154,7 +162,7 @@ impl Work {
     {
         owners_act();
         let id = operation.id.copy(self.state.alloc)?;
-        let copy = operation.copy(self.state.alloc)?;
+        let copy = shared_copy(self.state.alloc, operation)?;
         self.room_to_begin(2, state.version())?;
         self.note_begun(line, key, id, copy, via, state);
         Ok(())
@@ -187,7 +195,7 @@ impl Work {
         };
         let owner = self.state.owner_by(known, &state);
         let id = operation.id.copy(self.state.alloc)?;
-        let copy = operation.copy(self.state.alloc)?;
+        let copy = shared_copy(self.state.alloc, operation)?;
         self.room_to_begin(3, state.version())?;
         self.need_part(owner)?;
         self.hear_within(owner, &state);
@@ -222,7 +230,7 @@ impl Work {
         line: u32,
         key: u64,
         id: DocId,
-        operation: Operation,
+        operation: SharedOperation,
         via: u8,
         state: &ClusterState,
     )
@@ -243,7 +251,7 @@ impl Work {
     {
         operations_begin();
         let version = state.version();
-        let stamp = self.next_stamp(&operation.kind, version);
+        let stamp = self.next_stamp(&operation.operation().kind, version);
         count_stamp(&mut self.drawn, stamp);
         self.state.note(LaneEvent::Begun {
             line,

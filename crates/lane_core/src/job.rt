@@ -1,5 +1,5 @@
 use bucket_ids::Bucket;
-use messages::{Operation, Outcome};
+use messages::{Outcome, SharedOperation};
 use node_sets::NodeSet;
 use op_machine::OpMachine;
 use stamps::Stamp;
@@ -19,7 +19,7 @@ pub enum Progress {
 #[derive(Drop)]
 pub struct UnderWay {
     pub line: u32,
-    pub operation: Operation,
+    pub operation: SharedOperation,
     /// The distributor at which it was begun.
     pub distributor: u8,
     pub progress: Progress,
@@ -52,7 +52,7 @@ pub enum Phase {
 #[derive(Drop)]
 pub struct Job {
     pub line: u32,
-    pub operation: Operation,
+    pub operation: SharedOperation,
     /// The key of its document.
     pub key: u64,
     /// The owner, where it was begun.

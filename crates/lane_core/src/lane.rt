@@ -3,7 +3,6 @@ ghost use Rattle.std.specs.Option.{option_copied};
 ghost use Rattle.bucket_ids.specs.Buckets.{IsIn};
 ghost use Rattle.global_ids.specs.Keys as keys;
 ghost use Rattle.cluster_states.specs.Publishing.{publish_fault};
-ghost use Rattle.ideal_nodes.specs.Placement.{IsOwner};
 ghost use Rattle.carriers.specs.Fates.{planned_with};
 ghost use Rattle.op_machine.specs.Plans.{IsOwn};
 ghost use Rattle.lane_journals.specs.Buckets.{key_of};
@@ -119,20 +118,6 @@ impl<C: Carrier + Drop> Lane<C> {
     {
         self.work.announce(state, deaf);
         self.owner = KnownOwner::new(self.work.state.lane, state);
-    }
-
-    /// The distributor that owns the lane under the state that was published last, where that is known; takes no
-    /// memory.
-    pub fn owner(&self) -> Option<u8>
-        ensures { IfSome result (λ d. IfSome (last_state self.now.journal) (λ s. IsOwner self.now.lane s d)) }
-    {
-        let Some(known) = &self.owner else {
-            return None;
-        };
-        let Some(state) = &self.work.state.newest else {
-            return None;
-        };
-        known.owner_of(self.work.state.lane, state)
     }
 
     /// The version of the state that a distributor holds, if it holds one; takes no memory.

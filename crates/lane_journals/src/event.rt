@@ -1,7 +1,7 @@
 use bucket_ids::Bucket;
 use cluster_states::ClusterState;
 use document_ids::DocId;
-use entry_maps::Entry;
+use entry_maps::SharedEntry;
 use messages::{BucketList, Decision, NotedBody, NotedReply, Outcome};
 use node_sets::NodeSet;
 use stamps::Stamp;
@@ -47,7 +47,7 @@ pub enum LaneEvent {
     /// The operation of a line writes this entry.
     Wrote {
         line: u32,
-        entry: Entry,
+        entry: SharedEntry,
     },
     /// A distributor sends a message to a node.
     Sent {

@@ -22,7 +22,7 @@ ghost use Rattle.lane_states.specs.Written.{FindsEntries, AddsNoEntry};
 use crate::lane_state::{LaneState, push_within};
 use crate::written::keep_place;
 use carriers::{Carrier, Fate};
-use entry_maps::Entry;
+use entry_maps::SharedEntry;
 use lane_carriage::laws::late_messages_wait;
 use lane_journals::LaneEvent;
 use lane_keeping::laws::events_are_kept;
@@ -40,7 +40,7 @@ impl LaneState {
         &mut self,
         places: &mut StampPlaces,
         line: u32,
-        entry: &Entry,
+        entry: &SharedEntry,
     ) -> Result<(), NoMemory>
         requires keeps { IsKept self.old }
         requires spare { HasRoom 0 self.old }
@@ -57,7 +57,8 @@ impl LaneState {
         entries_are_written();
         let entry = entry.copy(self.alloc)?;
         self.journal.reserve(1 + self.spare)?;
-        keep_place(self.alloc, places, entry.stamp, self.journal.len())?;
+        let stamp = entry.entry().stamp;
+        keep_place(self.alloc, places, stamp, self.journal.len())?;
         self.note(LaneEvent::Wrote { line, entry });
         Ok(())
     }

@@ -31,8 +31,8 @@ fn entry_of(event: &LaneEvent, stamp: Stamp) -> Option<&Entry>
 {
     match event {
         LaneEvent::Wrote { entry, .. } => {
-            if same_stamp(entry.stamp, stamp) {
-                Some(entry)
+            if same_stamp(entry.entry().stamp, stamp) {
+                Some(entry.entry())
             } else {
                 None
             }

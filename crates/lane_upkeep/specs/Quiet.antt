@@ -203,10 +203,6 @@ pub record PlaceGoes (d : Script) (c e : LaneState) (o : Owner) (before after : 
   pub place : PlaceBecomes d c e o at was.note row later f
   pub now : HasNote (c.rules).redundancy o after place.after
 
--- all rows stay
-abbrev pub RowsStay : LaneState → LaneState → Owner → Type 0
-RowsStay c e o = rows_in e o ≡ rows_in c o
-
 -- align, the messages alone; whether there was any
 pub record IsAlignedQuietly (d : Script) (s : Settings) (c e : LaneState) (o : Owner) (note : RowNote) (row : Row) (any : Bool) : Type 0 where
   pub nodes : NodesBecome d c e (align_node s (row_with o (nodes_in d c) (Some note) row))

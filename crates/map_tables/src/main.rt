@@ -12,7 +12,7 @@ use bucket_ids::Bucket;
 use doc_types::FieldValue;
 use document_ids::DocId;
 use documents::Document;
-use entry_maps::{Entry, EntryMap};
+use entry_maps::{Entry, EntryMap, SharedEntry};
 use global_ids::key_of;
 use stamps::Stamp;
 use std::alloc::Global;
@@ -69,7 +69,7 @@ impl Maps {
     fn put(&mut self, alloc: Global, entry: Entry, beside_key: bool) -> Result<String> {
         let taken = if beside_key {
             let key = key_of(&entry.id);
-            self.one.put_at(key, entry)?
+            self.one.put_at(key, SharedEntry::new(alloc, entry)?)?
         } else {
             self.one.put(entry)?
         };

@@ -2,6 +2,7 @@ use crate::words::{read_entries, read_entry};
 use anyhow::{Result, anyhow};
 use bucket_ids::Bucket;
 use document_ids::DocId;
+use entry_maps::SharedEntry;
 use messages::{Body, NotedBody, NotedReply, Reply, StampList};
 use pieces::{Piece, PieceList};
 use std::alloc::Global;
@@ -41,7 +42,7 @@ fn read_body(alloc: Global, words: &[&str]) -> Result<Body> {
             let (id, entry) = entry.split_once('@').ok_or(anyhow!("no stamp"))?;
             let id = DocId::parse(alloc, id)?;
             Ok(Body::Store {
-                entry: read_entry(alloc, &id, entry)?,
+                entry: SharedEntry::new(alloc, read_entry(alloc, &id, entry)?)?,
             })
         }
         ["apply", bucket, entries @ ..] => Ok(Body::Apply {

@@ -9,7 +9,7 @@ use doc_types::{DEFAULT_SCHEMA, Schema};
 use document_ids::DocId;
 use entry_maps::EntryMap;
 use global_ids::key_of;
-use messages::{Body, Message, OpKind, Operation, Origin, Reply};
+use messages::{Body, Message, OpKind, Operation, Origin, Reply, SharedOperation};
 use node_sets::NodeSet;
 use op_machine::OpMachine;
 use pieces::PieceList;
@@ -116,6 +116,7 @@ fn read_machine(alloc: Global, said: &str, operation: Operation) -> Result<OpMac
         lane: 5,
         sender: 3,
     };
+    let operation = SharedOperation::new(alloc, operation)?;
     Ok(OpMachine::new(origin, operation, stamp, recipients, active, acks))
 }
 
@@ -153,7 +154,11 @@ fn told(alloc: Global, message: &Message) -> Result<String> {
             Ok(format!(in alloc; "r{} ", message.receiver)?)
         }
         Body::Store { entry } => {
-            Ok(format!(in alloc; "s{} {} ", message.receiver, entry_told(alloc, entry)?)?)
+            Ok(format!(in alloc;
+                "s{} {} ",
+                message.receiver,
+                entry_told(alloc, entry.entry())?
+            )?)
         }
         _ => Err(anyhow!("another message")),
     }

@@ -1,5 +1,5 @@
 -- What an operation means, by the document that it sees; where a remove was seen there is none.
-use Rattle.std.specs.Prelude.{ℕ, Bool, true, false, List, Option, Some, None, Result, Ok, Err, if◌then◌else◌}
+use Rattle.std.specs.Prelude.{ℕ, Bool, false, List, Option, Some, None, Result, Ok, Err, if◌then◌else◌}
 use Rattle.std.specs.FinMap as fin
 use Rattle.documents.specs.Fields.{Contents, FieldMap}
 use Rattle.doc_updates.specs.Updates.{Changes, updated}

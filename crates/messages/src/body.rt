@@ -2,7 +2,7 @@ ghost use Rattle.std.specs.Prelude.{◌≡◌, IfOk};
 
 use bucket_ids::Bucket;
 use document_ids::DocId;
-use entry_maps::{Entry, EntryMap};
+use entry_maps::{EntryMap, SharedEntry};
 use std::alloc::Global;
 use value_lists::{NoMemory, TryCopy};
 
@@ -15,7 +15,7 @@ pub enum Body {
     /// bucket of 58 bits is named.
     Read { bucket: Bucket, only: Option<DocId> },
     /// The entry is to be kept where it is newer.
-    Store { entry: Entry },
+    Store { entry: SharedEntry },
     /// The bucket is to be one piece and to have these entries where they are newer.
     Apply { bucket: Bucket, entries: EntryMap },
     /// The piece with just this serial is to go, with its entries.

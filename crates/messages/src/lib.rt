@@ -24,6 +24,7 @@ pub mod noted;
 pub mod operation;
 pub mod outcome;
 pub mod reply;
+pub mod shared_operation;
 pub mod step;
 
 pub use body::Body;
@@ -34,4 +35,5 @@ pub use noted::{NotedBody, NotedReply};
 pub use operation::{Decided, OpKind, Operation};
 pub use outcome::Outcome;
 pub use reply::Reply;
+pub use shared_operation::SharedOperation;
 pub use step::{Job, NodePieces, Step};

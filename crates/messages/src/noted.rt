@@ -115,7 +115,9 @@ impl Body {
                 bucket: *bucket,
                 only: copy_id(alloc, only)?,
             },
-            Body::Store { entry } => NotedBody::Store { stamp: entry.stamp },
+            Body::Store { entry } => NotedBody::Store {
+                stamp: entry.entry().stamp,
+            },
             Body::Apply { bucket, entries } => NotedBody::Apply {
                 bucket: *bucket,
                 entries: noted_entries(entries)?,

@@ -6,7 +6,7 @@ use anyhow::{Result, anyhow};
 use bucket_ids::Bucket;
 use document_ids::DocId;
 use documents::Document;
-use entry_maps::{Entry, EntryMap};
+use entry_maps::{Entry, EntryMap, SharedEntry};
 use messages::Body;
 use stamps::Stamp;
 use std::alloc::Global;
@@ -55,7 +55,7 @@ pub fn read_body(alloc: Global, words: &[&str]) -> Result<Body>
             only: Some(DocId::parse(alloc, name)?),
         }),
         ["store", entry] => Ok(Body::Store {
-            entry: read_entry(alloc, entry)?,
+            entry: SharedEntry::new(alloc, read_entry(alloc, entry)?)?,
         }),
         ["apply", bucket, entries @ ..] => {
             let bucket = Bucket::parse(bucket)?;

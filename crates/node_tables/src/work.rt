@@ -8,7 +8,7 @@ use anyhow::{Result, anyhow};
 use bucket_ids::Bucket;
 use document_ids::DocId;
 use documents::Document;
-use entry_maps::{Entry, EntryMap};
+use entry_maps::{Entry, EntryMap, SharedEntry};
 use messages::{Body, Reply};
 use service_layer::{NodePart, Taken};
 use stamps::Stamp;
@@ -27,16 +27,12 @@ fn store_of(alloc: Global, number: u32) -> Result<Body>
 {
     let id = id_of(alloc, number)?;
     let body = Some(Document::empty(alloc, id.copy(alloc)?));
-    Ok(Body::Store {
-        entry: Entry {
-            stamp: Stamp {
-                version: 1,
-                count: u64::from(number),
-            },
-            id,
-            body,
-        },
-    })
+    let stamp = Stamp {
+        version: 1,
+        count: u64::from(number),
+    };
+    let entry = SharedEntry::new(alloc, Entry { stamp, id, body })?;
+    Ok(Body::Store { entry })
 }
 
 /// A node that holds all keys in two buckets.

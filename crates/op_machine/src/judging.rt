@@ -5,28 +5,28 @@ ghost use Rattle.op_machine.specs.Judging.{document_in, stamp_in, shown_body, sh
 use crate::verdict::Verdict;
 use doc_updates::UpdateFault;
 use documents::Document;
-use entry_maps::Entry;
+use entry_maps::{Entry, SharedEntry};
 use messages::{Decided, Operation, Outcome};
 use stamps::Stamp;
 use std::alloc::Global;
 use value_lists::{NoMemory, TryCopy};
 
 /// The document of an entry that was seen.
-fn document_in(seen: Option<&Entry>) -> Option<&Document>
+fn document_in(seen: Option<&SharedEntry>) -> Option<&Document>
     ensures { option_map (λ d. d.now) result ≡ document_in (option_copied seen.entry) }
 {
     match seen {
-        Some(entry) => entry.body.as_ref(),
+        Some(entry) => entry.entry().body.as_ref(),
         None => None,
     }
 }
 
 /// The stamp of an entry that was seen.
-fn stamp_in(seen: Option<&Entry>) -> Option<Stamp>
+fn stamp_in(seen: Option<&SharedEntry>) -> Option<Stamp>
     ensures { result ≡ stamp_in (option_copied seen.entry) }
 {
     match seen {
-        Some(entry) => Some(entry.stamp),
+        Some(entry) => Some(entry.entry().stamp),
         None => None,
     }
 }
@@ -42,11 +42,11 @@ fn shown_body(stamp: Stamp, body: &Option<Document>) -> Outcome
 }
 
 /// What a get answers by the entry that it saw.
-fn shown(seen: Option<&Entry>) -> Outcome
+fn shown(seen: Option<&SharedEntry>) -> Outcome
     ensures { result ≡ shown (option_copied seen.entry) }
 {
     match seen {
-        Some(entry) => shown_body(entry.stamp, &entry.body),
+        Some(entry) => shown_body(entry.entry().stamp, &entry.entry().body),
         None => Outcome::Missing { seen: None },
     }
 }
@@ -56,18 +56,16 @@ fn written(
     alloc: Global,
     operation: &Operation,
     stamp: Stamp,
-    seen: Option<&Entry>,
+    seen: Option<&SharedEntry>,
 ) -> Result<Verdict, NoMemory>
     ensures { IfOk result (λ verdict. verdict ≡ written operation.now stamp (option_copied seen.entry)) }
 {
     match operation.effect(alloc, document_in(seen)) {
-        Ok(body) => Ok(Verdict::Writes {
-            entry: Entry {
-                stamp,
-                id: operation.id.copy(alloc)?,
-                body,
-            },
-        }),
+        Ok(body) => {
+            let id = operation.id.copy(alloc)?;
+            let entry = SharedEntry::new(alloc, Entry { stamp, id, body })?;
+            Ok(Verdict::Writes { entry })
+        }
         Err(UpdateFault::NoMemory) => Err(NoMemory),
         Err(fault) => Ok(Verdict::Ends {
             outcome: Outcome::BadUpdate { fault },
@@ -80,7 +78,7 @@ fn goes_on(
     alloc: Global,
     operation: &Operation,
     stamp: Option<Stamp>,
-    seen: Option<&Entry>,
+    seen: Option<&SharedEntry>,
 ) -> Result<Verdict, NoMemory>
     ensures { IfOk result (λ verdict. verdict ≡ goes_on operation.now stamp (option_copied seen.entry)) }
 {
@@ -98,7 +96,7 @@ pub fn judged(
     alloc: Global,
     operation: &Operation,
     stamp: Option<Stamp>,
-    seen: Option<&Entry>,
+    seen: Option<&SharedEntry>,
 ) -> Result<Verdict, NoMemory>
     ensures { IfOk result (λ verdict. verdict ≡ judged operation.now stamp (option_copied seen.entry)) }
 {

@@ -9,9 +9,9 @@ ghost use Rattle.op_machine.specs.Standings.{next_at, IsBegun, IsDue, IsAsked, M
 use crate::plan::Plan;
 use crate::settling::Settled;
 use crate::tally::Tally;
-use entry_maps::Entry;
+use entry_maps::SharedEntry;
 use global_ids::key_of;
-use messages::{Message, Operation, Origin, Outcome, Reply};
+use messages::{Message, Origin, Outcome, Reply, SharedOperation};
 use node_sets::NodeSet;
 use stamps::Stamp;
 use std::alloc::Global;
@@ -31,13 +31,13 @@ pub struct Standing {
 impl Standing {
     /// What is known of the outcome once these are its Stores, where the entry that is to be stored is known; takes
     /// no memory.
-    fn outcome_with(&self, stores: &Tally, known: Option<&Entry>) -> Option<Option<Outcome>>
+    fn outcome_with(&self, stores: &Tally, known: Option<&SharedEntry>) -> Option<Option<Outcome>>
         requires { IsDue self.now.plan (answers_of self.now.reads) (option_copied known) }
         ensures { IfSome result (λ outcome. outcome
             ≡ outcome_in (next_of self.now.plan (answers_of self.now.reads) (answers_of stores.now))) }
     {
         match known {
-            Some(entry) => Some(self.plan.stored_outcome(stores, entry.stamp)),
+            Some(entry) => Some(self.plan.stored_outcome(stores, entry.entry().stamp)),
             None => None,
         }
     }
@@ -79,7 +79,7 @@ impl OpMachine {
     /// for a get.
     pub fn new(
         origin: Origin,
-        operation: Operation,
+        operation: SharedOperation,
         stamp: Option<Stamp>,
         recipients: NodeSet,
         active: Option<u8>,
@@ -88,7 +88,7 @@ impl OpMachine {
         requires { IsPlan (plan_of origin operation stamp recipients active acks) }
         ensures { IsBegun (plan_of origin operation stamp recipients active acks) result }
     {
-        let key = key_of(&operation.id);
+        let key = key_of(&operation.operation().id);
         OpMachine::with_key(key, origin, operation, stamp, recipients, active, acks)
     }
 
@@ -96,7 +96,7 @@ impl OpMachine {
     pub fn with_key(
         key: u64,
         origin: Origin,
-        operation: Operation,
+        operation: SharedOperation,
         stamp: Option<Stamp>,
         recipients: NodeSet,
         active: Option<u8>,
@@ -216,7 +216,7 @@ impl OpMachine {
             reads,
             stores,
         } = &self.standing;
-        let reads = reads.with(alloc, self.key, &plan.operation.id, node, reply)?;
+        let reads = reads.with(alloc, self.key, &plan.operation.operation().id, node, reply)?;
         let settled = plan.settle(alloc, &reads, stores, None)?;
         self.standing.reads = reads;
         self.settled = settled;
@@ -242,7 +242,7 @@ impl OpMachine {
             reads,
             stores,
         } = &self.standing;
-        let stores = stores.with(alloc, self.key, &plan.operation.id, node, reply)?;
+        let stores = stores.with(alloc, self.key, &plan.operation.operation().id, node, reply)?;
         match self
             .standing
             .outcome_with(&stores, self.settled.entry.as_ref())

@@ -5,7 +5,7 @@ ghost use Rattle.op_machine.specs.Outcomes.{read_body};
 
 use bucket_ids::Bucket;
 use global_ids::laws::keys_locate;
-use messages::{Body, OpKind, Operation, Origin};
+use messages::{Body, OpKind, Operation, Origin, SharedOperation};
 use node_sets::NodeSet;
 use stamps::Stamp;
 use std::alloc::Global;
@@ -16,7 +16,7 @@ use value_lists::{NoMemory, TryCopy};
 pub struct Plan {
     /// What each message of the operation has.
     pub origin: Origin,
-    pub operation: Operation,
+    pub operation: SharedOperation,
     /// The stamp that was drawn; none exactly for a get.
     pub stamp: Option<Stamp>,
     /// The row's complete members.

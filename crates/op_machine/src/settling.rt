@@ -9,7 +9,7 @@ use crate::judging::judged;
 use crate::plan::{Plan, looks, read_body};
 use crate::tally::Tally;
 use crate::verdict::Verdict;
-use entry_maps::Entry;
+use entry_maps::SharedEntry;
 use messages::{Body, Message, Outcome};
 use std::alloc::Global;
 use value_lists::{NoMemory, TryCopy};
@@ -17,7 +17,7 @@ use value_lists::{NoMemory, TryCopy};
 /// What follows from what was told: the entry that is to be stored, and the outcome.
 #[derive(Drop)]
 pub struct Settled {
-    pub entry: Option<Entry>,
+    pub entry: Option<SharedEntry>,
     pub outcome: Option<Outcome>,
 }
 
@@ -26,7 +26,7 @@ impl Plan {
     pub fn reader(&self, reads: &Tally) -> Option<u8>
         ensures { result ≡ reader self.now (answers_of reads.now) }
     {
-        if looks(&self.operation) {
+        if looks(self.operation.operation()) {
             self.waiting(reads)
         } else {
             None
@@ -37,10 +37,15 @@ impl Plan {
     fn verdict(&self, alloc: Global, reads: &Tally) -> Result<Verdict, NoMemory>
         ensures { IfOk result (λ v. v ≡ verdict self.now (answers_of reads.now)) }
     {
-        if !looks(&self.operation) {
-            judged(alloc, &self.operation, self.stamp, None)
+        if !looks(self.operation.operation()) {
+            judged(alloc, self.operation.operation(), self.stamp, None)
         } else if self.has_enough(reads) {
-            judged(alloc, &self.operation, self.stamp, reads.seen.as_ref())
+            judged(
+                alloc,
+                self.operation.operation(),
+                self.stamp,
+                reads.seen.as_ref(),
+            )
         } else {
             Ok(Verdict::Ends {
                 outcome: self.too_few(reads),
@@ -53,7 +58,7 @@ impl Plan {
         &self,
         alloc: Global,
         reads: &Tally,
-        known: Option<&Entry>,
+        known: Option<&SharedEntry>,
     ) -> Result<Verdict, NoMemory>
         requires over { reader self.now (answers_of reads.now) ≡ None }
         requires known { IsDue self.now (answers_of reads.now) (option_copied known) }
@@ -73,7 +78,7 @@ impl Plan {
         alloc: Global,
         reads: &Tally,
         stores: &Tally,
-        known: Option<&Entry>,
+        known: Option<&SharedEntry>,
     ) -> Result<Settled, NoMemory>
         requires over { reader self.now (answers_of reads.now) ≡ None }
         requires known { IsDue self.now (answers_of reads.now) (option_copied known) }
@@ -85,7 +90,7 @@ impl Plan {
                 outcome: Some(outcome),
             }),
             Verdict::Writes { entry } => {
-                let outcome = self.stored_outcome(stores, entry.stamp);
+                let outcome = self.stored_outcome(stores, entry.entry().stamp);
                 Ok(Settled {
                     entry: Some(entry),
                     outcome,
@@ -101,7 +106,7 @@ impl Plan {
         alloc: Global,
         reads: &Tally,
         stores: &Tally,
-        known: Option<&Entry>,
+        known: Option<&SharedEntry>,
     ) -> Result<Settled, NoMemory>
         requires { IsDue self.now (answers_of reads.now) (option_copied known) }
         ensures { IfOk result (IsSettled self.now (answers_of reads.now) (answers_of stores.now)) }
@@ -122,7 +127,7 @@ impl Plan {
     {
         Ok(
             self.origin
-                .message(node, read_body(alloc, key, &self.operation)?),
+                .message(node, read_body(alloc, key, self.operation.operation())?),
         )
     }
 
@@ -132,7 +137,7 @@ impl Plan {
         &self,
         alloc: Global,
         stores: &Tally,
-        entry: Option<&Entry>,
+        entry: Option<&SharedEntry>,
     ) -> Result<Option<Message>, NoMemory>
         ensures { IfOk result
             (λ m. m ≡ store_message self.now (answers_of stores.now) (option_copied entry.entry)) }

@@ -5,7 +5,7 @@ ghost use Rattle.entry_maps.specs.Entries.{newer_of};
 ghost use Rattle.op_machine.specs.Telling.{is_answer, is_short, entry_shown, IsNobody, IsTold, IsWith};
 
 use document_ids::DocId;
-use entry_maps::Entry;
+use entry_maps::SharedEntry;
 use messages::Reply;
 use node_sets::NodeSet;
 use std::alloc::Global;
@@ -21,7 +21,7 @@ pub struct Tally {
     /// Whether a node wanted memory.
     pub short: bool,
     /// The newest entry of the document that was shown.
-    pub seen: Option<Entry>,
+    pub seen: Option<SharedEntry>,
 }
 
 /// Whether a node took the message.
@@ -45,12 +45,12 @@ fn is_short(reply: Option<&Reply>) -> bool
 }
 
 /// What a reply shows of a document, whose key is beside it.
-fn entry_shown<'a>(key: u64, id: &DocId, reply: Option<&'a Reply>) -> Option<&'a Entry>
+fn entry_shown<'a>(key: u64, id: &DocId, reply: Option<&'a Reply>) -> Option<&'a SharedEntry>
     requires { key ≡ key_of id.now }
     ensures { option_copied result ≡ entry_shown id.now (option_copied reply.entry) }
 {
     match reply {
-        Some(Reply::Answer { entries, .. }) => entries.get_at(key, id),
+        Some(Reply::Answer { entries, .. }) => entries.shared_at(key, id),
         _ => None,
     }
 }
@@ -66,14 +66,14 @@ fn with(set: NodeSet, node: u8, test: bool) -> NodeSet
 /// A copy of the newer of two entries; of equal stamps of the first. The only error is want of memory.
 fn newer_of(
     alloc: Global,
-    there: Option<&Entry>,
-    other: Option<&Entry>,
-) -> Result<Option<Entry>, NoMemory>
+    there: Option<&SharedEntry>,
+    other: Option<&SharedEntry>,
+) -> Result<Option<SharedEntry>, NoMemory>
     ensures { IfOk result (λ newer. newer ≡ newer_of (option_copied there.entry) (option_copied other.entry)) }
 {
     match (there, other) {
         (Some(there), Some(other)) => {
-            if there.stamp.is_before(other.stamp) {
+            if there.entry().stamp.is_before(other.entry().stamp) {
                 Ok(Some(other.copy(alloc)?))
             } else {
                 Ok(Some(there.copy(alloc)?))

@@ -1,4 +1,4 @@
-use entry_maps::Entry;
+use entry_maps::SharedEntry;
 use messages::Outcome;
 
 /// What an operation comes to by what it saw.
@@ -7,5 +7,5 @@ pub enum Verdict {
     /// It is over.
     Ends { outcome: Outcome },
     /// It goes ahead, and this entry is to be stored.
-    Writes { entry: Entry },
+    Writes { entry: SharedEntry },
 }

@@ -12,7 +12,7 @@ ghost use Rattle.replica_store.specs.Replicas.{IsReplica, LieIn, no_replica, aft
 use bucket_ids::Bucket;
 use document_ids::DocId;
 use entry_joins::{join, joins_are_by_document};
-use entry_maps::{Entry, EntryMap};
+use entry_maps::{Entry, EntryMap, SharedEntry};
 use global_ids::laws::keys_locate;
 use laid_pieces::{LaidPieces, StoreFault};
 use pieces::{Piece, PieceList};
@@ -83,11 +83,11 @@ impl ReplicaStore {
     }
 
     /// The same, with the key of the document's id beside it, so that nothing is digested.
-    pub fn entry_at(&self, key: u64, id: &DocId) -> Option<&Entry>
+    pub fn entry_at(&self, key: u64, id: &DocId) -> Option<&SharedEntry>
         requires { key ≡ key_of id.now }
         ensures { option_copied result ≡ fin.get self.now.entries id.now }
     {
-        self.entries.get_at(key, id)
+        self.entries.shared_at(key, id)
     }
 
     /// How many entries there are, removes among them.
@@ -125,7 +125,7 @@ impl ReplicaStore {
     }
 
     /// Takes an entry, whose document's key is beside it; the newest of its document stays.
-    pub fn store(&mut self, key: u64, entry: Entry) -> Result<(), StoreFault>
+    pub fn store(&mut self, key: u64, entry: SharedEntry) -> Result<(), StoreFault>
         requires key { key ≡ key_of entry.id }
         requires room { self.old.serial < 2 ^ 64 - 1 }
         ensures ok { OnOk result (self.new ≡ after_store entry self.old) }

@@ -13,7 +13,7 @@ use crate::regions::with_region;
 use crate::replies::{Taken, done, newer, only_entry, shown};
 use bucket_ids::Bucket;
 use document_ids::DocId;
-use entry_maps::{Entry, EntryMap};
+use entry_maps::{Entry, EntryMap, SharedEntry};
 use global_ids::key_of;
 use messages::{Body, Message, Reply};
 use pieces::{Piece, PieceList};
@@ -219,14 +219,14 @@ impl NodePart {
     }
 
     /// Takes an entry; the newest of its document stays.
-    fn store(&mut self, key: Option<u64>, entry: &Entry) -> Result<(), StoreFault>
+    fn store(&mut self, key: Option<u64>, entry: &SharedEntry) -> Result<(), StoreFault>
         requires key { IfSome key (λ k. k ≡ keys.key_of entry.now.id) }
         requires room { self.old.serial < 2 ^ 64 - 1 }
         ensures ok { OnOk result (self.new ≡ after_body (body.Store entry.now) self.old) }
         ensures err { OnErr result (self.new ≡ self.old) }
         ensures told { IsTold (told (body.Store entry.now) self.old.pieces) result }
     {
-        let key = key_or(key, &entry.id);
+        let key = key_or(key, &entry.entry().id);
         if !self.store.holds(key) {
             return Err(StoreFault::NoBucket);
         }

@@ -7,7 +7,7 @@ ghost use Rattle.service_layer.specs.Nodes.{only_entry};
 ghost use Rattle.service_layer.specs.Takes.{refusal, done_reply, IsReplyTo};
 
 use document_ids::DocId;
-use entry_maps::{Entry, EntryMap};
+use entry_maps::{EntryMap, SharedEntry};
 use global_ids::key_of;
 use messages::{NotedReply, Reply, StampList};
 use pieces::PieceList;
@@ -92,14 +92,14 @@ pub fn shown(alloc: Global, shown: Result<Reply, StoreFault>) -> Taken
 
 /// The key of an entry's document, which is that of an id where the id is the document's, so that nothing is
 /// digested then.
-fn key_at(key: u64, id: &DocId, entry: &Entry) -> u64
+fn key_at(key: u64, id: &DocId, entry: &SharedEntry) -> u64
     requires { key ≡ key_of id.now }
     ensures { result ≡ key_of entry.now.id }
 {
-    if entry.id.text() == id.text() {
+    if entry.is_of(id) {
         key
     } else {
-        key_of(&entry.id)
+        key_of(&entry.entry().id)
     }
 }
 
@@ -109,7 +109,7 @@ pub fn only_entry(
     alloc: Global,
     key: u64,
     id: &DocId,
-    entry: Option<&Entry>,
+    entry: Option<&SharedEntry>,
 ) -> Result<EntryMap, NoMemory>
     requires { key ≡ key_of id.now }
     ensures { IfOk result (λ m. m ≡ only_entry (option_copied entry.entry)) }

@@ -1,4 +1,4 @@
-use Rattle.std.proofs.Common.{◌∙◌, sym, ap, Some, arith}
+use Rattle.std.proofs.Common.{◌∙◌, sym, arith}
 use Rattle.entry_maps.specs.Slots.{slots_in}
 use Rattle.entry_maps.proofs.SlotLists.{get-entries_of}
 use Rattle.entry_maps.proofs.StoredLaws.{found_first, none_but_first, none_in_none}
@@ -9,8 +9,7 @@ returns-then-is_of c =
     let slots = slots_in c.args.self.now in
     let slot = c.in-Some.slot.now in
     let is = rw c.first.ensures.first at c.in-Some.ensures.slot in
-    ap Some c.entry.ensures
-    ∙ sym (get-entries_of slots c.args.id.now ∙ found_first slots c.args.id.now slot c.requires.stored.kept (omega (arith, c.in-Some.ensures.within)) is (c.is_of.ensures.its c.if-is_of.true))
+    sym (get-entries_of slots c.args.id.now ∙ found_first slots c.args.id.now slot c.requires.stored.kept (omega (arith, c.in-Some.ensures.within)) is (c.is_of.ensures.its c.if-is_of.true))
 
 pub returns-else-is_of : goal.returns-else-is_of
 returns-else-is_of c =

@@ -22,7 +22,7 @@ note-requires-clause-legal c =
     let may : MayBeginNext x.lane x.rules (journal_of x) c.args.via s c.args.line o (drawn o.kind s.version (journal_of x))
     = c.operations_begin.ensures.begins _ _ _ _ _ _ _ c.requires.keeps.kept.keeps c.args.via s c.args.line o (drawn o.kind s.version (journal_of x)) c.requires.acting
     closed c.requires.fresh (key-in _ _ c.requires.in_lane) (next-stamp o.kind s.version (journal_of x)) in
-    rw (c.next_stamp-stamp.ensures, c.version-version.ensures.value, c.requires.id) may.legal
+    rw (c.next_stamp-stamp.ensures, c.operation.ensures, c.version-version.ensures.value, c.requires.id) may.legal
 
 pub returns-clause-keeps : goal.returns-clause-keeps
 returns-clause-keeps c =
@@ -34,7 +34,7 @@ returns-clause-keeps c =
     let may : MayBeginNext x.state.lane x.state.rules J c.args.via s c.args.line o (drawn o.kind s.version J)
     = c.operations_begin.ensures.begins _ _ _ _ _ _ _ c.requires.keeps.kept.keeps c.args.via s c.args.line o (drawn o.kind s.version J) c.requires.acting
     closed c.requires.fresh (key-in _ _ c.requires.in_lane) (next-stamp o.kind s.version J) in
-    let stamp : c.next_stamp-stamp.result ≡ drawn o.kind s.version J = c.next_stamp-stamp.ensures ∙ rw c.version-version.ensures.value refl in
+    let stamp : c.next_stamp-stamp.result ≡ drawn o.kind s.version J = c.next_stamp-stamp.ensures ∙ rw (c.operation.ensures, c.version-version.ensures.value) refl in
     let grows : journal_of c.note.new.self ≡ Begun c.args.line c.args.via s.version o.id (drawn o.kind s.version J) ∷ J
     = c.note.ensures.grows ∙ rw (stamp, c.version-version.ensures.value, c.requires.id) refl in
     rw (c.put_job.ensures, stamp, c.requires.key)

@@ -1,4 +1,4 @@
-use Rattle.std.proofs.Common.{◌≡◌, ◌∙◌, List, Some, inl, inr, refl, sym, ap, subst}
+use Rattle.std.proofs.Common.{◌≡◌, ◌∙◌, List, Some, inr, sym, ap, subst}
 use Rattle.bucket_ids.specs.Buckets.{Low}
 use Rattle.ideal_nodes.specs.Placement.{IsOwner}
 use Rattle.lane_journals.specs.KeptJournals.{past}
@@ -7,7 +7,6 @@ use Rattle.lane_states.specs.Growing.{heard_next}
 use Rattle.lane_states.specs.LaneStates.{journal_of}
 use Rattle.lane_core.specs.declared.work.Work.{Work}
 use Rattle.lane_core.specs.LaneValues.{LaneValue}
-use Rattle.lane_core.specs.Upkeeping.{MaintainsBy}
 use Rattle.lane_core.proofs.Upkeeping.{maintains-by, opens-by, rests-by, on-any-ok, on-any-err}
 use Rattle.lane_core.proofs.work.Work.upkeep.Goals as goal
 
