@@ -8,3 +8,4 @@ pub mod MergeLaws
 pub mod RowLaws
 pub mod CountLaws
 pub mod StampLaws
+pub mod AloneLaws

@@ -43,6 +43,10 @@ module _ {K : Type 0} (R : K → K → Ordering) where
   unfolding IsStrictlySortedBy
   rising_none = tt
 
+  pub rising_one : (x : K) → IsStrictlySortedBy R (x ∷ [])
+  unfolding IsStrictlySortedBy
+  rising_one x = (tt, tt)
+
   -- one more between those below and those above
   pub rising_more : (xs ys : List K) (s : K) → IsStrictlySortedBy R (xs ++ ys) → All (λ r. R r s ≡ Less) xs → All (λ r. R s r ≡ Less) ys → IsStrictlySortedBy R (xs ++ s ∷ ys)
   rising_more [] ys s sorted before behind = rising_cons s ys behind sorted

@@ -2,12 +2,12 @@ ghost use Rattle.std.specs.Prelude.{◌≡◌, ℕ, List, IfOk, OnOk, OnErr, not
 ghost use Rattle.std.specs.Option.{option_copied};
 ghost use Rattle.std.specs.FinMap as fin;
 ghost use Rattle.global_ids.specs.Keys.{key_of};
-ghost use Rattle.entry_maps.specs.Entries.{is_newer, with_entry, newer_of, in_bucket, documents_of};
+ghost use Rattle.entry_maps.specs.Entries.{is_newer, with_entry, newer_of, alone, in_bucket, documents_of};
 ghost use Rattle.entry_maps.specs.Stamps.{stamps_of};
 
 use crate::entry::Entry;
+use crate::kept::Kept;
 use crate::shared_entry::SharedEntry;
-use crate::stored::Stored;
 use bucket_ids::{Bucket, path_of};
 use document_ids::DocId;
 use global_ids::key_of;
@@ -19,21 +19,21 @@ use value_lists::{NoMemory, TryCopy};
 /// The newest entry of each document.
 #[derive(Drop)]
 pub struct EntryMap {
-    stored: Stored,
+    kept: Kept,
     alloc: Global,
 }
 
 impl Model for EntryMap {
     ghost use Rattle.entry_maps.specs.EntryCodes.{Entries, entries_code};
-    ghost use Rattle.entry_maps.specs.Slots.{slots_in, entries_of, IsStored};
+    ghost use Rattle.entry_maps.specs.Kept.{kept_entries, IsWell};
 
     ghost Value = { Entries };
 
     ghost coded = { entries_code };
 
-    ghost view = { λ m. entries_of (slots_in m.stored) };
+    ghost view = { λ m. kept_entries m.kept };
 
-    ghost invariant = { λ m. IsStored m.stored };
+    ghost invariant = { λ m. IsWell m.kept };
 }
 
 /// The entry that is shared, if there is one.
@@ -52,7 +52,17 @@ impl EntryMap {
         ensures { result ≡ fin.empty }
     {
         EntryMap {
-            stored: Stored::new(alloc),
+            kept: Kept::none(alloc),
+            alloc,
+        }
+    }
+
+    /// The map of one entry; takes no memory.
+    pub fn of_one(alloc: Global, entry: SharedEntry) -> EntryMap
+        ensures { result ≡ alone entry }
+    {
+        EntryMap {
+            kept: Kept::One(entry),
             alloc,
         }
     }
@@ -61,10 +71,7 @@ impl EntryMap {
     pub fn get(&self, id: &DocId) -> Option<&Entry>
         ensures { option_copied result ≡ fin.get self.now id.now }
     {
-        if self.stored.entries <= 1 {
-            return lent(self.stored.only(id));
-        }
-        self.get_at(key_of(id), id)
+        lent(self.kept.find(id))
     }
 
     /// The same, with the key of the document's id beside it, so that nothing is digested.
@@ -80,31 +87,28 @@ impl EntryMap {
         requires { key ≡ key_of id.now }
         ensures { option_copied result ≡ fin.get self.now id.now }
     {
-        if self.stored.entries <= 1 {
-            return self.stored.only(id);
-        }
-        self.stored.get(path_of(key), id)
+        self.kept.get(path_of(key), id)
     }
 
     /// How many entries there are, removes among them.
     pub fn entries(&self) -> u64
         ensures { result ≡ fin.len self.now }
     {
-        self.stored.entries as u64
+        self.kept.entries() as u64
     }
 
     /// How many documents there are: the entries that aren't removes.
     pub fn documents(&self) -> u64
         ensures { result ≡ documents_of self.now }
     {
-        self.stored.documents as u64
+        self.kept.documents() as u64
     }
 
     /// The stamps of all entries, each once, the smallest first. The only error is want of memory.
     pub fn stamps(&self) -> Result<Vec<Stamp>, NoMemory>
         ensures { IfOk result (λ stamps. stamps.items ≡ stamps_of self.now) }
     {
-        self.stored.stamps(self.alloc)
+        self.kept.stamps(self.alloc)
     }
 
     /// Takes an entry; `false` exactly where an entry of the same or a greater stamp was there,
@@ -125,7 +129,7 @@ impl EntryMap {
         ensures ok { OnOk result (self.new ≡ with_entry self.old entry) }
         ensures err { OnErr result (self.new ≡ self.old) }
     {
-        self.stored.put(self.alloc, path_of(key), entry)
+        self.kept.put(self.alloc, path_of(key), entry)
     }
 
     /// Takes, of each document, the other map's entry where that is newer. The only error is want
@@ -135,7 +139,7 @@ impl EntryMap {
             → fin.get self.new id ≡ newer_of (fin.get self.old id) (fin.get other.now id)) }
         ensures err { OnErr result (self.new ≡ self.old) }
     {
-        self.stored.merge(self.alloc, &other.stored)
+        self.kept.merge(self.alloc, &other.kept)
     }
 
     /// The entries whose documents' keys lie in a bucket. The only error is want of memory.
@@ -143,7 +147,7 @@ impl EntryMap {
         ensures { IfOk result (λ part. part ≡ fin.retain_keys self.now (in_bucket bucket)) }
     {
         Ok(EntryMap {
-            stored: self.stored.within(self.alloc, bucket)?,
+            kept: self.kept.within(self.alloc, bucket)?,
             alloc: self.alloc,
         })
     }
@@ -152,7 +156,7 @@ impl EntryMap {
     pub fn remove_within(&mut self, bucket: Bucket)
         ensures { self.new ≡ fin.retain_keys self.old (λ id. not (in_bucket bucket id)) }
     {
-        self.stored.remove_within(bucket);
+        self.kept.remove_within(self.alloc, bucket);
     }
 }
 
@@ -160,7 +164,7 @@ impl TryCopy for EntryMap {
     /// The entries are shared.
     fn copy(&self, alloc: Global) -> Result<EntryMap, NoMemory> {
         Ok(EntryMap {
-            stored: self.stored.shared(alloc)?,
+            kept: self.kept.shared(alloc)?,
             alloc,
         })
     }

@@ -1,9 +1,10 @@
 //! Entries of documents, and maps in which the newest entry of a document wins.
 //!
-//! An `Entry` is a stamp with a document or with a remove; a `SharedEntry` is one that copies share. A contract sees an `EntryMap` as the finite
-//! map of std's from the text of an id to its entry (`Entries`). Inside, entries are shared and lie in
-//! the order of their keys' bits turned round, so that each bucket is one run (`specs/Slots.antt`), in
-//! rows of about a hundred (`specs/Chunks.antt`). A merge makes new rows only of those among which the other
+//! An `Entry` is a stamp with a document or with a remove; a `SharedEntry` is one that copies share. A contract
+//! sees an `EntryMap` as the finite map of std's from the text of an id to its entry (`Entries`). Inside, entries
+//! are shared and lie in the order of their keys' bits turned round, so that each bucket is one run
+//! (`specs/Slots.antt`), in rows of about a hundred (`specs/Chunks.antt`); a map that is made of one entry keeps
+//! that alone, without a row, until it takes another one. A merge makes new rows only of those among which the other
 //! map's entries lie; the rows before and behind them stay, and all where no entry of the other map is newer.
 //!
 //! ```text
@@ -15,6 +16,7 @@
 //! map.merge(&other)?;                 // of each document the newer entry
 //! map.stamps()?                       // the stamps of all entries, the smallest first
 //! map.copy(alloc)?                    // the same entries, shared
+//! EntryMap::of_one(alloc, entry)      // the map of one entry; takes no memory
 //! ```
 #![tactic(auto)]
 
@@ -24,6 +26,7 @@ mod cuts;
 mod edits;
 pub mod entry;
 pub mod entry_map;
+mod kept;
 pub mod laws;
 mod listing;
 mod merging;

@@ -3,8 +3,9 @@
 //!
 //! A line puts an entry (`put`, or `put_at` beside its key), puts many (`many STEP COUNT STAMP`: documents of
 //! one number), merges the second map into the first (`merge`), cuts the entries of a bucket out of the first
-//! into the second (`within`) or drops them (`remove`), exchanges the maps (`swap`), begins the first anew
-//! (`clear`), asks for a document (`get`, `get_at`) or for the counts of entries and documents (`counts`).
+//! into the second (`within`) or drops them (`remove`), exchanges the maps (`swap`) or copies the first to the
+//! second (`copy`), begins the first anew (`clear`, or of one entry `alone`), asks for a document (`get`,
+//! `get_at`), for the stamps of the first (`stamps`) or for the counts of entries and documents (`counts`).
 #![tactic(auto)]
 
 use anyhow::{Result, anyhow};
@@ -97,6 +98,18 @@ impl Maps {
         )?)
     }
 
+    /// The counts of the stamps of the first map's entries.
+    fn stamps(&self, alloc: Global) -> Result<String> {
+        let mut told = String::new(alloc);
+        for stamp in self.one.stamps()? {
+            if !told.is_empty() {
+                told.push_str(" ")?;
+            }
+            told.push_str(&format!(in alloc; "{}", stamp.count)?)?;
+        }
+        Ok(told)
+    }
+
     /// What an entry line or a question asks for, and its answer.
     fn answer(&mut self, alloc: Global, words: &[&str]) -> Result<Option<String>> {
         match words {
@@ -109,6 +122,16 @@ impl Maps {
             }
             ["put_at", id, count, title] => {
                 Ok(Some(self.put(alloc, entry(alloc, id, count.parse::<u64>()?, title)?, true)?))
+            }
+            ["alone", id, count, title] => {
+                let entry = entry(alloc, id, count.parse::<u64>()?, title)?;
+                self.one = EntryMap::of_one(alloc, SharedEntry::new(alloc, entry)?);
+                Ok(None)
+            }
+            ["stamps"] => Ok(Some(self.stamps(alloc)?)),
+            ["copy"] => {
+                self.two = self.one.copy(alloc)?;
+                Ok(None)
             }
             ["get", id] => Ok(Some(told(alloc, self.one.get(&DocId::parse(alloc, id)?))?)),
             ["get_at", id] => {

@@ -209,7 +209,7 @@ impl NodePart {
             return Err(StoreFault::NoBucket);
         }
         let entry = self.store.entry_at(key, id);
-        let Ok(entries) = only_entry(self.alloc, key, id, entry) else {
+        let Ok(entries) = only_entry(self.alloc, entry) else {
             return Err(StoreFault::NoMemory);
         };
         Ok(Reply::Answer {

@@ -1,14 +1,11 @@
 ghost use Rattle.std.specs.Prelude.{◌≡◌, IfOk};
 ghost use Rattle.std.specs.Option.{option_copied};
-ghost use Rattle.global_ids.specs.Keys.{key_of};
 ghost use Rattle.messages.specs.Noting.{noted_reply};
 ghost use Rattle.messages.specs.declared.reply.Reply.TheVariants as reply;
 ghost use Rattle.service_layer.specs.Nodes.{only_entry};
 ghost use Rattle.service_layer.specs.Takes.{refusal, done_reply, IsReplyTo};
 
-use document_ids::DocId;
 use entry_maps::{EntryMap, SharedEntry};
-use global_ids::key_of;
 use messages::{NotedReply, Reply, StampList};
 use pieces::PieceList;
 use replica_store::StoreFault;
@@ -90,35 +87,12 @@ pub fn shown(alloc: Global, shown: Result<Reply, StoreFault>) -> Taken
     }
 }
 
-/// The key of an entry's document, which is that of an id where the id is the document's, so that nothing is
-/// digested then.
-fn key_at(key: u64, id: &DocId, entry: &SharedEntry) -> u64
-    requires { key ≡ key_of id.now }
-    ensures { result ≡ key_of entry.now.id }
-{
-    if entry.is_of(id) {
-        key
-    } else {
-        key_of(&entry.entry().id)
-    }
-}
-
-/// A map of one entry, or of none; beside it is the id by which it was found, with its key. The only error is
-/// want of memory.
-pub fn only_entry(
-    alloc: Global,
-    key: u64,
-    id: &DocId,
-    entry: Option<&SharedEntry>,
-) -> Result<EntryMap, NoMemory>
-    requires { key ≡ key_of id.now }
+/// A map of one entry, or of none. The only error is want of memory.
+pub fn only_entry(alloc: Global, entry: Option<&SharedEntry>) -> Result<EntryMap, NoMemory>
     ensures { IfOk result (λ m. m ≡ only_entry (option_copied entry.entry)) }
 {
-    let mut entries = EntryMap::new(alloc);
-    let Some(entry) = entry else {
-        return Ok(entries);
-    };
-    let key = key_at(key, id, entry);
-    entries.put_at(key, entry.copy(alloc)?)?;
-    Ok(entries)
+    match entry {
+        Some(entry) => Ok(EntryMap::of_one(alloc, entry.copy(alloc)?)),
+        None => Ok(EntryMap::new(alloc)),
+    }
 }

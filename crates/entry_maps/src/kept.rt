@@ -1,0 +1,249 @@
+ghost use Rattle.std.specs.Prelude.{◌≡◌, ℕ, List, not, IfOk, OnOk, OnErr};
+ghost use Rattle.std.specs.Option.{option_copied};
+ghost use Rattle.std.specs.FinMap as fin;
+ghost use Rattle.entry_maps.specs.Entries.{is_newer, with_entry, newer_of, alone, in_bucket, documents_of};
+ghost use Rattle.entry_maps.specs.Kept.{kept_entries, IsWell};
+ghost use Rattle.entry_maps.specs.Slots.{IsStored, slots_in, entries_of, path_by};
+ghost use Rattle.entry_maps.specs.Stamps.{stamps_of};
+
+use crate::shared_entry::SharedEntry;
+use crate::stored::Stored;
+use bucket_ids::{Bucket, path_of};
+use document_ids::DocId;
+use global_ids::key_of;
+use stamps::Stamp;
+use std::alloc::Global;
+use value_lists::{NoMemory, TryCopy};
+
+/// How a map has its entries.
+#[derive(Drop)]
+pub enum Kept {
+    /// One entry alone, for which no row is made: what a node shows of one document.
+    One(SharedEntry),
+    Rows(Stored),
+}
+
+impl SharedEntry {
+    /// The entry, where it is a document's.
+    fn if_of(&self, id: &DocId) -> Option<&SharedEntry>
+        ensures { option_copied result ≡ fin.get (alone self.now) id.now }
+    {
+        if self.is_of(id) { Some(self) } else { None }
+    }
+
+    /// Its stamp, in a list. The only error is want of memory.
+    fn stamps(&self, alloc: Global) -> Result<Vec<Stamp>, NoMemory>
+        ensures { IfOk result (λ stamps. stamps.items ≡ stamps_of (alone self.now)) }
+    {
+        let mut stamps = Vec::with_capacity(alloc, 1)?;
+        stamps.push(self.entry().stamp)?;
+        Ok(stamps)
+    }
+
+    /// The entry in a row. The only error is want of memory.
+    fn laid(&self, alloc: Global) -> Result<Stored, NoMemory>
+        ensures entries { IfOk result (λ stored. entries_of (slots_in stored) ≡ alone self.now) }
+        ensures stored { IfOk result IsStored }
+    {
+        let mut stored = Stored::new(alloc);
+        let path = path_of(key_of(&self.entry().id));
+        stored.put(alloc, path, self.copy(alloc)?)?;
+        Ok(stored)
+    }
+
+    /// Whether the key of its document lies in a bucket.
+    fn lies_in(&self, bucket: Bucket) -> bool
+        ensures { result ≡ in_bucket bucket self.now.id }
+    {
+        bucket.contains(key_of(&self.entry().id))
+    }
+}
+
+impl Kept {
+    /// No entry; takes no memory.
+    pub fn none(alloc: Global) -> Kept
+        ensures entries { kept_entries result ≡ fin.empty }
+        ensures well { IsWell result }
+    {
+        Kept::Rows(Stored::new(alloc))
+    }
+
+    /// The entry of a document.
+    pub fn find(&self, id: &DocId) -> Option<&SharedEntry>
+        requires { IsWell self.now }
+        ensures { option_copied result ≡ fin.get (kept_entries self.now) id.now }
+    {
+        match self {
+            Kept::One(entry) => entry.if_of(id),
+            Kept::Rows(stored) => {
+                if stored.entries <= 1 {
+                    stored.only(id)
+                } else {
+                    stored.get(path_of(key_of(id)), id)
+                }
+            }
+        }
+    }
+
+    /// The same, with the path of the document's key beside it.
+    pub fn get(&self, path: u64, id: &DocId) -> Option<&SharedEntry>
+        requires well { IsWell self.now }
+        requires path { path ≡ path_by id.now }
+        ensures { option_copied result ≡ fin.get (kept_entries self.now) id.now }
+    {
+        match self {
+            Kept::One(entry) => entry.if_of(id),
+            Kept::Rows(stored) => stored.get(path, id),
+        }
+    }
+
+    /// How many entries there are.
+    pub fn entries(&self) -> usize
+        requires { IsWell self.now }
+        ensures { result ≡ fin.len (kept_entries self.now) }
+    {
+        match self {
+            Kept::One(_) => 1,
+            Kept::Rows(stored) => stored.entries,
+        }
+    }
+
+    /// How many entries have documents.
+    pub fn documents(&self) -> usize
+        requires { IsWell self.now }
+        ensures { result ≡ documents_of (kept_entries self.now) }
+    {
+        match self {
+            Kept::One(entry) => { if entry.has_document() { 1 } else { 0 } }
+            Kept::Rows(stored) => stored.documents,
+        }
+    }
+
+    /// The stamps of all entries, each once, the smallest first. The only error is want of memory.
+    pub fn stamps(&self, alloc: Global) -> Result<Vec<Stamp>, NoMemory>
+        requires { IsWell self.now }
+        ensures { IfOk result (λ stamps. stamps.items ≡ stamps_of (kept_entries self.now)) }
+    {
+        match self {
+            Kept::One(entry) => entry.stamps(alloc),
+            Kept::Rows(stored) => stored.stamps(alloc),
+        }
+    }
+
+    /// Takes an entry where it is newer than what is there, and says whether it is. The only error is want of
+    /// memory.
+    pub fn put(&mut self, alloc: Global, path: u64, entry: SharedEntry) -> Result<bool, NoMemory>
+        requires well { IsWell self.old }
+        requires path { path ≡ path_by entry.id }
+        ensures taken { IfOk result (λ taken. taken ≡ is_newer entry (fin.get (kept_entries self.old) entry.id)) }
+        ensures ok { OnOk result (kept_entries self.new ≡ with_entry (kept_entries self.old) entry) }
+        ensures err { OnErr result (kept_entries self.new ≡ kept_entries self.old) }
+        ensures well { IsWell self.new }
+    {
+        match self {
+            Kept::Rows(stored) => stored.put(alloc, path, entry),
+            Kept::One(one) => {
+                let mut stored = one.laid(alloc)?;
+                let taken = stored.put(alloc, path, entry)?;
+                *self = Kept::Rows(stored);
+                Ok(taken)
+            }
+        }
+    }
+
+    /// Takes the entries of rows that are newer. The only error is want of memory.
+    fn merge_rows(&mut self, alloc: Global, others: &Stored) -> Result<(), NoMemory>
+        requires well { IsWell self.old }
+        requires other { IsStored others.now }
+        ensures ok { OnOk result ((id : List ℕ) → fin.get (kept_entries self.new) id
+            ≡ newer_of (fin.get (kept_entries self.old) id) (fin.get (entries_of (slots_in others.now)) id)) }
+        ensures err { OnErr result (kept_entries self.new ≡ kept_entries self.old) }
+        ensures well { IsWell self.new }
+    {
+        match self {
+            Kept::Rows(stored) => stored.merge(alloc, others),
+            Kept::One(one) => {
+                let mut stored = one.laid(alloc)?;
+                stored.merge(alloc, others)?;
+                *self = Kept::Rows(stored);
+                Ok(())
+            }
+        }
+    }
+
+    /// Takes another entry where it is newer than what is there. The only error is want of memory.
+    fn merge_one(&mut self, alloc: Global, other: &SharedEntry) -> Result<(), NoMemory>
+        requires { IsWell self.old }
+        ensures ok { OnOk result ((id : List ℕ) → fin.get (kept_entries self.new) id
+            ≡ newer_of (fin.get (kept_entries self.old) id) (fin.get (alone other.now) id)) }
+        ensures err { OnErr result (kept_entries self.new ≡ kept_entries self.old) }
+        ensures well { IsWell self.new }
+    {
+        let path = path_of(key_of(&other.entry().id));
+        self.put(alloc, path, other.copy(alloc)?)?;
+        Ok(())
+    }
+
+    /// Takes the entries of another map that are newer. The only error is want of memory.
+    pub fn merge(&mut self, alloc: Global, other: &Kept) -> Result<(), NoMemory>
+        requires well { IsWell self.old }
+        requires other { IsWell other.now }
+        ensures ok { OnOk result ((id : List ℕ) → fin.get (kept_entries self.new) id
+            ≡ newer_of (fin.get (kept_entries self.old) id) (fin.get (kept_entries other.now) id)) }
+        ensures err { OnErr result (kept_entries self.new ≡ kept_entries self.old) }
+        ensures well { IsWell self.new }
+    {
+        match other {
+            Kept::One(entry) => self.merge_one(alloc, entry),
+            Kept::Rows(stored) => self.merge_rows(alloc, stored),
+        }
+    }
+
+    /// The entries whose keys lie in a bucket. The only error is want of memory.
+    pub fn within(&self, alloc: Global, bucket: Bucket) -> Result<Kept, NoMemory>
+        requires { IsWell self.now }
+        ensures entries { IfOk result (λ part. kept_entries part
+            ≡ fin.retain_keys (kept_entries self.now) (in_bucket bucket)) }
+        ensures well { IfOk result IsWell }
+    {
+        match self {
+            Kept::One(entry) => {
+                if entry.lies_in(bucket) {
+                    Ok(Kept::One(entry.copy(alloc)?))
+                } else {
+                    Ok(Kept::none(alloc))
+                }
+            }
+            Kept::Rows(stored) => Ok(Kept::Rows(stored.within(alloc, bucket)?)),
+        }
+    }
+
+    /// Removes the entries whose keys lie in a bucket.
+    pub fn remove_within(&mut self, alloc: Global, bucket: Bucket)
+        requires { IsWell self.old }
+        ensures entries { kept_entries self.new
+            ≡ fin.retain_keys (kept_entries self.old) (λ id. not (in_bucket bucket id)) }
+        ensures well { IsWell self.new }
+    {
+        match self {
+            Kept::Rows(stored) => stored.remove_within(bucket),
+            Kept::One(entry) => {
+                if entry.lies_in(bucket) {
+                    *self = Kept::none(alloc);
+                }
+            }
+        }
+    }
+
+    /// A copy that shares all entries. The only error is want of memory.
+    pub fn shared(&self, alloc: Global) -> Result<Kept, NoMemory>
+        requires { IsWell self.now }
+        ensures entries { IfOk result (λ copy. kept_entries copy ≡ kept_entries self.now) }
+        ensures well { IfOk result IsWell }
+    {
+        match self {
+            Kept::One(entry) => Ok(Kept::One(entry.copy(alloc)?)),
+            Kept::Rows(stored) => Ok(Kept::Rows(stored.shared(alloc)?)),
+        }
+    }
+}
