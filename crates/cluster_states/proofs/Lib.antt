@@ -1,4 +1,4 @@
-pub mod MarkLists
+pub mod MarkSets
 pub mod Sizes
 pub mod Numerals
 pub mod Counting

@@ -1,7 +1,8 @@
-ghost use Rattle.std.specs.Prelude.{◌≡◌, ◌≤◌, ◌<◌, ℕ, length, slice_index_or, slice_set, replicate};
+ghost use Rattle.std.specs.Prelude.{◌≡◌, ◌==◌, ◌≤◌, ◌<◌, ℕ, nat_lt, if◌then◌else◌, length, slice_index_or, slice_set, replicate};
 ghost use Rattle.std.specs.List.{count_by};
 ghost use Rattle.node_sets.specs.Members.{has_node};
 ghost use Rattle.cluster_states.specs.MarkTests.{is_up, counts};
+ghost use Rattle.cluster_states.specs.MarkWords.{is_retired, mark_of};
 ghost use Rattle.cluster_states.specs.declared.marks.Mark.TheVariants.{Up, Down};
 
 use node_sets::NodeSet;
@@ -27,6 +28,16 @@ impl Mark {
         }
     }
 
+    /// Whether it is retired.
+    fn is_retired(self) -> bool
+        ensures { result ≡ is_retired self }
+    {
+        match self {
+            Mark::Retired => true,
+            Mark::Up | Mark::Down => false,
+        }
+    }
+
     /// Whether it is up, or retired where those count.
     pub fn counts(self, retired: bool) -> bool
         ensures { result ≡ counts retired self }
@@ -39,32 +50,69 @@ impl Mark {
     }
 }
 
-/// The marks of the numbers below a count of at most 32.
+/// The mark of a number that is up or not, and retired or not.
+fn mark_of(up: bool, retired: bool) -> Mark
+    ensures { result ≡ mark_of up retired }
+{
+    if up {
+        Mark::Up
+    } else if retired {
+        Mark::Retired
+    } else {
+        Mark::Down
+    }
+}
+
+/// The word of the numbers below a count.
+fn all_below(count: u8) -> u32
+    requires { count ≤ 32 }
+    ensures { (n : ℕ) → has_node result n ≡ nat_lt n count }
+{
+    ((1u64 << count) - 1) as u32
+}
+
+/// A word with or without a number.
+fn put(bits: u32, node: u8, member: bool) -> u32
+    requires { node < 32 }
+    ensures { (n : ℕ) → has_node result n ≡ (if n == node then member else has_node bits n) }
+{
+    let nodes = NodeSet::of(bits);
+    let changed = if member {
+        nodes.with(node)
+    } else {
+        nodes.without(node)
+    };
+    changed.bits()
+}
+
+/// The marks of the numbers below a count of at most 32: a word of those that are up and one of those that
+/// are retired, none in both. The bits from the count on are 0.
 #[derive(Clone, Copy, Debug, PartialEq, Eq)]
 pub struct Marks {
-    marks: [Mark; 32],
+    up: u32,
+    retired: u32,
     count: u8,
 }
 
 impl Model for Marks {
-    ghost use Rattle.std.specs.Prelude.{◌≡◌, ◌≤◌, ◌-◌, ◌++◌, List, take, drop, length, replicate};
+    ghost use Rattle.std.specs.Prelude.{List, length};
+    ghost use Rattle.cluster_states.specs.MarkTests.{is_up};
     ghost use Rattle.cluster_states.specs.declared.marks.Mark.{Mark};
-    ghost use Rattle.cluster_states.specs.declared.marks.Mark.TheVariants.{Up};
-    ghost use Rattle.cluster_states.specs.GivenBack.{same_count, same_marks};
+    ghost use Rattle.cluster_states.specs.MarkWords.{is_retired, listed, word, Marking, same_up, same_retired, same_count};
 
     ghost Value = { List Mark };
 
-    ghost view = { λ m. take m.count m.marks };
+    ghost view = { λ m. listed m.up m.retired m.count };
 
-    ghost invariant = { λ m. (m.count ≤ 32)
-        × ((length m.marks ≡ 32) × (drop m.count m.marks ≡ replicate (32 - m.count) Up)) };
+    ghost invariant = { λ m. Marking m.up m.retired m.count };
 
-    ghost inverse = { λ l. record { marks = l ++ replicate (32 - length l) Up; count = length l } };
+    ghost inverse = { λ l. record { up = word is_up l; retired = word is_retired l; count = length l } };
 
     ghost inverse_ok = { λ m h i.
         record {
-          marks = same_marks m.count m.marks h.0 h.1.0 h.1.1 i;
-          count = same_count m.count m.marks h.0 h.1.0 i;
+          up = same_up m.up m.retired m.count h i;
+          retired = same_retired m.up m.retired m.count h i;
+          count = same_count m.up m.retired m.count i;
         } };
 }
 
@@ -75,7 +123,8 @@ impl Marks {
         ensures { result ≡ replicate count Up }
     {
         Marks {
-            marks: [Mark::Up; 32],
+            up: all_below(count),
+            retired: 0,
             count,
         }
     }
@@ -92,11 +141,9 @@ impl Marks {
     pub fn at(self, number: u8) -> Mark
         ensures { result ≡ slice_index_or self number Down }
     {
-        if number < self.count {
-            self.marks[usize::from(number)]
-        } else {
-            Mark::Down
-        }
+        let up = NodeSet::of(self.up).has(number);
+        let retired = NodeSet::of(self.retired).has(number);
+        mark_of(up, retired)
     }
 
     /// The marks with another one for a number.
@@ -106,10 +153,9 @@ impl Marks {
         if number >= self.count {
             return self;
         }
-        let mut marks = self.marks;
-        marks[usize::from(number)] = mark;
         Marks {
-            marks,
+            up: put(self.up, number, mark.is_up()),
+            retired: put(self.retired, number, mark.is_retired()),
             count: self.count,
         }
     }
@@ -119,25 +165,18 @@ impl Marks {
         ensures value { result ≡ count_by is_up self }
         ensures most { result ≤ 32 }
     {
-        let mut up = 0;
-        for number in 0..self.count {
-            if self.at(number).is_up() {
-                up += 1;
-            }
-        }
-        up
+        NodeSet::of(self.up).len()
     }
 
     /// The numbers that are up, and where `retired` those that are retired.
     pub fn set(self, retired: bool) -> NodeSet
         ensures { (n : ℕ) → has_node result n ≡ counts retired (slice_index_or self n Down) }
     {
-        let mut set = NodeSet::none();
-        for number in 0..self.count {
-            if self.at(number).counts(retired) {
-                set = set.with(number);
-            }
+        let up = NodeSet::of(self.up);
+        if retired {
+            up.union(NodeSet::of(self.retired))
+        } else {
+            up
         }
-        set
     }
 }
