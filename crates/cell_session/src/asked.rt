@@ -8,6 +8,7 @@ use doc_types::Schema;
 use feed_lines::laws::commands_are_in_range;
 use feed_lines::{Cause, Command, LineFault, read_line};
 use io_ends::LONGEST;
+use line_values::ValueReader;
 use messages::Operation;
 use node_sets::NodeSet;
 use std::alloc::Global;
@@ -67,13 +68,19 @@ fn of_text(text: &str, deaf: NodeSet) -> Asked
 }
 
 /// What a line of at most 65,536 bytes asks for.
-fn short_asked(alloc: Global, schema: &Schema, bits: u8, bytes: &[u8]) -> Result<Asked, NoMemory>
+fn short_asked(
+    alloc: Global,
+    values: &mut ValueReader,
+    schema: &Schema,
+    bits: u8,
+    bytes: &[u8],
+) -> Result<Asked, NoMemory>
     requires { bits < 8 }
     ensures value { IfOk result (λ a. IsAskedBy (line_said schema.now bits bytes.now) a) }
     ensures own { IfOk result (λ a. IsOwnAsked bits a) }
 {
     commands_are_in_range();
-    match read_line(alloc, bytes, schema, bits) {
+    match read_line(alloc, values, bytes, schema, bits) {
         Ok(Command::Blank) => Ok(Asked::Blank),
         Ok(Command::Feed { operation, via }) => Ok(Asked::Feed { operation, via }),
         Ok(Command::State { text, deaf }) => Ok(of_text(text.text(), deaf)),
@@ -88,7 +95,13 @@ fn short_asked(alloc: Global, schema: &Schema, bits: u8, bytes: &[u8]) -> Result
 
 /// What a line asks for in a session of 2^bits lanes, from its bytes without the line feed. The only error
 /// is want of memory.
-pub fn asked_of(alloc: Global, schema: &Schema, bits: u8, bytes: &[u8]) -> Result<Asked, NoMemory>
+pub fn asked_of(
+    alloc: Global,
+    values: &mut ValueReader,
+    schema: &Schema,
+    bits: u8,
+    bytes: &[u8],
+) -> Result<Asked, NoMemory>
     requires { bits < 8 }
     ensures value { IfOk result (λ a. IsAsked schema.now bits bytes.now a) }
     ensures own { IfOk result (λ a. IsOwnAsked bits a) }
@@ -96,5 +109,5 @@ pub fn asked_of(alloc: Global, schema: &Schema, bits: u8, bytes: &[u8]) -> Resul
     if bytes.len() > LONGEST {
         return Ok(Asked::TooLong);
     }
-    short_asked(alloc, schema, bits, bytes)
+    short_asked(alloc, values, schema, bits, bytes)
 }

@@ -6,6 +6,7 @@ use crate::asked::{Asked, asked_of};
 use crate::status::Status;
 use doc_types::Schema;
 use io_ends::{LineReader, Next, Source};
+use line_values::ValueReader;
 use std::alloc::Global;
 
 /// What comes next in a session.
@@ -20,6 +21,7 @@ pub enum Step {
 /// The next line's command under a schema in a session of 2^bits lanes, or how the session ends.
 pub fn next_command<S: Source>(
     alloc: Global,
+    values: &mut ValueReader,
     schema: &Schema,
     bits: u8,
     reader: &mut LineReader,
@@ -37,7 +39,7 @@ pub fn next_command<S: Source>(
     ensures cause { CausedBySource result S.last (S.faults source.old) (S.faults source.new) }
 {
     match reader.next(source, line) {
-        Next::Line { number } => line_command(alloc, schema, bits, number, line),
+        Next::Line { number } => line_command(alloc, values, schema, bits, number, line),
         Next::TooLong { number } => Step::Command {
             number,
             command: Asked::TooLong,
@@ -58,12 +60,19 @@ pub fn next_command<S: Source>(
 }
 
 /// The command of a line that was read.
-fn line_command(alloc: Global, schema: &Schema, bits: u8, number: u32, line: &[u8]) -> Step
+fn line_command(
+    alloc: Global,
+    values: &mut ValueReader,
+    schema: &Schema,
+    bits: u8,
+    number: u32,
+    line: &[u8],
+) -> Step
     requires { bits < 8 }
     ensures value { IsOfLine schema.now bits result number line.now }
     ensures own { IsOwnStep bits result }
 {
-    let Ok(command) = asked_of(alloc, schema, bits, line) else {
+    let Ok(command) = asked_of(alloc, values, schema, bits, line) else {
         return Step::Over {
             status: Status::NoMemory,
         };

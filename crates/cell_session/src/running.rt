@@ -25,6 +25,7 @@ use crate::status::Status;
 use carriers::Carriers;
 use doc_types::Schema;
 use io_ends::{LimitKind, LineReader, Sink, Source, write_all};
+use line_values::ValueReader;
 use reports::usage_report;
 use session_lanes::laws::{
     hearings_follow_deeds, lanes_are_complete, lanes_are_durable, lines_are_refused_with_cause,
@@ -162,13 +163,22 @@ fn run_lines<S: Source, K: Sink, C: Carriers>(
     let Ok(mut reader) = LineReader::new(alloc, MOST_BYTES, MOST_LINES) else {
         return Status::NoMemory;
     };
+    let mut values = ValueReader::new(alloc);
     let mut line = Vec::new(alloc);
     let mut counts = Counts {
         states: 0,
         maintains: 0,
     };
     loop {
-        let step = next_command(alloc, schema, setting.bits, &mut reader, source, &mut line);
+        let step = next_command(
+            alloc,
+            &mut values,
+            schema,
+            setting.bits,
+            &mut reader,
+            source,
+            &mut line,
+        );
         let (number, command) = match step {
             Step::Command { number, command } => (number, command),
             Step::Over { status } => return status,

@@ -8,7 +8,7 @@ use Rattle.feed_lines.specs.Keys.{name_of}
 use Rattle.conditions.specs.Formulas.{Formula}
 use Rattle.doc_selection.specs.Saying.{selection_in}
 use Rattle.doc_selection.specs.declared.terms.Term.{Term}
-use Rattle.feed_lines.specs.Lines.{SaysCondition, SaysCreate, SaysVia, HasVerb, IsLine}
+use Rattle.feed_lines.specs.Lines.{SaysCondition, SaysCreate, SaysVia, IsLine}
 use Rattle.feed_lines.specs.Meaning.{feed_in, command_in, create_in, via_in, answer_by, verb_said, data_said}
 use Rattle.feed_lines.specs.Tests.{or_false, first_cause, verb_of, is_built, Beside, beside_of, has_wanted, has_right_keys, as_id, id_in, has_type, is_object_in, has_fields, has_values, has_size, is_text_if, is_truth_if, is_node_if, has_options, condition_in, has_condition, text_of, tests}
 use Rattle.feed_lines.specs.declared.command.Cause.{Cause}

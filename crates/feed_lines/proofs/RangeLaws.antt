@@ -1,5 +1,5 @@
 -- What holds of each command, whatever its line.
-use Rattle.std.proofs.Common.{◌≡◌, ◌==◌, ◌⊎◌, inl, inr, ℕ, zero, suc, ◌+◌, ◌<◌, ◌≤◌, ◌^◌, ℤ, pos, negsuc, Bool, true, false, List, [], ◌∷◌, length, codes, Option, Some, None, option_map, option_and_then, Result, Ok, Err, nat_lt, nat_le, refl, sym, ap, ◌∙◌, arith, cond, subst}
+use Rattle.std.proofs.Common.{◌≡◌, ◌==◌, ◌⊎◌, inl, inr, ℕ, zero, suc, ◌<◌, ◌≤◌, ◌^◌, ℤ, pos, negsuc, Bool, true, false, List, [], ◌∷◌, length, codes, Option, Some, None, option_and_then, Ok, Err, nat_lt, nat_le, refl, sym, ap, ◌∙◌, arith, cond, subst}
 use Rattle.std.proofs.lemmas.Bool.Decides.{nat_tests}
 use Rattle.std.specs.List.{AllByRecursion}
 use Rattle.std.specs.Str.{is_utf8, bytes_eq}
@@ -18,8 +18,7 @@ use Rattle.carriers.specs.declared.fate.Fate.{Fate}
 use Rattle.carriers.specs.declared.fate.Fate.TheVariants as fate
 use Rattle.feed_lines.specs.Lines.{SaysVia}
 use Rattle.feed_lines.specs.Meaning.{is_blank_line, data_said, json_said, text_said, line_said}
-use Rattle.feed_lines.specs.Values.{below, number_below, node_of, lane_end, most_fates, IsFate, late_by, late_of, fate_named, fate_by, fate_of, few_fates, fates_of}
-use Rattle.feed_lines.specs.declared.command.Cause.{Cause}
+use Rattle.feed_lines.specs.Values.{below, number_below, lane_end, most_fates, IsFate, late_by, fate_named, fate_by, fate_of, few_fates}
 use Rattle.feed_lines.specs.declared.command.Cause.TheVariants as cause
 use Rattle.feed_lines.specs.declared.command.Command.{Command}
 use Rattle.feed_lines.specs.declared.command.Command.TheVariants as command

@@ -1,17 +1,16 @@
 -- What lines are states, stops, starts and plans of messages.
-use Rattle.std.proofs.Common.{◌≡◌, ℕ, ◌^◌, ◌&&◌, Bool, true, false, List, [], ◌∷◌, codes, Option, Some, None, is_some, option_map, option_and_then, Ok, refl, sym, ap, ap₂, ◌∙◌}
+use Rattle.std.proofs.Common.{◌≡◌, ℕ, ◌&&◌, Bool, true, false, List, [], ◌∷◌, codes, Option, Some, None, is_some, option_map, option_and_then, Ok, refl, sym, ap, ap₂, ◌∙◌}
 use Rattle.serde_json.specs.Data.{Data, null, boolean, number, string, array, object}
 use Rattle.serde_json.specs.Find.{get, as_str}
 use Rattle.doc_types.specs.SchemaCodes.{Types}
 use Rattle.carriers.specs.declared.fate.Fate.{Fate}
-use Rattle.feed_lines.specs.Lines.{HasVerb, SaysDeaf, IsState, IsNodeLine, IsNet}
+use Rattle.feed_lines.specs.Lines.{SaysDeaf, IsState, IsNodeLine, IsNet}
 use Rattle.feed_lines.specs.Meaning.{answer_by, number_of, list_of, command_in, own_said, state_said, stop_said, start_said, net_said, data_said}
 use Rattle.feed_lines.specs.Tests.{first_cause, verb_of, members_of, has_net_keys, net_of, in_net, state_in, deaf_in, node_in, lane_in, fates_in, text_of, tests}
 use Rattle.feed_lines.specs.Keys.{all_stand}
 use Rattle.feed_lines.specs.Values.{node_of, lane_of, set_of, nodes_of, set_said, fates_of}
 use Rattle.feed_lines.specs.declared.command.Cause.{Cause}
 use Rattle.feed_lines.specs.declared.command.Cause.TheVariants as cause
-use Rattle.feed_lines.specs.declared.command.Command.{Command}
 use Rattle.feed_lines.specs.declared.command.Command.TheVariants as command
 use Rattle.feed_lines.specs.declared.keys.LineVerb.{LineVerb}
 use Rattle.feed_lines.specs.declared.keys.LineVerb.TheVariants as line

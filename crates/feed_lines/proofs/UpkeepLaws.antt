@@ -1,5 +1,5 @@
 -- What lines are upkeep.
-use Rattle.std.proofs.Common.{◌≡◌, ℕ, ◌&&◌, Bool, true, false, List, [], ◌∷◌, codes, Option, Some, None, option_and_then, Ok, refl, ap}
+use Rattle.std.proofs.Common.{◌≡◌, ℕ, ◌&&◌, Bool, true, false, [], ◌∷◌, codes, Option, Some, None, option_and_then, Ok, refl, ap}
 use Rattle.serde_json.specs.Data.{Data, null, boolean, number, string, array, object}
 use Rattle.serde_json.specs.Find.{get, as_bool}
 use Rattle.doc_types.specs.SchemaCodes.{Types}

@@ -1,5 +1,5 @@
 -- What values of lines say: numbers of nodes, sets of them, lanes and fates.
-use Rattle.std.specs.Prelude.{◌==◌, ◌≤◌, ℕ, zero, suc, ◌^◌, ℤ, pos, negsuc, Bool, true, false, List, [], ◌∷◌, codes, Option, Some, None, option_map, option_and_then, nat_lt, nat_le, if◌then◌else◌}
+use Rattle.std.specs.Prelude.{◌==◌, ◌≤◌, ℕ, zero, suc, ◌^◌, ℤ, pos, negsuc, List, [], ◌∷◌, codes, Option, Some, None, option_map, option_and_then, nat_lt, nat_le, if◌then◌else◌}
 use Rattle.std.specs.Int.Bits.{bit_or}
 use Rattle.std.specs.Str.{bytes_eq}
 use Rattle.serde_json.specs.Data.{Data, Items}

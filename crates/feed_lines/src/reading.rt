@@ -12,6 +12,7 @@ use crate::settings::{maintain_command, net_command, start_command, state_comman
 use crate::shape::{has_right_keys, is_built, verb_of};
 use doc_types::Schema;
 use io_ends::LONGEST;
+use line_values::{ReadFault, ValueReader};
 use serde_json::Value;
 use simdutf8::basic::from_utf8;
 use std::alloc::Global;
@@ -91,24 +92,26 @@ fn data_command(
 }
 
 /// What a text asks for.
-fn json_command(alloc: Global, text: &str, schema: &Schema, bits: u8) -> Result<Command, LineFault>
+fn json_command(
+    alloc: Global,
+    values: &mut ValueReader,
+    text: &str,
+    schema: &Schema,
+    bits: u8,
+) -> Result<Command, LineFault>
     ensures { Gives result (json_said schema.now bits (read text.now)) }
 {
-    match Value::from_str(alloc, text) {
+    match values.read(alloc, text) {
         Ok(line) => data_command(alloc, &line, schema, bits),
-        Err(error) => {
-            if error.is_memory() {
-                Err(LineFault::NoMemory)
-            } else {
-                Err(bad(Cause::Json))
-            }
-        }
+        Err(ReadFault::Text) => Err(bad(Cause::Json)),
+        Err(ReadFault::NoMemory) => Err(LineFault::NoMemory),
     }
 }
 
 /// What bytes ask for.
 fn text_command(
     alloc: Global,
+    values: &mut ValueReader,
     bytes: &[u8],
     schema: &Schema,
     bits: u8,
@@ -116,16 +119,17 @@ fn text_command(
     ensures { Gives result (text_said schema.now bits bytes.now) }
 {
     match from_utf8(bytes) {
-        Ok(text) => json_command(alloc, text, schema, bits),
+        Ok(text) => json_command(alloc, values, text, schema, bits),
         Err(_) => Err(bad(Cause::Json)),
     }
 }
 
 /// What a line asks for in a session of 2^bits lanes, from its bytes without the line feed; a bad line has the
-/// first cause that holds of it.
+/// first cause that holds of it. The caller keeps the reader of values from line to line.
 #[tactic(auto, unfolding(crate::specs::Meaning::line_said))]
 pub fn read_line(
     alloc: Global,
+    values: &mut ValueReader,
     bytes: &[u8],
     schema: &Schema,
     bits: u8,
@@ -135,5 +139,5 @@ pub fn read_line(
     if is_blank_line(bytes) {
         return Ok(Command::Blank);
     }
-    text_command(alloc, bytes, schema, bits)
+    text_command(alloc, values, bytes, schema, bits)
 }

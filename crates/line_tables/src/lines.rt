@@ -2,6 +2,7 @@ use anyhow::{Result, anyhow};
 use carriers::Fate;
 use doc_types::{DEFAULT_SCHEMA, Schema};
 use feed_lines::{Cause, Command, LineFault, read_line};
+use line_values::ValueReader;
 use messages::OpKind;
 use node_sets::NodeSet;
 use std::alloc::Global;
@@ -65,8 +66,8 @@ fn told_state(alloc: Global, text: &str, deaf: NodeSet) -> Result<String> {
 }
 
 /// What a line asks for, or its cause, in a few words.
-fn told(alloc: Global, schema: &Schema, line: &[u8]) -> Result<String> {
-    Ok(match read_line(alloc, line, schema, 4) {
+fn told(alloc: Global, values: &mut ValueReader, schema: &Schema, line: &[u8]) -> Result<String> {
+    Ok(match read_line(alloc, values, line, schema, 4) {
         Ok(Command::Blank) => String::from_str(alloc, "blank")?,
         Ok(Command::Feed { operation, via }) => match via {
             Some(via) => format!(in alloc; "{} via {via}", word_of_kind(&operation.kind))?,
@@ -117,9 +118,10 @@ pub fn print_lines(rt: &HostRuntime) -> Result<()> {
     let alloc = rt.alloc();
     let schema = Schema::from_json(alloc, DEFAULT_SCHEMA)?;
     let text = fs::read_to_string(rt, "lines")?;
+    let mut values = ValueReader::new(alloc);
     for line in text.split('\n') {
         let bytes = bytes_of(alloc, line)?;
-        println!(rt; "{}: {line}", told(alloc, &schema, &bytes)?)?;
+        println!(rt; "{}: {line}", told(alloc, &mut values, &schema, &bytes)?)?;
     }
     Ok(())
 }
