@@ -1,0 +1,15 @@
+pub mod Numbers
+pub mod Walking
+pub mod RowLists
+pub mod RoundedRows
+pub mod SettledPlaces
+pub mod OrderedRows
+pub mod Reached
+pub mod Standings
+pub mod SettleTurns
+pub mod JoinTurns
+pub mod SplitTurns
+pub mod Turning
+pub mod Resending
+pub mod Ending
+pub mod Framing
