@@ -1,5 +1,5 @@
 -- Where the rows of so many bits begin, as in the abstract.
-use Rattle.std.proofs.Common.{◌≡◌, ◌∙◌, ◌<◌, ◌≤◌, ℕ, suc, ◌+◌, Bool, true, false, cond, List, [], ◌∷◌, None, length, get_or, refl, sym, ap, subst, arith, nat_lt}
+use Rattle.std.proofs.Common.{◌≡◌, ◌∙◌, ◌<◌, ◌≤◌, ℕ, zero, suc, ◌+◌, Bool, true, false, cond, List, [], ◌∷◌, Some, None, length, get_or, slice_get, refl, sym, ap, subst, arith, nat_lt}
 use Rattle.std.proofs.lemmas.Bool.Decides.{nat_tests}
 use Rattle.bucket_ids.specs.Buckets.{Low}
 use Rattle.bucket_db.specs.Rows.{AreRows, buckets_of}
@@ -63,3 +63,34 @@ first-fewer bits least (x ∷ xs) [] are rise = absurd are
 pub levels_same : (lane : Low) (bits : ℕ) (rows : List Row) (rs : List rest.Row) → AreRows lane (buckets_of rows) → AreOfBuckets rows rs → first_with bits rows ≡ fewer bits rs
 levels_same lane bits rows rs h are =
     first-fewer bits 0 rows rs are (rise-by 0 rows (λ j less. omega arith) (λ i j le less. bits_rise lane rows h i j some_row le less))
+
+-- ---- a row stands before those of more bits just if it has no more
+
+least-at : (least : ℕ) (rows : List Row) → BitsRise least rows → (at : ℕ) (row : Row) → slice_get rows at ≡ Some row → least ≤ row.bucket.bits
+least-at least [] rise at row h = cc
+least-at least (x ∷ xs) (up, rise) zero row h = let same : x ≡ row = cc in subst (λ (r : Row). least ≤ r.bucket.bits) same up
+least-at least (x ∷ xs) (up, rise) (suc at) row h = let le = least-at x.bucket.bits xs rise at row h in omega (arith, up, le)
+
+level-at : (m least : ℕ) (rows : List Row) → BitsRise least rows → (at : ℕ) (row : Row) → slice_get rows at ≡ Some row → nat_lt at (first_with m rows) ≡ nat_lt row.bucket.bits m
+level-at m least [] rise at row h = cc
+level-at m least (x ∷ xs) (up, rise) zero row h = let same : x ≡ row = cc in by_test (nat_lt x.bucket.bits m) ∙ ap (λ (r : Row). nat_lt r.bucket.bits m) same
+  where
+    by_test : (t : Bool) → nat_lt 0 (cond t (1 + first_with m xs) 0) ≡ t
+    by_test true = grind (arith, nat_tests)
+    by_test false = grind (arith, nat_tests)
+level-at m least (x ∷ xs) (up, rise) (suc at) row h = by_test (nat_lt x.bucket.bits m) refl (level-at m x.bucket.bits xs rise at row h) (least-at x.bucket.bits xs rise at row h)
+  where
+    by_test : (t : Bool) → nat_lt x.bucket.bits m ≡ t → nat_lt at (first_with m xs) ≡ nat_lt row.bucket.bits m → x.bucket.bits ≤ row.bucket.bits → nat_lt (suc at) (cond (nat_lt x.bucket.bits m) (1 + first_with m xs) 0) ≡ nat_lt row.bucket.bits m
+    by_test true e f le = ap (λ (t : Bool). nat_lt (suc at) (cond t (1 + first_with m xs) 0)) e ∙ (shifted at (first_with m xs) ∙ f)
+      where
+        shifted : (a b : ℕ) → nat_lt (suc a) (1 + b) ≡ nat_lt a b
+        shifted a b = grind (arith, nat_tests)
+    by_test false e f le = ap (λ (t : Bool). nat_lt (suc at) (cond t (1 + first_with m xs) 0)) e ∙ (less-no (suc at) 0 (omega arith) ∙ sym (less-no row.bucket.bits m (let most = no-less x.bucket.bits m e in omega (arith, most, le))))
+      where
+        no-less : (a b : ℕ) → nat_lt a b ≡ false → b ≤ a
+        no-less a b h = grind (arith, nat_tests)
+
+pub level_of : (lane : Low) (bits : ℕ) (rows : List Row) (rs : List rest.Row) → AreRows lane (buckets_of rows) → AreOfBuckets rows rs → (at : ℕ) (row : Row) → slice_get rows at ≡ Some row → nat_lt at (fewer bits rs) ≡ nat_lt row.bucket.bits bits
+level_of lane bits rows rs h are at row found =
+    ap (λ (k : ℕ). nat_lt at k) (sym (levels_same lane bits rows rs h are))
+    ∙ level-at bits 0 rows (rise-by 0 rows (λ j less. omega arith) (λ i j le less. bits_rise lane rows h i j some_row le less)) at row found

@@ -14,3 +14,8 @@ pub mod AllTurns
 pub mod PlaceTurns
 pub mod Pending
 pub mod Levels
+pub mod Pairs
+pub mod Lists
+pub mod WholeLists
+pub mod Resent
+pub mod ResentActivates

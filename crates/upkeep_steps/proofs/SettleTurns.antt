@@ -50,7 +50,7 @@ pub one-turn : (s : Settings) (d : turns.Doing) (w : World) (y : Stand) → turn
 unfolding turns.turns turns.turn
 one-turn s d w y h = h
 
-two-turns : (s : Settings) (d e : turns.Doing) (w : World) (y : Stand) → turn_at s d w ≡ stand e w → turn_at s e w ≡ y → turns.turns s 2 (stand d w) ≡ y
+pub two-turns : (s : Settings) (d e : turns.Doing) (w : World) (y : Stand) → turn_at s d w ≡ stand e w → turn_at s e w ≡ y → turns.turns s 2 (stand d w) ≡ y
 unfolding turns.turns turns.turn
 two-turns s d e w y h i = ap (λ (x : Stand). turn_at s x.doing x.world) h ∙ i
 
@@ -100,7 +100,7 @@ find-in n (x ∷ xs) y h = by_test (λ f. find-in n xs y f) (x.node == n) refl h
     by_test rest true e f = let same : x ≡ y = cc in ((0, omega arith, same), ap (λ (z : Exact). z.node) (sym same) ∙ eqb-true x.node n e)
     by_test rest false e f = let found = rest f in (Contains-append_right (x ∷ []) xs y found.0, found.1)
 
-eqb-sym : (m n : ℕ) → (m == n) ≡ (n == m)
+pub eqb-sym : (m n : ℕ) → (m == n) ≡ (n == m)
 eqb-sym m n = grind (arith, nat_tests)
 
 -- ---- the active node
@@ -116,7 +116,7 @@ active-new None false be n accepted h = cc
 active-new (Some m) true be n accepted h = cc
 active-new (Some m) false be n accepted h = cc
 
-or-none : (t : Bool) → (t || false) ≡ t
+pub or-none : (t : Bool) → (t || false) ≡ t
 or-none true = refl
 or-none false = refl
 

@@ -42,11 +42,11 @@ any-at p x h (y ∷ ys) (suc k) less is = let lower : k < length ys = omega (ari
 
 -- ---- what is asked of the sibling
 
-node-refl : (a : Option ℕ) → is_same_node a a ≡ true
+pub node-refl : (a : Option ℕ) → is_same_node a a ≡ true
 node-refl None = refl
 node-refl (Some m) = eq-eqb m m refl
 
-node-same : (a b : Option ℕ) → is_same_node a b ≡ true → a ≡ b
+pub node-same : (a b : Option ℕ) → is_same_node a b ≡ true → a ≡ b
 node-same None None h = refl
 node-same None (Some n) h = absurd (true≢false (sym h))
 node-same (Some m) None h = absurd (true≢false (sym h))

@@ -1,9 +1,9 @@
 -- The machine and the rows as `upkeep_turns` and `lane_rest` have them in the abstract.
-use Rattle.std.specs.Prelude.{◌≡◌, ◌==◌, ◌⊎◌, ◌&&◌, not, ◌<◌, ◌≤◌, ℕ, Bool, true, false, List, [], ◌∷◌, Option, Some, None, is_some, Contains, slice_get}
-use Rattle.std.specs.List.{find, list_any}
+use Rattle.std.specs.Prelude.{◌≡◌, ◌==◌, ◌⊎◌, ◌&&◌, not, ◌<◌, ◌≤◌, ◌+◌, ℕ, suc, Bool, true, false, List, [], ◌∷◌, Option, Some, None, is_some, Contains, map, drop, slice_get, if◌then◌else◌}
+use Rattle.std.specs.List.{find, list_any, remove}
 use Rattle.std.specs.Ordering.{nat_cmp}
 use Rattle.std.specs.BTreeMap.{BTreeMap, get}
-use Rattle.bucket_ids.specs.Buckets.{Low, IsBucket, parent_of}
+use Rattle.bucket_ids.specs.Buckets.{Low, IsBucket, first_child, second_child, parent_of}
 use Rattle.bucket_ids.specs.Printed.{number_of}
 use Rattle.laid_pieces.specs.Pieces.{same_bucket}
 use Rattle.node_sets.specs.Members.{has_node}
@@ -11,19 +11,21 @@ use Rattle.cluster_states.specs.Publishing.{serves}
 use Rattle.messages.specs.declared.body.Body.{Body}
 use Rattle.messages.specs.declared.body.Body.TheVariants as body
 use Rattle.messages.specs.declared.decision.Decision.{Decision}
-use Rattle.messages.specs.declared.decision.Decision.TheVariants.{ActiveOn, DeleteFrom, DeleteOver as DeleteIsOver}
+use Rattle.messages.specs.declared.decision.Decision.TheVariants.{ActiveOn, DeleteFrom, DeleteOver as DeleteIsOver, RowsJoined}
 use Rattle.bucket_db.specs.Changes.{without_delete}
 use Rattle.bucket_db.specs.declared.row.Row.{Row}
+use Rattle.bucket_db.specs.declared.row.Deleting.{Deleting as Delete}
 use Rattle.distributor_part.specs.Upkeep.{deleting_from}
 use Rattle.lane_rest.specs.Nodes.{Node}
 use Rattle.lane_rest.specs.Shapes.{Shape, Nothing, Same, Over as ShowedOver, Inside as ShowedInside, shape_beside}
 use Rattle.lane_rest.specs.Rows as rest
 use Rattle.lane_rest.specs.Rows.{Settings}
-use Rattle.lane_rest.specs.Passes.{World}
+use Rattle.lane_rest.specs.Passes.{World, merged}
+use Rattle.lane_rest.specs.Sweeps.{with_row}
 use Rattle.lane_rest.specs.Lanes.{is_taken}
 use Rattle.lane_rest.specs.Scripts.{told_node}
 use Rattle.upkeep_turns.specs.Turns as turns
-use Rattle.upkeep_turns.specs.Turns.{stand, turn_at, with_place_row, round_of}
+use Rattle.upkeep_turns.specs.Turns.{stand, turn_at, with_place_row, round_of, without_pair}
 use Rattle.upkeep_steps.specs.declared.doing.Time.{Time}
 use Rattle.upkeep_steps.specs.declared.doing.Time.TheVariants.{First, Again}
 use Rattle.upkeep_steps.specs.declared.doing.Settle.{Settle}
@@ -35,6 +37,8 @@ use Rattle.upkeep_steps.specs.declared.doing.Turn.{Turn}
 use Rattle.upkeep_steps.specs.declared.doing.Turn.TheVariants.{Over, Says}
 use Rattle.upkeep_steps.specs.declared.notes.Exact.{Exact}
 use Rattle.upkeep_steps.specs.declared.notes.RowNote.{RowNote}
+use Rattle.upkeep_steps.specs.Notes.{note_for, whole_in}
+use Rattle.upkeep_steps.specs.Places.{was_sent}
 use Rattle.upkeep_steps.specs.Turns.{View, answered, decided, accepted, rounded}
 
 -- ---- where it stands; of the rows that joins made the second time there is a list
@@ -182,3 +186,92 @@ abbrev pub AreOfBuckets : List Row → List rest.Row → Type 0
 AreOfBuckets [] [] = Unit {0}
 AreOfBuckets (row ∷ rows) (r ∷ rs) = (row.bucket ≡ r.bucket) × AreOfBuckets rows rs
 AreOfBuckets _ _ = ⊥
+
+-- ---- joins
+
+-- a row whose last round had all its answers, with the note of that, where no Delete is under way
+pub record IsNoted (notes : BTreeMap ℕ RowNote) (row : Row) (r : rest.Row) : Type 0 where
+  pub note : RowNote
+  pub shown : ℕ → Shape
+  pub whole : whole_in (note_for row.bucket notes) ≡ Some note
+  pub quiet : row.deleting ≡ None
+  pub same : r ≡ row_with shown (Some note) row
+
+-- the rows of a world are those of the part with their notes, place by place
+abbrev pub AreNoted : BTreeMap ℕ RowNote → List Row → List rest.Row → Type 0
+AreNoted notes [] [] = Unit {0}
+AreNoted notes (row ∷ rows) (r ∷ rs) = IsNoted notes row r × AreNoted notes rows rs
+AreNoted notes _ _ = ⊥
+
+-- a turn takes two halves away, and their parent comes, of which each node is told next
+pub record IsPairJoined (s : Settings) (made : List Low) (w : World) (t : Time) (bits at : ℕ) (x : Decision) : Type 0 where
+  pub one : rest.Row
+  pub two : rest.Row
+  pub other : ℕ
+  pub found : slice_get w.rows at ≡ Some one
+  pub beside : slice_get (remove w.rows at) other ≡ Some two
+  pub first : one.bucket ≡ first_child (parent_of one.bucket)
+  pub second : two.bucket ≡ second_child (parent_of one.bucket)
+  pub decision : x ≡ RowsJoined (parent_of one.bucket)
+  pub turn : turn_at s (doing_of made (Joining t bits at)) w ≡ stand (doing_of made (decided (Joining t bits at) x))
+      (record { nodes = w.nodes; rows = with_row (merged (parent_of one.bucket) one two) (without_pair at other w.rows) })
+
+-- a turn over the place changes nothing
+abbrev pub Pairs : Settings → List Low → World → Time → ℕ → ℕ → Turn → Type 0
+Pairs s made w t bits at (Over e) = turn_at s (doing_of made (Joining t bits at)) w ≡ stand (doing_of made e) w
+Pairs s made w t bits at (Says (step.Decide k x)) = (k ≡ at) × IsPairJoined s made w t bits at x
+Pairs s made w t bits at (Says x) = ⊥
+
+-- ---- whole lists
+
+-- a row with its note, where its last round had all its answers
+abbrev pub row_in : (Low → ℕ → Shape) → BTreeMap ℕ RowNote → Row → rest.Row
+row_in shown notes row = row_with (shown row.bucket) (whole_in (note_for row.bucket notes)) row
+
+abbrev pub rows_in : (Low → ℕ → Shape) → BTreeMap ℕ RowNote → List Row → List rest.Row
+rows_in shown notes = map (row_in shown notes)
+
+-- ---- Deletes that are sent again
+
+-- a Delete of the row of a place is, if its node serves and no row before that has the same
+abbrev pub to_resend : View → ℕ → Option Delete → List turns.Unanswered → List turns.Unanswered
+to_resend v at None ds = ds
+to_resend v at (Some d) ds = if not (was_sent v.rows at d) && serves v.state d.node then record { node = d.node; bucket = d.bucket; serial = d.serial } ∷ ds else ds
+
+abbrev pub resent_among : View → ℕ → List Row → List turns.Unanswered
+resent_among v at [] = []
+resent_among v at (row ∷ rows) = to_resend v at row.deleting (resent_among v (suc at) rows)
+
+-- from a place on
+abbrev pub resent_from : View → ℕ → List turns.Unanswered
+resent_from v at = resent_among v at (drop at v.rows)
+
+abbrev pub resending_of : View → Doing → turns.Doing
+resending_of v (ResendingDelete at) = turns.ResendingDelete (resent_from v at)
+resending_of v (ResentDelete at) = turns.ResentDelete (resent_from v (at + 1))
+resending_of v d = doing_of [] d
+
+-- Deletes of one bucket to one node are of one serial
+abbrev pub AreOneEach : List Row → Type 0
+AreOneEach rows = (i k : ℕ) (x y : Row) (d e : Delete) → slice_get rows i ≡ Some x → slice_get rows k ≡ Some y → x.deleting ≡ Some d → y.deleting ≡ Some e
+    → d.bucket ≡ e.bucket → d.node ≡ e.node → d.serial ≡ e.serial
+
+-- to go over a place changes nothing, a message is one turn, and so is that the Delete is over, which no row has then
+abbrev pub Resends : View → Settings → World → Doing → Turn → Type 0
+Resends v s w d (Over e) = (k : ℕ) × (turns.turns s k (stand (resending_of v d) w) ≡ stand (resending_of v e) w)
+Resends v s w d (Says (step.Tell n b)) = turn_at s (resending_of v d) w
+    ≡ stand (resending_of v (answered v (answer_of b (w.nodes n)) d)) (record { nodes = told_node n b w.nodes; rows = w.rows })
+Resends v s w d (Says (step.Decide at (DeleteIsOver b n))) = (next : View) → next.state ≡ v.state → next.rows ≡ map (without_delete b n) v.rows
+    → turn_at s (resending_of v d) w ≡ stand (resending_of next (decided d (DeleteIsOver b n))) w
+Resends v s w d (Says x) = ⊥
+
+-- ---- Activates that are sent again, before any round
+
+-- to go over a row changes nothing, and a message is one turn and an acceptance one
+abbrev pub Activates : View → Settings → World → Row → (ℕ → Shape) → Doing → Turn → Type 0
+Activates v s w row shown d (Over e) = (k : ℕ) × (turns.turns s k (stand (doing_of [] d) w) ≡ stand (doing_of [] e) w)
+Activates v s w row shown d (Says (step.Tell n b)) = turn_at s (doing_of [] d) w
+    ≡ stand (doing_of [] (answered v (answer_of b (w.nodes n)) d)) (record { nodes = told_node n b w.nodes; rows = w.rows })
+Activates v s w row shown d (Says (step.Accept at)) = turn_at s (doing_of [] d) w
+    ≡ stand (doing_of [] (accepted d)) (with_place_row at (row_with shown None (record row { accepted = true })) w)
+Activates v s w row shown d (Says x) = ⊥

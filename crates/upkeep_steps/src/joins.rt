@@ -1,11 +1,14 @@
-ghost use Rattle.std.specs.Prelude.{◌≡◌, ◌<◌, ◌≤◌, ◌^◌, ℕ, true, Some, IsSome, length, slice_get};
+ghost use Rattle.std.specs.Prelude.{◌≡◌, ◌<◌, ◌≤◌, ◌^◌, ◌+◌, ℕ, true, Some, IsSome, length, slice_get};
 ghost use Rattle.bucket_db.specs.declared.row.Row.{Row as OneRow};
 ghost use Rattle.distributor_part.specs.Parts.{rows_of};
+ghost use Rattle.messages.specs.declared.body.Body.TheVariants.{Join, Split};
+ghost use Rattle.upkeep_steps.specs.declared.doing.Doing.TheVariants.{Joining, JoinTold, JoinRound, SplitTold, SplitFirst};
+ghost use Rattle.upkeep_steps.specs.Places.{next_place};
 ghost use Rattle.upkeep_steps.specs.Turns.{View, Sees, begin_joins, end_joins, fewer_bits, does_join, joining, tell_all, round_of};
 
 use crate::doing::{Doing, Settle, Time, Turn, UpkeepStep};
 use crate::notes::Notes;
-use crate::places::{are_small, can_join, first_with, is_first_half, place_of};
+use crate::places::{are_small, can_join, first_with, is_first_half, next_place, place_of};
 use bucket_db::Row;
 use bucket_ids::Bucket;
 use distributor_part::{DistributorPart, Rules};
@@ -150,4 +153,68 @@ pub fn round_of(part: &DistributorPart, bucket: Bucket, next: Doing) -> Turn
         return Turn::Over(next);
     }
     Turn::Says(UpkeepStep::Round { at })
+}
+
+/// The next node is told of the row that a join made, or there is a round of it.
+pub fn join_told(
+    part: &DistributorPart,
+    time: Time,
+    bits: u8,
+    at: usize,
+    parent: Bucket,
+    node: u8,
+) -> Turn
+    requires heard { IsSome part.now.state }
+    ensures { (v : View) → Sees part.now v → result
+        ≡ tell_all v node (Join parent) (JoinTold time bits at parent (node + 1)) (JoinRound time bits at parent) }
+{
+    let last = Doing::JoinRound {
+        time,
+        bits,
+        at,
+        parent,
+    };
+    let next = Doing::JoinTold {
+        time,
+        bits,
+        at,
+        parent,
+        node: node.saturating_add(1),
+    };
+    tell_all(part, node, Body::Join { bucket: parent }, next, last)
+}
+
+/// That round, and then come the rows behind the place.
+pub fn join_round(part: &DistributorPart, time: Time, bits: u8, at: usize, parent: Bucket) -> Turn
+    ensures { (v : View) → Sees part.now v
+        → result ≡ round_of v parent (Joining time bits (next_place (length v.rows) at)) }
+{
+    let next = Doing::Joining {
+        time,
+        bits,
+        at: next_place(part, at),
+    };
+    round_of(part, parent, next)
+}
+
+/// The next node is told of the split of a row, or there is a round of its first half.
+pub fn split_told(
+    part: &DistributorPart,
+    at: usize,
+    first: Bucket,
+    second: Bucket,
+    node: u8,
+) -> Turn
+    requires heard { IsSome part.now.state }
+    ensures { (v : View) → Sees part.now v → result
+        ≡ tell_all v node (Split first) (SplitTold at first second (node + 1)) (SplitFirst at first second) }
+{
+    let last = Doing::SplitFirst { at, first, second };
+    let next = Doing::SplitTold {
+        at,
+        first,
+        second,
+        node: node.saturating_add(1),
+    };
+    tell_all(part, node, Body::Split { bucket: first }, next, last)
 }

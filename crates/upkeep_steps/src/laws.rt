@@ -1,34 +1,39 @@
 //! Laws of the machine; no function here does anything.
 
-ghost use Rattle.std.specs.Prelude.{◌≡◌, ◌+◌, ℕ, Bool, true, false, List, [], Some, None, slice_get};
+ghost use Rattle.std.specs.Prelude.{◌≡◌, ◌<◌, ◌+◌, ℕ, Bool, true, false, List, [], Some, None, IsSome, is_some, slice_get};
+ghost use Rattle.std.specs.List.{AllByRecursion};
 ghost use Rattle.std.specs.BTreeMap.{BTreeMap};
 ghost use Rattle.bucket_ids.specs.Buckets.{Low, first_child, second_child, parent_of};
 ghost use Rattle.ideal_nodes.specs.Placement.{IsIdeal};
 ghost use Rattle.bucket_db.specs.Rows.{AreRows, buckets_of};
 ghost use Rattle.bucket_db.specs.declared.row.Row.{Row};
-ghost use Rattle.lane_rest.specs.Sweeps.{fewer};
+ghost use Rattle.lane_rest.specs.Sweeps.{fewer, with_row};
 ghost use Rattle.upkeep_steps.specs.declared.doing.Time.TheVariants.{First, Again};
 ghost use Rattle.lane_rest.specs.Shapes.{Shape};
 ghost use Rattle.lane_rest.specs.Rows as rest;
 ghost use Rattle.lane_rest.specs.Rows.{Settings};
-ghost use Rattle.lane_rest.specs.Passes.{World};
+ghost use Rattle.lane_rest.specs.Passes.{World, merged};
 ghost use Rattle.upkeep_steps.specs.declared.doing.Time.{Time};
 ghost use Rattle.upkeep_steps.specs.declared.doing.Settle.{Settle};
 ghost use Rattle.upkeep_steps.specs.declared.doing.Settle.TheVariants.{Beginning, Deciding, Activating, Deleting, DeleteTold, DeleteOver};
 ghost use Rattle.upkeep_steps.specs.declared.doing.UpkeepStep.TheVariants.{Tell, Decide};
-ghost use Rattle.upkeep_steps.specs.declared.doing.Turn.TheVariants.{Says};
+ghost use Rattle.upkeep_steps.specs.declared.doing.Turn.TheVariants.{Over, Says};
 ghost use Rattle.messages.specs.declared.body.Body.{Body};
 ghost use Rattle.messages.specs.declared.decision.Decision.{Decision};
 ghost use Rattle.messages.specs.declared.decision.Decision.TheVariants as decisions;
+ghost use Rattle.messages.specs.declared.decision.Decision.TheVariants.{RowSplit};
+ghost use Rattle.distributor_part.specs.Parts.{Part, rows_of};
+ghost use Rattle.distributor_part.specs.Upkeep.{SplitsRow, JoinsRows};
+ghost use Rattle.upkeep_steps.specs.Going.{Forgets, split_makes, join_makes};
 ghost use Rattle.cluster_states.specs.Publishing.{serves};
 ghost use Rattle.lane_rest.specs.Nodes.{Node};
-ghost use Rattle.upkeep_steps.specs.declared.doing.Doing.TheVariants.{Rounding, JoinTold, JoinRound, Splitting, SplitTold, SplitFirst, SplitSecond, Settling};
+ghost use Rattle.upkeep_steps.specs.declared.doing.Doing.TheVariants.{ResendingDelete, ResentDelete, ResendingActivate, ResentActivate, Rounding, Joining, JoinTold, JoinRound, Splitting, SplitTold, SplitFirst, SplitSecond, Settling};
 ghost use Rattle.upkeep_steps.specs.declared.notes.RowNote.{RowNote};
 ghost use Rattle.upkeep_steps.specs.Notes.{note_for, whole_in};
 ghost use Rattle.upkeep_steps.specs.Turns.{View, begin_joins, turn_at, settle_turn, answered_row, rounded};
-ghost use Rattle.upkeep_steps.specs.Abstract.{AreMade, IsPlace, Pends, answer_of, after_decision, Refines, Tells, Agrees, AreOfBuckets, row_with, time_of, doing_of};
+ghost use Rattle.upkeep_steps.specs.Abstract.{AreMade, IsPlace, Pends, answer_of, after_decision, Refines, Tells, Agrees, AreOfBuckets, AreNoted, IsPairJoined, Pairs, AreOneEach, Resends, Activates, row_with, row_in, rows_in, time_of, doing_of};
 ghost use Rattle.upkeep_steps.specs.Places.{first_with, place_of, is_full_by};
-ghost use Rattle.upkeep_turns.specs.Turns.{stand, with_made, with_children, turn_at as turn_at_rest, round_of as round_at_rest, Joining as Joining_rest, SplitTold as SplitTold_rest};
+ghost use Rattle.upkeep_turns.specs.Turns.{stand, with_made, with_children, without_pair, turn_at as turn_at_rest, round_of as round_at_rest, Joining as Joining_rest, SplitTold as SplitTold_rest};
 
 /// Where a row is settled that had a whole round, a turn of the machine is one or two of those in the abstract: to go
 /// over a place is turns that change nothing, and a message, a decision, an acceptance and a round are one each.
@@ -120,4 +125,60 @@ pub fn joins_begin()
     ensures settled { (v : View) (s : Settings) (w : World) (at : ℕ)
         → AreRows v.lane (buckets_of v.rows) → AreOfBuckets v.rows w.rows → slice_get w.rows at ≡ None → turn_at_rest s
         (doing_of [] (Settling First at Beginning)) w ≡ stand (doing_of [] (begin_joins v Again)) w }
+{}
+
+/// Where each row had a whole round and no Delete is under way, a turn with pairs is that in the abstract: two halves
+/// that may be joined are taken away for their parent, of which each node is told next, and else it goes over the place;
+/// behind the last row of so many bits come those of one bit less, and behind those of two bits the joins are over.
+pub fn joins_are_turns()
+    ensures { (v : View) (s : Settings) (made : BTreeMap ℕ (Unit {0})) (list : List Low)
+        (notes : BTreeMap ℕ RowNote) (w : World) (t : Time) (bits at : ℕ) → s.split_at ≡ (v.rules).split_at
+        → s.lane_bits ≡ (v.lane).bits → AreRows v.lane (buckets_of v.rows) → AreNoted notes v.rows w.rows → 1 < bits
+        → Pairs s list w t bits at (turn_at v made notes (Joining t bits at)) }
+{}
+
+/// Behind the split of a row and behind the join of two, whose new rows have no note yet, the rows of the part with
+/// their notes are those that the turn of the abstract leaves.
+pub fn decisions_change_lists()
+    ensures noted { (shown : Low → ℕ → Shape) (notes : BTreeMap ℕ RowNote) (rows : List Row)
+        → AllByRecursion (λ (row : Row). IsSome (whole_in (note_for row.bucket notes)) × (row.deleting ≡ None)) rows
+        → AreNoted notes rows (rows_in shown notes rows) }
+    ensures split { (shown : Low → ℕ → Shape) (notes after : BTreeMap ℕ RowNote) (p q : Part) (at : ℕ)
+        (x : SplitsRow p q at) → AreRows p.lane (buckets_of (rows_of p.rows))
+        → Forgets (split_makes (RowSplit (x.row).bucket)) notes after → rows_in shown after (rows_of q.rows)
+        ≡ with_children at (row_in shown notes x.row) (rows_in shown notes (rows_of p.rows)) }
+    ensures joined { (shown : Low → ℕ → Shape) (notes after : BTreeMap ℕ RowNote) (p q : Part) (at : ℕ)
+        (x : JoinsRows p q at) (s : Settings) (list : List Low) (w : World) (t : Time) (bits : ℕ) (d : Decision)
+        (j : IsPairJoined s list w t bits at d) → AreRows p.lane (buckets_of (rows_of p.rows))
+        → w.rows ≡ rows_in shown notes (rows_of p.rows) → Forgets (join_makes d) notes after
+        → rows_in shown after (rows_of q.rows)
+        ≡ with_row (merged (parent_of (j.one).bucket) j.one j.two) (without_pair at j.other w.rows) }
+{}
+
+/// Deletes that have no answer are sent again in the turns of the abstract, which has them in a list: to go over a row
+/// is no turn or one that changes nothing, and a message is one. That such a Delete is over leaves the list behind it,
+/// where Deletes of one bucket to one node are of one serial.
+pub fn resends_are_turns()
+    ensures sent { (v : View) (s : Settings) (made : BTreeMap ℕ (Unit {0})) (notes : BTreeMap ℕ RowNote) (w : World)
+        (at : ℕ) → Resends v s w (ResendingDelete at) (turn_at v made notes (ResendingDelete at)) }
+    ensures over { (v : View) (s : Settings) (made : BTreeMap ℕ (Unit {0})) (notes : BTreeMap ℕ RowNote) (w : World)
+        (at : ℕ) → AreOneEach v.rows → Resends v s w (ResentDelete at) (turn_at v made notes (ResentDelete at)) }
+{}
+
+/// The active node of a row is told so again in a turn of the abstract, and that it accepted is noted in one, before any
+/// round, where it serves; behind the last row come the rounds.
+pub fn activates_are_turns()
+    ensures sent { (v : View) (s : Settings) (made : BTreeMap ℕ (Unit {0})) (notes : BTreeMap ℕ RowNote) (w : World)
+        (at : ℕ) (row : Row) (shown : ℕ → Shape) → slice_get v.rows at ≡ Some row
+        → slice_get w.rows at ≡ Some (row_with shown None row)
+        → ((n : ℕ) → row.active ≡ Some n → serves v.state n ≡ true)
+        → Activates v s w row shown (ResendingActivate at) (turn_at v made notes (ResendingActivate at)) }
+    ensures noted { (v : View) (s : Settings) (made : BTreeMap ℕ (Unit {0})) (notes : BTreeMap ℕ RowNote) (w : World)
+        (at : ℕ) (row : Row) (shown : ℕ → Shape) (taken : Bool) → slice_get v.rows at ≡ Some row
+        → slice_get w.rows at ≡ Some (row_with shown None row) → (taken ≡ true → is_some row.active ≡ true)
+        → Activates v s w row shown (ResentActivate at taken) (turn_at v made notes (ResentActivate at taken)) }
+    ensures over { (v : View) (s : Settings) (made : BTreeMap ℕ (Unit {0})) (notes : BTreeMap ℕ RowNote) (w : World)
+        (at : ℕ) → slice_get v.rows at ≡ None → slice_get w.rows at ≡ None
+        → (turn_at v made notes (ResendingActivate at) ≡ Over (Rounding 0))
+        × (turn_at_rest s (doing_of [] (ResendingActivate at)) w ≡ stand (doing_of [] (Rounding 0)) w) }
 {}

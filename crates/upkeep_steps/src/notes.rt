@@ -1,7 +1,7 @@
-ghost use Rattle.std.specs.Prelude.{◌≡◌, ℕ, None, Some, IfSome, OnOk};
+ghost use Rattle.std.specs.Prelude.{◌≡◌, ℕ, None, Some, IfSome, OnOk, OnErr};
 ghost use Rattle.std.specs.Option.{option_copied};
 ghost use Rattle.std.specs.Ordering.{nat_cmp};
-ghost use Rattle.std.specs.BTreeMap.{Updates, get};
+ghost use Rattle.std.specs.BTreeMap.{IsUnchanged, Updates, get};
 ghost use Rattle.bucket_ids.specs.Printed.{number_of as number_in};
 ghost use Rattle.upkeep_steps.specs.Notes.{note_for, whole_in, documents_in};
 
@@ -57,6 +57,7 @@ impl Notes {
     pub fn keep(&mut self, note: RowNote) -> Result<(), NoMemory>
         ensures keeps { OnOk result
             (Updates nat_cmp self.old.by_number self.new.by_number (number_in note.bucket) (Some note)) }
+        ensures err { OnErr result (IsUnchanged self.old.by_number self.new.by_number) }
     {
         self.by_number.insert(number_of(note.bucket), note)?;
         Ok(())

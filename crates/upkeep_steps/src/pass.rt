@@ -1,6 +1,6 @@
-ghost use Rattle.std.specs.Prelude.{◌≡◌, ◌<◌, ◌≤◌, ◌^◌, ◌+◌, if◌then◌else◌, ℕ, Some, None, length, slice_get, is_some, IsSome, OnOk, OnErr};
+ghost use Rattle.std.specs.Prelude.{◌≡◌, ◌⊎◌, ◌<◌, ◌≤◌, ◌^◌, ◌+◌, if◌then◌else◌, ℕ, Some, None, length, slice_get, is_some, IsSome, OnOk, OnErr};
 ghost use Rattle.std.specs.Ordering.{nat_cmp};
-ghost use Rattle.std.specs.BTreeMap.{Updates, get};
+ghost use Rattle.std.specs.BTreeMap.{Updates, IsUnchanged, get};
 ghost use Rattle.bucket_ids.specs.Printed.{number_of as number_in};
 ghost use Rattle.bucket_db.specs.declared.row.Row.{Row as OneRow};
 ghost use Rattle.distributor_part.specs.Parts.{rows_of};
@@ -21,7 +21,7 @@ use bucket_db::row::number_of;
 use bucket_ids::Bucket;
 use cluster_states::ClusterState;
 use distributor_part::{DistributorPart, Rules};
-use messages::{Body, Decision};
+use messages::Decision;
 use std::alloc::Global;
 use std::collections::BTreeMap;
 use value_lists::NoMemory;
@@ -205,51 +205,20 @@ fn turn(
             at,
             parent,
             node,
-        } => {
-            let last = Doing::JoinRound {
-                time,
-                bits,
-                at,
-                parent,
-            };
-            let next = Doing::JoinTold {
-                time,
-                bits,
-                at,
-                parent,
-                node: node.saturating_add(1),
-            };
-            joins::tell_all(part, node, Body::Join { bucket: parent }, next, last)
-        }
+        } => joins::join_told(part, time, bits, at, parent, node),
         Doing::JoinRound {
             time,
             bits,
             at,
             parent,
-        } => {
-            let next = Doing::Joining {
-                time,
-                bits,
-                at: next_place(part, at),
-            };
-            joins::round_of(part, parent, next)
-        }
+        } => joins::join_round(part, time, bits, at, parent),
         Doing::Splitting { at } => splitting(part, rules, notes, at),
         Doing::SplitTold {
             at,
             first,
             second,
             node,
-        } => {
-            let last = Doing::SplitFirst { at, first, second };
-            let next = Doing::SplitTold {
-                at,
-                first,
-                second,
-                node: node.saturating_add(1),
-            };
-            joins::tell_all(part, node, Body::Split { bucket: first }, next, last)
-        }
+        } => joins::split_told(part, at, first, second, node),
         Doing::SplitFirst { at, first, second } => {
             joins::round_of(part, first, Doing::SplitSecond { at, second })
         }
@@ -632,13 +601,17 @@ impl UpkeepPass {
         ensures made { OnOk result (Makes (made_in self.old.doing) self.old.made self.new.made) }
         ensures nearer { OnOk result ((most : ℕ) → left most (length (rows_of part.now.rows)) self.new.doing
             < left most (length (rows_of part.now.rows)) self.old.doing) }
+        // without memory nothing changes but that the note may be kept
         ensures err { OnErr result (self.new.doing ≡ self.old.doing) }
+        ensures none_made { OnErr result (IsUnchanged self.old.made self.new.made) }
+        ensures kept_or_not { OnErr result (IsUnchanged self.old.notes.by_number self.new.notes.by_number
+            ⊎ Updates nat_cmp self.old.notes.by_number self.new.notes.by_number (number_in note.bucket) (Some note)) }
     {
         let doing = rounded_of(part, self.doing);
+        self.notes.keep(note)?;
         if let Some(parent) = made_in(self.doing) {
             self.made.insert(number_of(parent), ())?;
         }
-        self.notes.keep(note)?;
         self.doing = doing;
         Ok(())
     }
