@@ -7,6 +7,7 @@ use Rattle.bucket_ids.specs.Buckets.{Low, IsBucket, has_key}
 use Rattle.carriers.specs.declared.fate.Fate.{Fate}
 use Rattle.bucket_db.specs.Rows.{Rows, AreRows, buckets_of}
 use Rattle.bucket_db.specs.declared.row.Row.{Row}
+use Rattle.cluster_states.specs.declared.cluster_state.ClusterState.{ClusterState}
 use Rattle.cluster_states.specs.Publishing.{serves}
 use Rattle.replica_store.specs.Replicas.{IsReplica}
 use Rattle.service_layer.specs.Nodes.{Node, stored}
@@ -31,10 +32,14 @@ use Rattle.lane_states.specs.LaneStates.{journal_of, part_of}
 use Rattle.lane_states.specs.Accepting.{IsAccepted}
 use Rattle.lane_states.proofs.RowLists.{all-get}
 use Rattle.lane_upkeep.specs.declared.owner.Owner.{Owner}
-use Rattle.lane_upkeep.specs.declared.rounding.RowNote.{RowNote}
+use Rattle.upkeep_steps.specs.declared.notes.RowNote.{RowNote}
 use Rattle.lane_upkeep.specs.Passing.{IsPassing, rows_in, HasRow}
-use Rattle.lane_upkeep.proofs.QuietRows.{rows_are_buckets, rows_apart}
-use Rattle.lane_upkeep.specs.Quiet.{nodes_in, IsCurrent, is_accepted, row_with, note_in, row_in, world_in, AreSettingsIn}
+use Rattle.upkeep_runs.proofs.Orders.{rows_apart}
+use Rattle.upkeep_steps.specs.Notes.{note_for, whole_in}
+use Rattle.upkeep_steps.specs.Abstract.{is_accepted}
+use Rattle.upkeep_runs.specs.Worlds.{row_by, row_of}
+use Rattle.upkeep_runs.proofs.Rows.{row_by_bucket, row_valid}
+use Rattle.lane_upkeep.specs.Quiet.{nodes_in, IsCurrent, world_in, AreSettingsIn}
 
 -- ---- rows of a list
 
@@ -45,16 +50,12 @@ all-of-places Q f (r ∷ rows) h = (h 0 r refl, all-of-places Q f rows (λ at ro
 
 -- ---- a row with its note or without one
 
-module _ (o : Owner) (ns : ℕ → rest_nodes.Node) (row : Row) where
-  with-bucket : (note : Option RowNote) → (row_with o ns note row).bucket ≡ row.bucket
-  with-bucket None = refl
-  with-bucket (Some note) = refl
-
-  with-active : (note : Option RowNote) → (row_with o ns note row).active ≡ row.active
+module _ (state : ClusterState) (still : ℕ → rest_nodes.Node) (row : Row) where
+  with-active : (note : Option RowNote) → (row_by state still note row).active ≡ row.active
   with-active None = refl
   with-active (Some note) = refl
 
-  with-accepted : (note : Option RowNote) → (row_with o ns note row).accepted ≡ is_accepted row.active row.accepted
+  with-accepted : (note : Option RowNote) → (row_by state still note row).accepted ≡ is_accepted row.active row.accepted
   with-accepted None = refl
   with-accepted (Some note) = refl
 
@@ -75,7 +76,7 @@ some-same o m n a b = let e : Some m ≡ Some n = sym a ∙ b in cc
 -- ---- the lane
 
 module _ (sound : (many : ℕ) (doubled : ℕ → Bool) (y : Node) → IsReplica (stored y) → IsSound (seen_node doubled many y))
-    (d : Script) (c : LaneState) (o : Owner) (given : List Fate) (s : Settings) (notes : BTreeMap ℕ RowNote) (whole : AreRows c.lane (buckets_of (rows_in c o))) (p : IsPassing c o given) (set : AreSettingsIn c o s) (current : IsCurrent c o) where
+    (d : Script) (c : LaneState) (o : Owner) (given : List Fate) (s : Settings) (still : ℕ → rest_nodes.Node) (notes : BTreeMap ℕ RowNote) (whole : AreRows c.lane (buckets_of (rows_in c o))) (p : IsPassing c o given) (set : AreSettingsIn c o s) (current : IsCurrent c o) where
   abbrev H : Journal
   H = history (journal_of c)
 
@@ -83,7 +84,7 @@ module _ (sound : (many : ℕ) (doubled : ℕ → Bool) (y : Node) → IsReplica
   ns = nodes_in d c
 
   abbrev f : Row → rest.Row
-  f = row_in o ns notes
+  f = row_of o.state still notes
 
   good : (n : ℕ) → IsSound (ns n)
   good n = sound (came n H) (d n) (node_in c.nodes.items n) ((p.keeps.keeps).nodes_are n).valid
@@ -114,20 +115,20 @@ module _ (sound : (many : ℕ) (doubled : ℕ → Bool) (y : Node) → IsReplica
 
   row-begun : (at : ℕ) (row : Row) → HasRow c o at row → IsRow s ns (f row)
   row-begun at row found =
-      let note = note_in notes row.bucket in
-      let bucket = with-bucket o ns row note in
-      let active = with-active o ns row note in
+      let note = whole_in (note_for row.bucket notes) in
+      let bucket = row_by_bucket o.state still note row in
+      let active = with-active o.state still row note in
       record {
-        valid = subst IsBucket (sym bucket) (rows_are_buckets c.lane (rows_in c o) whole at row found);
+        valid = subst IsBucket (sym bucket) (row_valid c.lane (rows_in c o) whole at row found);
         serves = λ n h. (set.lane).serving n ∙ serving at row n found (active-is row.active n (ap (λ (a : Option ℕ). is_active a n) (sym active) ∙ h));
         accepted = λ acc n h. subst (λ (b : Low). IsActiveOn b (ns n)) (sym bucket)
-            (active-on at row n found (active-is row.active n (ap (λ (a : Option ℕ). is_active a n) (sym active) ∙ h)) (accepted-is row.active row.accepted (sym (with-accepted o ns row note) ∙ acc)));
-        undecided = λ none. with-accepted o ns row note ∙ none-accepted row.active row.accepted (sym active ∙ none);
+            (active-on at row n found (active-is row.active n (ap (λ (a : Option ℕ). is_active a n) (sym active) ∙ h)) (accepted-is row.active row.accepted (sym (with-accepted o.state still row note) ∙ acc)));
+        undecided = λ none. with-accepted o.state still row note ∙ none-accepted row.active row.accepted (sym active ∙ none);
       }
 
-  pub begun : HasBegun s (world_in d c o notes)
+  pub begun : HasBegun s (world_in d s still c o notes)
   begun = record {
     good = good;
     rows = all-of-places (IsRow s ns) f (rows_in c o) row-begun;
-    apart = rows_apart c.lane (rows_in c o) whole f (λ row. with-bucket o ns row (note_in notes row.bucket));
+    apart = rows_apart c.lane (rows_in c o) whole f (λ row. row_by_bucket o.state still (whole_in (note_for row.bucket notes)) row);
   }

@@ -38,7 +38,7 @@ use Rattle.lane_states.proofs.Places.{part-at, part-own, part-others}
 use Rattle.lane_states.proofs.Runs.{carried-decided}
 use Rattle.upkeep_answers.specs.Spans.{AreUpkeep, OfUpkeep, Nothing, More}
 use Rattle.lane_upkeep.specs.declared.owner.Owner.{Owner}
-use Rattle.lane_upkeep.specs.declared.rounding.RowNote.{RowNote}
+use Rattle.upkeep_steps.specs.declared.notes.RowNote.{RowNote}
 use Rattle.lane_upkeep.specs.Deciding.{HasEnded}
 use Rattle.lane_upkeep.specs.Noted.{StaysKnown}
 use Rattle.lane_upkeep.specs.Notes.{KnowsNote}

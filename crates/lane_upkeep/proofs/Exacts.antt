@@ -6,7 +6,7 @@ use Rattle.std.proofs.lemmas.List.Elements.{Contains-push_cases}
 use Rattle.std.proofs.lemmas.List.Folds.{list_any-append}
 use Rattle.lane_journals.proofs.Walking.{contains-none}
 use Rattle.merge_rounds.specs.Rounds.{RoundState, pieces_by}
-use Rattle.lane_upkeep.specs.declared.rounding.Exact.{Exact}
+use Rattle.upkeep_steps.specs.declared.notes.Exact.{Exact}
 use Rattle.lane_upkeep.specs.RoundNotes.{serial_in, AreExactBelow}
 
 other-number : (a b : ℕ) → (a ≡ b → ⊥) → (a == b) ≡ false

@@ -1,10 +1,7 @@
 -- How a pass goes on from step to step.
-use Rattle.std.proofs.Common.{◌≡◌, ◌∙◌, ◌==◌, ◌||◌, ℕ, Bool, true, false, List, ◌∷◌, Option, Some, refl, sym, ap, subst, eqb-true, if◌then◌else◌}
+use Rattle.std.proofs.Common.{◌≡◌, ◌∙◌, ℕ, Bool, true, false, List, ◌∷◌, Option, Some, refl, ap, subst, if◌then◌else◌}
 use Rattle.std.specs.BTreeMap.{BTreeMap}
 use Rattle.bucket_ids.specs.Buckets.{Low}
-use Rattle.node_sets.specs.Members.{has_node}
-use Rattle.carriers.specs.declared.fate.Fate.{Fate}
-use Rattle.bucket_db.specs.declared.row.Row.{Row}
 use Rattle.distributor_part.specs.declared.rules.Rules.{Rules}
 use Rattle.lane_journals.specs.Facts.{AnsweredReady}
 use Rattle.lane_journals.specs.Meanings.{history}
@@ -16,8 +13,8 @@ use Rattle.lane_states.specs.declared.lane_state.LaneState.{LaneState}
 use Rattle.lane_states.specs.LaneStates.{journal_of}
 use Rattle.upkeep_answers.specs.Spans.{IsUpkeepEvent, AreUpkeep, Nothing, More}
 use Rattle.lane_upkeep.specs.declared.owner.Owner.{Owner}
-use Rattle.lane_upkeep.specs.declared.rounding.RowNote.{RowNote}
-use Rattle.lane_upkeep.specs.Passing.{IsPassing, Passes, PassesOn, AreReady}
+use Rattle.upkeep_steps.specs.declared.notes.RowNote.{RowNote}
+use Rattle.lane_upkeep.specs.Passing.{PassesOn}
 use Rattle.lane_upkeep.specs.Noted.{StaysKnown, AreNotes}
 
 further : (d v : ℕ) (J K L : List LaneEvent) → AreUpkeep d v J K → AreUpkeep d v K L → AreUpkeep d v J L
@@ -45,17 +42,7 @@ on_then c e f o a b = record {
   grows = further _ _ _ _ _ a.grows b.grows;
 }
 
--- what is known stays so
-pub known_none : (c : LaneState) (o : Owner) → StaysKnown c c o
-known_none c o note k = k
-
-pub known_then : (c e f : LaneState) (o : Owner) → StaysKnown c e o → StaysKnown e f o → StaysKnown c f o
-known_then c e f o a b note k = b note (a note k)
-
 -- ---- what is between two steps
-
-pub passes_of : (c : LaneState) (o : Owner) (given : List Fate) → IsPassing c o given → Passes c o
-passes_of c o given h = (given, h)
 
 -- a note that is known stays one
 pub notes_stay : (c e : LaneState) (o : Owner) (notes : BTreeMap ℕ RowNote) → StaysKnown c e o → AreNotes (journal_of c) o.state notes → AreNotes (journal_of e) o.state notes
@@ -90,19 +77,3 @@ ready-kept d v J (Started x) h w n b r = absurd h
 pub ready_stays : (d v : ℕ) (J K : List LaneEvent) → AreUpkeep d v J K → (w n : ℕ) (b : Low) → AnsweredReady w n b (history J) → AnsweredReady w n b (history K)
 ready_stays d v J K Nothing w n b r = r
 ready_stays d v J K (More M e is more) w n b r = ready-kept d v M e is w n b (ready_stays d v J M more w n b r)
-
--- whoever answered a Ready of a row stays one who did
-pub still_ready : (c e : LaneState) (o : Owner) (row : Row) (nodes : ℕ) → PassesOn c e o → AreReady c o row nodes → AreReady e o row nodes
-still_ready c e o row nodes on are n h = ready_stays o.distributor (o.state).version (journal_of c) (journal_of e) on.grows (o.state).version n row.bucket (are n h)
-
-by-test : (a b : Bool) {A : Type 0} → (a ≡ true → A) → (b ≡ true → A) → (a || b) ≡ true → A
-by-test true b f g h = f refl
-by-test false b f g h = g h
-
--- with one node more that answered
-pub one_more_ready : (c e : LaneState) (o : Owner) (row : Row) (nodes more node : ℕ) → PassesOn c e o → AreReady c o row nodes → ((n : ℕ) → has_node more n ≡ (has_node nodes n || n == node))
-    → AnsweredReady (o.state).version node row.bucket (history (journal_of e)) → AreReady e o row more
-one_more_ready c e o row nodes more node on are with_node answered n h =
-    by-test (has_node nodes n) (n == node) (λ was. still_ready c e o row nodes on are n was)
-    (λ is. subst (λ (x : ℕ). AnsweredReady (o.state).version x row.bucket (history (journal_of e))) (sym (eqb-true n node is)) answered)
-    (sym (with_node n) ∙ h)

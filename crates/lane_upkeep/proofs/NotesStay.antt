@@ -21,8 +21,8 @@ use Rattle.lane_journals.proofs.Basics.{answer-stays}
 use Rattle.lane_journals.proofs.BucketLaws.{same_bucket-true}
 use Rattle.lane_rounds.proofs.Waiting.{answered-stays}
 use Rattle.lane_states.proofs.Staying.{IsOfMessage}
-use Rattle.lane_upkeep.specs.declared.rounding.RowNote.{RowNote}
-use Rattle.lane_upkeep.specs.declared.rounding.Exact.{Exact}
+use Rattle.upkeep_steps.specs.declared.notes.RowNote.{RowNote}
+use Rattle.upkeep_steps.specs.declared.notes.Exact.{Exact}
 use Rattle.lane_upkeep.specs.Notes.{ShowedExactly, KnowsNote}
 use Rattle.lane_upkeep.specs.RoundNotes.{is_exact, serial_in, NotesRound}
 

@@ -1,6 +1,5 @@
--- Notes that are kept: one in place of an older one of its row, and by the number of a bucket just that of the bucket.
-use Rattle.std.proofs.Common.{◌≡◌, ◌≢◌, ◌∙◌, ◌==◌, ◌&&◌, ℕ, Bool, true, false, cond, if◌then◌else◌, List, Option, Some, None, refl, sym, ap, subst, arith}
-use Rattle.std.proofs.lemmas.Bool.Decides.{nat_tests}
+-- Notes that are kept: one in place of an older one of its row.
+use Rattle.std.proofs.Common.{◌≡◌, ◌≢◌, ◌∙◌, ℕ, Bool, true, false, cond, List, Some, refl, sym, ap, subst}
 use Rattle.std.specs.Ordering.{nat_cmp, is_eq}
 use Rattle.std.specs.declared.cmp.Ordering.{Ordering}
 use Rattle.std.specs.declared.cmp.Ordering.TheVariants.{Less, Equal, Greater}
@@ -9,15 +8,13 @@ use Rattle.std.specs.FinMap.{nat_cmp-IsAntisymmetric}
 use Rattle.std.specs.BTreeMap as tree
 use Rattle.std.specs.BTreeMap.{BTreeMap}
 use mathlib.Core.Bool.{true≢false}
-use Rattle.bucket_ids.specs.Buckets.{Low, IsBucket}
+use Rattle.bucket_ids.specs.Buckets.{IsBucket}
 use Rattle.bucket_ids.specs.Printed.{number_of}
-use Rattle.bucket_db.proofs.Inside.{number_same}
 use Rattle.cluster_states.specs.declared.cluster_state.ClusterState.{ClusterState}
 use Rattle.lane_journals.specs.declared.event.LaneEvent.{LaneEvent}
-use Rattle.lane_upkeep.specs.declared.rounding.RowNote.{RowNote}
+use Rattle.upkeep_steps.specs.declared.notes.RowNote.{RowNote}
 use Rattle.lane_upkeep.specs.Notes.{KnowsNote}
 use Rattle.lane_upkeep.specs.Noted.{IsNoted, AreNotes}
-use Rattle.lane_upkeep.specs.Kept.{of_bucket, note_for}
 
 equal-of : (o : Ordering) → is_eq o ≡ true → o ≡ Equal
 equal-of Less e = absurd (true≢false (sym e))
@@ -45,19 +42,3 @@ module _ (J K : List LaneEvent) (s : ClusterState) (m : BTreeMap ℕ RowNote) (n
   -- the notes with that one
   pub noted_next : (n : BTreeMap ℕ RowNote) → ((q : ℕ) → tree.get nat_cmp n q ≡ cond (is_eq (nat_cmp k q)) (Some note) (tree.get nat_cmp m q)) → AreNotes K s n
   noted_next n puts q other h = by-case (is_eq (nat_cmp k q)) q other refl (sym (puts q) ∙ h)
-
-same-test : (a b : Low) → a ≡ b → (a.bits == b.bits && a.low == b.low) ≡ true
-same-test a b e =
-    let bits : a.bits ≡ b.bits = ap (λ (x : Low). x.bits) e in
-    let low : a.low ≡ b.low = ap (λ (x : Low). x.low) e in
-    grind (arith, nat_tests)
-
--- the note of a row is what stands by the number of its bucket
-pub note_kept : (J : List LaneEvent) (s : ClusterState) (m : BTreeMap ℕ RowNote) (b : Low) → IsBucket b → AreNotes J s m → note_for b m ≡ tree.get nat_cmp m (number_of b)
-note_kept J s m b ok are = by-note (tree.get nat_cmp m (number_of b)) refl
-  where
-    by-note : (o : Option RowNote) → tree.get nat_cmp m (number_of b) ≡ o → of_bucket b o ≡ o
-    by-note None e = refl
-    by-note (Some note) e =
-        let i = are (number_of b) note e in
-        ap (λ (t : Bool). if t then Some note else None) (same-test note.bucket b (number_same note.bucket b i.valid ok i.numbered))

@@ -1,10 +1,12 @@
 -- What a round makes of nodes and of its row, where it was run to its end in a quiet span.
-use Rattle.std.proofs.Common.{◌≡◌, ◌<◌, ◌||◌, ℕ, Bool, true, false, Option, Some, None, slice_get, refl, sym, ap, ◌∙◌}
+use Rattle.std.proofs.Common.{◌≡◌, ◌<◌, ◌||◌, ℕ, Bool, true, false, List, Option, Some, None, slice_get, slice_set, refl, sym, ap, ◌∙◌}
 use Rattle.std.specs.Prelude.{if◌then◌else◌}
 use mathlib.Core.Bool.{true≢false}
 use Rattle.bucket_ids.specs.Buckets.{Low}
 use Rattle.node_sets.specs.Members.{has_node}
+use Rattle.cluster_states.specs.declared.cluster_state.ClusterState.{ClusterState}
 use Rattle.cluster_states.specs.Publishing.{serves}
+use Rattle.ideal_nodes.specs.Placement.{IsIdeal}
 use Rattle.bucket_db.specs.Changes.{at_row}
 use Rattle.bucket_db.specs.Rows.{Rows}
 use Rattle.bucket_db.specs.declared.row.Row.{Row}
@@ -15,25 +17,30 @@ use Rattle.lane_journals.specs.Events.{Content}
 use Rattle.lane_keeping.specs.LaneKeeping.{node_in}
 use Rattle.lane_states.specs.declared.lane_state.LaneState.{LaneState}
 use Rattle.lane_states.specs.LaneStates.{journal_of, part_of}
-use Rattle.lane_rest.specs.Nodes.{Node}
 use Rattle.lane_rest.specs.Rest.{documents}
 use Rattle.lane_rest.specs.Rows as rest
 use Rattle.lane_rest.specs.Rows.{Settings, is_target, united, round_node, round_row}
 use Rattle.lane_rest.specs.Scripts.{Script}
 use Rattle.lane_rest.specs.Sets.{newest_of}
-use Rattle.lane_rest.specs.Shapes.{Shape, shape_of}
+use Rattle.lane_rest.specs.Shapes.{Shape, Nothing, shape_of}
 use Rattle.lane_rest.specs.Targets.{is_target_in}
 use Rattle.quiet_rounds.specs.Rounding.{applied_if}
 use Rattle.quiet_notes.specs.Noting.{newest_in}
 use Rattle.quiet_ends.specs.Ending.{HasEnded}
 use Rattle.lane_upkeep.specs.declared.owner.Owner.{Owner}
-use Rattle.lane_upkeep.specs.declared.rounding.RowNote.{RowNote}
+use Rattle.upkeep_steps.specs.declared.notes.RowNote.{RowNote}
 use Rattle.lane_upkeep.specs.Passing.{rows_in, HasRow}
 use Rattle.lane_upkeep.specs.RoundNotes.{IsNoteOf, GainsMarks}
-use Rattle.lane_upkeep.specs.Quiet.{nodes_in, shown_in, shown_at, row_with, AreSettingsIn, NodesBecome, OthersStay, IsParted, RowBecomes, IsRoundQuietly}
-use Rattle.lane_upkeep.proofs.QuietPlaces.{row_changed}
-use Rattle.lane_upkeep.proofs.QuietRounded.{TargetsAreListed}
+use Rattle.upkeep_steps.specs.Abstract.{shown_in, row_with, IsParted}
+use Rattle.upkeep_runs.specs.Worlds.{shown_at, row_by}
+use Rattle.upkeep_runs.proofs.Rows.{set_at_row}
+use Rattle.lane_upkeep.specs.Quiet.{nodes_in, AreSettingsIn, NodesBecome, OthersStay, IsRoundQuietly}
 use Rattle.lane_upkeep.proofs.QuietNoted.{note-whole, note-documents, note-holders, note-shape, note-over, note-inside, note-exact}
+
+-- the law of the set of a row's targets
+abbrev pub TargetsAreListed : Type 0
+TargetsAreListed = (redundancy : ℕ) (s : ClusterState) (b : Low) (active : Option ℕ) (set : ℕ) (ideal : List ℕ) → AreTargets redundancy s b active set → IsIdeal b s ideal
+    → (n : ℕ) → has_node set n ≡ is_target_in redundancy ideal active n
 
 or-turned : (a b : Bool) → (a || b) ≡ (b || a)
 or-turned true true = refl
@@ -56,7 +63,7 @@ module _ (targets : TargetsAreListed) (d : Script) (c e : LaneState) (o : Owner)
     (goes-to : AreTargets (c.rules).redundancy o.state row.bucket row.active r.receivers) (gains : GainsMarks (part_of c o.distributor) (part_of e o.distributor) at note.holders) (found : HasRow c o at row)
     (counted : (b : Low) (held : Content) → documents b held (journal_of e) ≡ documents b held (journal_of c)) where
   abbrev bare : rest.Row
-  bare = row_with o (nodes_in d c) None row
+  bare = row_with (λ n. Nothing) None row
 
   few : (n : ℕ) → serves o.state n ≡ true → n < 32
   few n g = (are.sound).few n ((are.lane).serving n ∙ g)
@@ -79,7 +86,7 @@ module _ (targets : TargetsAreListed) (d : Script) (c e : LaneState) (o : Owner)
       ∙ (ap (λ (b : Low). applied_if (is_target s bare n) b (newest_in o.state (node_in c.nodes.items)) (nodes_in d c n)) row-is
       ∙ ap (λ (U : Content). applied_if (is_target s bare n) row.bucket U (nodes_in d c n)) union-is))
 
-  parted : IsParted o note
+  parted : IsParted (serves o.state) note
   parted = record {
     over = note-over d o.state (journal_of c) (journal_of e) (node_in c.nodes.items) (node_in e.nodes.items) r note h i few;
     inside = note-inside d o.state (journal_of c) (journal_of e) (node_in c.nodes.items) (node_in e.nodes.items) r note h i few;
@@ -100,8 +107,8 @@ module _ (targets : TargetsAreListed) (d : Script) (c e : LaneState) (o : Owner)
   marked : rows_in e o ≡ at_row at (λ q. record q { complete = gains.marks }) (rows_in c o)
   marked = ap (λ (p : Part). rows_of p.rows) gains.after ∙ ap (at_row at (λ q. record q { complete = gains.marks })) (sym (ap rows_of gains.opened))
 
-  becomes-rows : RowBecomes c e o at after
-  becomes-rows = row_changed c e o at row (λ q. record q { complete = gains.marks }) marked found
+  becomes-rows : rows_in e o ≡ slice_set (rows_in c o) at after
+  becomes-rows = marked ∙ set_at_row at (λ q. record q { complete = gains.marks }) (rows_in c o) row found
 
   holder-is : (n : ℕ) → has_node note.holders n ≡ is_target s bare n
   holder-is n = note-holders d o.state (journal_of c) (journal_of e) (node_in c.nodes.items) (node_in e.nodes.items) r note h i few n ∙ target-is n
@@ -121,12 +128,12 @@ module _ (targets : TargetsAreListed) (d : Script) (c e : LaneState) (o : Owner)
       ∙ (counted row.bucket (united s (nodes_in d c))
       ∙ sym ((are.lane).documents (united s (nodes_in d c)) row.bucket))))
 
-  shown-is : (n : ℕ) → shown_at o (nodes_in d e) row.bucket note n ≡ shape_of row.bucket (nodes_in d c n).pieces
+  shown-is : (n : ℕ) → shown_at o.state (nodes_in d c) row.bucket note n ≡ shape_of row.bucket (nodes_in d c n).pieces
   shown-is n = by_test (serves o.state n) refl
     where
-      by_test : (t : Bool) → serves o.state n ≡ t → (if t then shown_in note n else shape_of row.bucket (nodes_in d e n).pieces) ≡ shape_of row.bucket (nodes_in d c n).pieces
+      by_test : (t : Bool) → serves o.state n ≡ t → (if t then shown_in note n else shape_of row.bucket (nodes_in d c n).pieces) ≡ shape_of row.bucket (nodes_in d c n).pieces
       by_test true g = note-shape d o.state (journal_of c) (journal_of e) (node_in c.nodes.items) (node_in e.nodes.items) r note h i few n g ∙ ap (λ (b : Low). shape_of b (nodes_in d c n).pieces) row-is
-      by_test false g = ap (λ (x : Node). shape_of row.bucket x.pieces) (round-still d c e o r h n g)
+      by_test false g = refl
 
   abbrev row-of : (ℕ → Bool) → ℕ → (ℕ → Bool) → (ℕ → Shape) → rest.Row
   row-of complete documents holders shown = record { bucket = row.bucket; complete = complete; active = bare.active; accepted = bare.accepted; documents = documents; holders = holders; shown = shown }
@@ -134,11 +141,11 @@ module _ (targets : TargetsAreListed) (d : Script) (c e : LaneState) (o : Owner)
   abbrev target : ℕ → Bool
   target = is_target s bare
 
-  becomes : row_with o (nodes_in d e) (Some note) after ≡ round_row s bare (nodes_in d c)
+  becomes : row_by o.state (nodes_in d c) (Some note) after ≡ round_row s bare (nodes_in d c)
   becomes =
-      ap (λ (f : ℕ → Bool). row-of f note.documents (λ n. has_node note.holders n) (shown_at o (nodes_in d e) row.bucket note)) (λ j n. complete-is n j)
-      ∙ (ap (λ (k : ℕ). row-of (λ n. is_target s bare n || has_node row.complete n) k (λ n. has_node note.holders n) (shown_at o (nodes_in d e) row.bucket note)) documents-are
-      ∙ (ap (λ (f : ℕ → Bool). row-of (λ n. is_target s bare n || has_node row.complete n) (s.documents (united s (nodes_in d c)) row.bucket) f (shown_at o (nodes_in d e) row.bucket note)) (λ j n. holder-is n j)
+      ap (λ (f : ℕ → Bool). row-of f note.documents (λ n. has_node note.holders n) (shown_at o.state (nodes_in d c) row.bucket note)) (λ j n. complete-is n j)
+      ∙ (ap (λ (k : ℕ). row-of (λ n. is_target s bare n || has_node row.complete n) k (λ n. has_node note.holders n) (shown_at o.state (nodes_in d c) row.bucket note)) documents-are
+      ∙ (ap (λ (f : ℕ → Bool). row-of (λ n. is_target s bare n || has_node row.complete n) (s.documents (united s (nodes_in d c)) row.bucket) f (shown_at o.state (nodes_in d c) row.bucket note)) (λ j n. holder-is n j)
       ∙ ap (λ (f : ℕ → Shape). row-of (λ n. is_target s bare n || has_node row.complete n) (s.documents (united s (nodes_in d c)) row.bucket) target f) (λ j n. shown-is n j)))
 
   pub round-quietly : IsRoundQuietly d s c e o at row note

@@ -19,10 +19,10 @@ use Rattle.lane_rest.specs.Shapes.{Shape, Same, Over, Inside, shape_of}
 use Rattle.shown_shapes.specs.Shown.{lies_over, lies_inside, shape_with, shape_shown}
 use Rattle.quiet_notes.specs.Noting.{newest_in}
 use Rattle.quiet_ends.specs.Ending.{HasEnded}
-use Rattle.lane_upkeep.specs.declared.rounding.Exact.{Exact}
-use Rattle.lane_upkeep.specs.declared.rounding.RowNote.{RowNote}
+use Rattle.upkeep_steps.specs.declared.notes.Exact.{Exact}
+use Rattle.upkeep_steps.specs.declared.notes.RowNote.{RowNote}
 use Rattle.lane_upkeep.specs.RoundNotes.{serial_in, IsNoteOf}
-use Rattle.lane_upkeep.specs.Quiet.{shown_in}
+use Rattle.upkeep_steps.specs.Abstract.{shown_in}
 use Rattle.lane_upkeep.proofs.QuietRounds.{serial-same, note-shows}
 
 -- ---- members and answers

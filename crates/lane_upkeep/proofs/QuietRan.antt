@@ -27,15 +27,14 @@ use Rattle.lane_rest.specs.Scripts.{Script}
 use Rattle.quiet_spans.specs.Quiet.{Extends}
 use Rattle.quiet_ends.specs.Ending.{IsWholeRound, HasEnded}
 use Rattle.lane_upkeep.specs.declared.owner.Owner.{Owner}
-use Rattle.lane_upkeep.specs.declared.rounding.RowNote.{RowNote}
+use Rattle.upkeep_steps.specs.declared.notes.RowNote.{RowNote}
 use Rattle.lane_upkeep.specs.Passing.{IsPassing, PassesOn, HasRow}
 use Rattle.lane_upkeep.specs.RoundNotes.{NotesRun, GainsMarks}
 use Rattle.lane_upkeep.specs.Quiet.{Goes, IsCurrent, AreSettingsIn, DoesQuietly, IsRoundQuietly}
 use Rattle.lane_upkeep.proofs.Upkept.{upkeep-run}
 use Rattle.lane_upkeep.proofs.RoundsLeft.{row-of}
 use Rattle.lane_upkeep.proofs.QuietSteps.{documents-stay}
-use Rattle.lane_upkeep.proofs.QuietRounded.{TargetsAreListed}
-use Rattle.lane_upkeep.proofs.QuietMade.{round-still, round-quietly}
+use Rattle.lane_upkeep.proofs.QuietMade.{TargetsAreListed, round-still, round-quietly}
 
 -- the law of whole rounds
 abbrev pub RoundsEnd : Type 0

@@ -8,10 +8,10 @@ use Rattle.node_sets.specs.Members.{has_node}
 use Rattle.pieces.specs.declared.piece.Piece.{Piece}
 use Rattle.merge_rounds.specs.Rounds.{RoundState, pieces_by}
 use Rattle.shown_shapes.specs.Shown.{lies_over, lies_inside, serial_shown, shape_with, shape_shown}
-use Rattle.lane_upkeep.specs.declared.rounding.Exact.{Exact}
-use Rattle.lane_upkeep.specs.declared.rounding.RowNote.{RowNote}
+use Rattle.upkeep_steps.specs.declared.notes.Exact.{Exact}
+use Rattle.upkeep_steps.specs.declared.notes.RowNote.{RowNote}
 use Rattle.lane_upkeep.specs.RoundNotes.{is_exact, serial_in, IsNoteOf}
-use Rattle.lane_upkeep.specs.Quiet.{shape_in, shown_in}
+use Rattle.upkeep_steps.specs.Abstract.{shape_in, shown_in}
 
 pub serial-same : (row : Low) (ps : List Piece) → serial_in row ps ≡ serial_shown row ps
 serial-same row [] = refl

@@ -27,7 +27,7 @@ use Rattle.lane_upkeep.specs.declared.owner.Owner.{Owner}
 use Rattle.lane_upkeep.specs.Passing.{IsPassing, PassesOn}
 use Rattle.lane_upkeep.specs.Deciding.{Decides, DecidesNothing}
 use Rattle.lane_upkeep.specs.Quiet.{Goes, nodes_in, IsCurrent, AreSettingsIn, InQuiet, NodesBecome, VersionsStay, OthersStay, DoesQuietly, IsToldQuietly}
-use Rattle.lane_upkeep.specs.Sending.{Says, SaysNothing}
+use Rattle.lane_upkeep.specs.Sending.{Says}
 use Rattle.lane_upkeep.proofs.QuietDecisions.{decided-nodes, decided-versions, undecided-nodes, undecided-versions}
 
 -- ---- what stays while a pass goes on
@@ -151,11 +151,6 @@ does_same c o given L holds = record {
   versions = λ d s are current goes. versions_none c;
   still = λ d s are current goes. others_none d c o;
 }
-
--- nothing was said
-pub does_none : (c e : LaneState) (o : Owner) (given now : List Fate) (L : LaneState → Script → Settings → Type 0) → SaysNothing c e given now → ((d : Script) (s : Settings) → AreSettingsIn c o s → IsCurrent c o → L c d s) → DoesQuietly given now c e o (L e)
-does_none c e o given now L says holds =
-    subst (λ (f : List Fate). DoesQuietly given f c e o (L e)) (sym says.fates) (subst (λ (z : LaneState). DoesQuietly given given c z o (L z)) (sym says.same) (does_same c o given (L c) holds))
 
 -- it does what follows from that
 pub does_map : (given now : List Fate) (c e : LaneState) (o : Owner) (L M : Script → Settings → Type 0) → ((d : Script) (s : Settings) → L d s → M d s) → DoesQuietly given now c e o L → DoesQuietly given now c e o M

@@ -30,16 +30,17 @@ use Rattle.lane_rest.specs.Resting.{AreSettings, HasBegun, IsResting}
 use Rattle.lane_rest.specs.Rest.{documents, IsAtRest}
 use Rattle.lane_rest.specs.Worlds.{AreSettingsOf, IsSaid, IsWorldOf}
 use Rattle.lane_rest.specs.Lanes.{seen_node}
+use Rattle.lane_rest.specs.Nodes.{Node}
 use Rattle.lane_rest.specs.Scripts.{Script}
 use Rattle.rest_settings.specs.Found.{settings_of}
 use Rattle.quiet_spans.specs.Quiet.{IsQuiet, GoesQuietly}
 use Rattle.upkeep_answers.specs.Spans.{AreUpkeep}
 use Rattle.lane_upkeep.specs.declared.owner.Owner.{Owner}
-use Rattle.lane_upkeep.specs.declared.rounding.RowNote.{RowNote}
+use Rattle.upkeep_steps.specs.declared.notes.RowNote.{RowNote}
 use Rattle.std.specs.BTreeMap.{BTreeMap}
 use Rattle.lane_upkeep.specs.Passing.{IsPassing, PassesOn, rows_in}
 use Rattle.lane_upkeep.specs.Rests.{OpensAndPasses, RestsWhereQuiet}
-use Rattle.lane_upkeep.specs.Quiet.{Goes, IsCurrent, AreSettingsIn, DoesQuietly, PassesQuietly, world_in}
+use Rattle.lane_upkeep.specs.Quiet.{Goes, nodes_in, IsCurrent, AreSettingsIn, DoesQuietly, PassesQuietly, world_in}
 use Rattle.lane_upkeep.proofs.RestingStates.{newest-said, current-once, documents-stay, upkeep-then}
 use Rattle.lane_upkeep.proofs.RestingRows.{world-of}
 
@@ -71,7 +72,7 @@ AreWhole c o = AreRows c.lane (buckets_of (rows_in c o))
 
 -- a pass may begin where one is under way
 abbrev pub Begins : Type 0
-Begins = (d : Script) (c : LaneState) (o : Owner) (given : List Fate) (s : Settings) (notes : BTreeMap ℕ RowNote) → AreWhole c o → IsPassing c o given → AreSettingsIn c o s → IsCurrent c o → HasBegun s (world_in d c o notes)
+Begins = (d : Script) (c : LaneState) (o : Owner) (given : List Fate) (s : Settings) (still : ℕ → Node) (notes : BTreeMap ℕ RowNote) → AreWhole c o → IsPassing c o given → AreSettingsIn c o s → IsCurrent c o → HasBegun s (world_in d s still c o notes)
 
 -- ---- settings
 
@@ -158,11 +159,12 @@ module _ (found : AreFound) (bring : BringRest) (owners : OwnersKnow) (begins : 
   pub pass-rests : (d : Script) → Goes d now m e → IsAtRest S (m.rules).searchable (m.rules).split_at K
   pass-rests d goes =
       let x : PassesQuietly d s m e o = does.quiet d s settings before.current goes in
-      let rests : IsResting s (united s (x.resent).nodes) (world_in d e o x.after) = bring.brings s (world_in d m o x.before) x.resent (world_in d e o x.after) settings.sound (begins d m o given s x.before whole p settings before.current) x.resends x.passes in
-      bring.is_read S (m.rules).searchable (m.rules).split_at o.state K s (united s (x.resent).nodes) (world_in d e o x.after) legal-after
+      let still : ℕ → Node = nodes_in d m in
+      let rests : IsResting s (united s (x.resent).nodes) (world_in d s still e o x.after) = bring.brings s (world_in d s still m o x.before) x.resent (world_in d s still e o x.after) settings.sound (begins d m o given s still x.before whole p settings before.current) x.resends x.passes in
+      bring.is_read S (m.rules).searchable (m.rules).split_at o.state K s (united s (x.resent).nodes) (world_in d s still e o x.after) legal-after
       (newest-said S K legal-after o.state after.newest.0 after.newest.1) after.is_open
       (settings-later S (m.rules).searchable (m.rules).split_at o.state J K s (documents-stay o.distributor (o.state).version J K on.grows) settings.lane)
-      (world-of bring.said S.acks (state_of (history K)) d e o x.after (meant-legal S K legal-after) q.keeps after.current (after.opening).rows_are) rests
+      (world-of bring.said S.acks (state_of (history K)) d s still e o x.after (meant-legal S K legal-after) q.keeps after.current (after.opening).rows_are) rests
 
 -- ---- the opening, and then the pass
 

@@ -24,10 +24,14 @@ use Rattle.lane_rest.specs.Worlds.{IsSaid, HasMarks, IsWorldOf}
 use Rattle.lane_rest.specs.Lanes.{seen_node}
 use Rattle.lane_rest.specs.Scripts.{Script, came}
 use Rattle.lane_upkeep.specs.declared.owner.Owner.{Owner}
-use Rattle.lane_upkeep.specs.declared.rounding.RowNote.{RowNote}
+use Rattle.upkeep_steps.specs.declared.notes.RowNote.{RowNote}
 use Rattle.lane_upkeep.specs.Passing.{rows_in}
-use Rattle.lane_upkeep.specs.Quiet as quiet
-use Rattle.lane_upkeep.specs.Quiet.{nodes_in, row_in, note_in, world_in}
+use Rattle.cluster_states.specs.declared.cluster_state.ClusterState.{ClusterState}
+use Rattle.lane_rest.specs.Rows.{Settings}
+use Rattle.upkeep_steps.specs.Notes.{note_for, whole_in}
+use Rattle.upkeep_runs.specs.Worlds.{row_of}
+use Rattle.upkeep_runs.specs.Worlds as worlds
+use Rattle.lane_upkeep.specs.Quiet.{world_in}
 
 -- ---- rows of a list
 
@@ -50,9 +54,9 @@ by-in f key (q ∷ rs) r e = by_test (contains q.bucket key) e (by-in f key rs r
     by_test false e ih = inr (ih e)
 
 -- a row with a note or without has the row's marks
-row-marks : (o : Owner) (ns : ℕ → Node) (note : Option RowNote) (r : Row) (row : listed.Row) → IsRow r row → HasMarks row (quiet.row_with o ns note r)
-row-marks o ns None r row is = record { bucket = is.bucket_is; complete = is.complete_is; active = is.active_is }
-row-marks o ns (Some note) r row is = record { bucket = is.bucket_is; complete = is.complete_is; active = is.active_is }
+row-marks : (state : ClusterState) (still : ℕ → Node) (note : Option RowNote) (r : Row) (row : listed.Row) → IsRow r row → HasMarks row (worlds.row_by state still note r)
+row-marks state still None r row is = record { bucket = is.bucket_is; complete = is.complete_is; active = is.active_is }
+row-marks state still (Some note) r row is = record { bucket = is.bucket_is; complete = is.complete_is; active = is.active_is }
 
 record HasRowOf (o : Option Row) (row : listed.Row) : Type 0 where
   found : Row
@@ -66,18 +70,18 @@ row-of (Some r) row h = record { found = r; there = refl; is = h }
 -- ---- the world
 
 module _ (said : (J : List LaneEvent) (n many : ℕ) (doubled : ℕ → Bool) (y : service.Node) → NodeKeeps J n y → IsSaid n (history J) (seen_node doubled many y))
-    (acks : ℕ) (P : ℕ → ℕ → Bool) (d : Script) (e : LaneState) (o : Owner) (notes : BTreeMap ℕ RowNote) where
+    (acks : ℕ) (P : ℕ → ℕ → Bool) (d : Script) (s : Settings) (still : ℕ → Node) (e : LaneState) (o : Owner) (notes : BTreeMap ℕ RowNote) where
   row-there : Legal acks P (history (journal_of e)) → ((key : ℕ) → IsRowOf (row_by key (rows_in e o)) (row_with key (rows (o.state).version (history (journal_of e)))))
-      → (row : listed.Row) → IsIn row (rows (o.state).version (history (journal_of e))) → (r : rest.Row) × In r (map (row_in o (nodes_in d e) notes) (rows_in e o)) × HasMarks row r
+      → (row : listed.Row) → IsIn row (rows (o.state).version (history (journal_of e))) → (r : rest.Row) × In r (map (row_of o.state still notes) (rows_in e o)) × HasMarks row r
   row-there legal are row h =
       let apart : PartedRows (rows (o.state).version (history (journal_of e))) = parted acks P (history (journal_of e)) legal (o.state).version in
       let key : ℕ = (row.bucket).low in
       let found : row_with key (rows (o.state).version (history (journal_of e))) ≡ Some row = in-list row (rows (o.state).version (history (journal_of e))) apart h key (own-low row.bucket (row-fits row (rows (o.state).version (history (journal_of e))) apart h)) in
       let x : HasRowOf (row_by key (rows_in e o)) row = row-of (row_by key (rows_in e o)) row (subst (λ (z : Option listed.Row). IsRowOf (row_by key (rows_in e o)) z) found (are key)) in
-      (row_in o (nodes_in d e) notes x.found, by-in (row_in o (nodes_in d e) notes) key (rows_in e o) x.found x.there, row-marks o (nodes_in d e) (note_in notes (x.found).bucket) x.found row x.is)
+      (row_of o.state still notes x.found, by-in (row_of o.state still notes) key (rows_in e o) x.found x.there, row-marks o.state still (whole_in (note_for (x.found).bucket notes)) x.found row x.is)
 
   pub world-of : Legal acks P (history (journal_of e)) → IsKept e → ((n : ℕ) → serves o.state n ≡ true → version n (history (journal_of e)) ≡ (o.state).version)
-      → ((key : ℕ) → IsRowOf (row_by key (rows_in e o)) (row_with key (rows (o.state).version (history (journal_of e))))) → IsWorldOf o.state (journal_of e) (world_in d e o notes)
+      → ((key : ℕ) → IsRowOf (row_by key (rows_in e o)) (row_with key (rows (o.state).version (history (journal_of e))))) → IsWorldOf o.state (journal_of e) (world_in d s still e o notes)
   world-of legal kept current are = record {
     nodes = λ n. said (journal_of e) n (came n (history (journal_of e))) (d n) (node_in e.nodes.items n) ((kept.keeps).nodes_are n);
     current = current;

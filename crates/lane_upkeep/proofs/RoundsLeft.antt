@@ -31,7 +31,7 @@ use Rattle.lane_states.proofs.RoundLines.{stays-round}
 use Rattle.lane_states.proofs.SameStates.{same-state}
 use Rattle.upkeep_answers.specs.Spans.{AreUpkeep}
 use Rattle.lane_upkeep.specs.declared.owner.Owner.{Owner}
-use Rattle.lane_upkeep.specs.declared.rounding.RowNote.{RowNote}
+use Rattle.upkeep_steps.specs.declared.notes.RowNote.{RowNote}
 use Rattle.lane_upkeep.specs.Passing.{IsPassing}
 use Rattle.lane_upkeep.specs.Notes.{KnowsNote}
 use Rattle.lane_upkeep.specs.RoundNotes.{GainsMarks, RanRound}

@@ -1,7 +1,6 @@
 -- A pass of upkeep under way: what holds of the lane between its steps, and what each of them leaves.
 use Rattle.std.specs.Prelude.{◌≡◌, ◌<◌, ℕ, true, List, Some, slice_get, vec_len}
 use Rattle.bucket_ids.specs.Buckets.{Low}
-use Rattle.node_sets.specs.Members.{has_node}
 use Rattle.cluster_states.specs.Publishing.{serves}
 use Rattle.carriers.specs.declared.fate.Fate.{Fate}
 use Rattle.messages.specs.declared.body.Body.{Body}
@@ -9,7 +8,7 @@ use Rattle.bucket_db.specs.Rows.{Rows}
 use Rattle.bucket_db.specs.declared.row.Row.{Row}
 use Rattle.distributor_part.specs.Parts.{rows_of}
 use Rattle.distributor_part.specs.Steps.{IsOpened}
-use Rattle.lane_journals.specs.Facts.{Idle, AnsweredReady}
+use Rattle.lane_journals.specs.Facts.{Idle}
 use Rattle.lane_journals.specs.Meanings.{history}
 use Rattle.node_journals.specs.Flights.{NamesBucket}
 use Rattle.lane_keeping.specs.Acting.{IsActing}
@@ -64,7 +63,3 @@ pub record MayTell (c : LaneState) (o : Owner) (node : ℕ) (body : Body) : Type
 -- the lane is between two steps of a pass, whatever fates were given
 abbrev pub Passes : LaneState → Owner → Type 0
 Passes c o = (given : List Fate) × IsPassing c o given
-
--- these nodes answered a Ready of the row
-abbrev pub AreReady : LaneState → Owner → Row → ℕ → Type 0
-AreReady c o row nodes = (n : ℕ) → has_node nodes n ≡ true → AnsweredReady (o.state).version n row.bucket (history (journal_of c))

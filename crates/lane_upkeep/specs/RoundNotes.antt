@@ -23,8 +23,8 @@ use Rattle.lane_states.specs.declared.rounds.RoundRun.{RoundRun}
 use Rattle.lane_states.specs.LaneStates.{journal_of, part_of}
 use Rattle.lane_states.specs.RoundRuns.{Begins, GoesOn, IsEnd, IsWholeRun}
 use Rattle.lane_upkeep.specs.declared.owner.Owner.{Owner}
-use Rattle.lane_upkeep.specs.declared.rounding.Exact.{Exact}
-use Rattle.lane_upkeep.specs.declared.rounding.RowNote.{RowNote}
+use Rattle.upkeep_steps.specs.declared.notes.Exact.{Exact}
+use Rattle.upkeep_steps.specs.declared.notes.RowNote.{RowNote}
 
 -- the piece lies strictly over the row, or strictly inside it
 abbrev pub is_over : Low → Piece → Bool

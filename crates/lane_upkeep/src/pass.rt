@@ -1,21 +1,56 @@
-ghost use Rattle.std.specs.Prelude.{◌≡◌, OnOk};
+ghost use Rattle.std.specs.Prelude.{◌≡◌, ℕ, true, false, OnOk, IfOk, length, ◌<◌};
+ghost use Rattle.upkeep_steps.specs.declared.doing.Doing.TheVariants.{Finished};
 ghost use Rattle.lane_upkeep.specs.Passing.{IsPassing, PassesOn};
-ghost use Rattle.lane_upkeep.specs.Quiet.{DoesQuietly, PassesQuietly};
+ghost use Rattle.lane_upkeep.specs.Quiet.{DoesQuietly, PassesQuietly, StandsOn};
+ghost use Rattle.lane_upkeep.specs.Taking.{GoesOneOn, IsPass};
+ghost use Rattle.lane_upkeep.specs.UnderWay.{IsUnderWay, IsNearer};
 
-use crate::joining::join_pairs;
-use crate::notes::Notes;
 use crate::owner::Owner;
-use crate::resending::{resend_activates, resend_deletes};
-use crate::rounds_of_rows::round_rows;
-use crate::settling::{settle_joined, settle_rows};
-use crate::splitting::split_rows;
+use crate::row_places::{row_count, rows_are_whole};
+use crate::steps::{decide, next_of, note_acceptance, round, say};
 use carriers::Carrier;
 use lane_states::LaneState;
 use quiet_spans::laws::quiet_spans_part;
+use upkeep_runs::laws::{passes_end, passes_stand};
+use upkeep_steps::{UpkeepPass, UpkeepStep};
 use value_lists::NoMemory;
 
-/// The steps of a pass once the owner opened its state. The only error is want of memory, of the lane or of a node.
-#[tactic(auto, using(crate::proofs::Going::on_none, crate::proofs::Going::on_then, crate::proofs::Going::known_none, crate::proofs::Going::known_then, crate::proofs::Going::passes_of))]
+/// Takes the next step of a pass; whether there was one. The only error is want of memory, of the lane or of a node.
+fn go_on<C: Carrier>(
+    lane: &mut LaneState,
+    carrier: &mut C,
+    owner: &Owner,
+    pass: &mut UpkeepPass,
+) -> Result<bool, NoMemory>
+    requires passing { IsPassing lane.old owner.now (C.given carrier.old) }
+    requires under_way { IsUnderWay lane.old owner.now pass.old }
+    ensures passing { IsPassing lane.new owner.now (C.given carrier.new) }
+    ensures on { PassesOn lane.old lane.new owner.now }
+    ensures planned { C.planned carrier.new ≡ C.planned carrier.old }
+    ensures kind { C.takes_plans carrier.new ≡ C.takes_plans carrier.old }
+    ensures under_way { OnOk result (IsUnderWay lane.new owner.now pass.new) }
+    ensures nearer { IfOk result (λ more. more ≡ true → IsNearer lane.old lane.new owner.now pass.old pass.new) }
+    ensures ends { IfOk result (λ more. more ≡ false → pass.new.doing ≡ Finished) }
+    ensures takes { IfOk result (GoesOneOn lane.old lane.new owner.now pass.old pass.new
+        (C.given carrier.old) (C.given carrier.new)) }
+    ensures quiet { OnOk result (DoesQuietly (C.given carrier.old) (C.given carrier.new) lane.old lane.new owner.now
+        (λ d s. StandsOn d s lane.old lane.new owner.now pass.old pass.new)) }
+{
+    passes_stand();
+    quiet_spans_part();
+    rows_are_whole(lane, owner);
+    match next_of(lane, owner, pass) {
+        UpkeepStep::Tell { node, body } => say(lane, carrier, owner, pass, node, body)?,
+        UpkeepStep::Decide { at, decision } => decide(lane, owner, pass, at, decision)?,
+        UpkeepStep::Accept { at } => note_acceptance(lane, owner, pass, at),
+        UpkeepStep::Round { at } => round(lane, carrier, owner, pass, at)?,
+        UpkeepStep::Finished => return Ok(false),
+    }
+    Ok(true)
+}
+
+/// A pass once the owner opened its state: the machine of `upkeep_steps` says what comes next, and this takes each of its
+/// steps. The only error is want of memory, of the lane or of a node.
 pub fn make_pass<C: Carrier>(
     lane: &mut LaneState,
     carrier: &mut C,
@@ -26,17 +61,19 @@ pub fn make_pass<C: Carrier>(
     ensures on { PassesOn lane.old lane.new owner.now }
     ensures planned { C.planned carrier.new ≡ C.planned carrier.old }
     ensures kind { C.takes_plans carrier.new ≡ C.takes_plans carrier.old }
+    ensures pass { OnOk result (IsPass lane.old lane.new owner.now (C.given carrier.old) (C.given carrier.new)) }
     ensures quiet { OnOk result (DoesQuietly (C.given carrier.old) (C.given carrier.new) lane.old lane.new owner.now
         (λ d s. PassesQuietly d s lane.old lane.new owner.now)) }
 {
+    passes_stand();
+    passes_end();
     quiet_spans_part();
-    resend_deletes(lane, carrier, owner)?;
-    resend_activates(lane, carrier, owner)?;
-    let mut notes = Notes::new(lane.alloc);
-    round_rows(lane, carrier, owner, &mut notes)?;
-    join_pairs(lane, carrier, owner, &mut notes)?;
-    split_rows(lane, carrier, owner, &mut notes)?;
-    settle_rows(lane, carrier, owner, &mut notes)?;
-    let joined = join_pairs(lane, carrier, owner, &mut notes)?;
-    settle_joined(lane, carrier, owner, &mut notes, &joined)
+    rows_are_whole(lane, owner);
+    // that they can be counted bounds what is left of the pass
+    let _many = row_count(lane, owner);
+    let mut pass = UpkeepPass::new(lane.alloc);
+    while go_on(lane, carrier, owner, &mut pass)? {
+        let _many = row_count(lane, owner);
+    }
+    Ok(())
 }

@@ -9,7 +9,7 @@ ghost use Rattle.quiet_spans.specs.Quiet.{Extends};
 ghost use Rattle.lane_rounds.specs.RoundKeeping.{KnowsAnswers};
 ghost use Rattle.lane_states.specs.LaneStates.{journal_of, part_of};
 ghost use Rattle.lane_states.specs.Shortages.{NoneIsShort, EndsAtOnce, HadMemory};
-ghost use Rattle.lane_upkeep.specs.declared.rounding.RowNote.{RowNote as Note};
+ghost use Rattle.upkeep_steps.specs.declared.notes.RowNote.{RowNote as Note};
 ghost use Rattle.lane_upkeep.specs.Passing.{IsPassing, PassesOn, rows_in, HasRow};
 ghost use Rattle.lane_upkeep.specs.Notes.{KnowsNote};
 ghost use Rattle.lane_upkeep.specs.RoundNotes.{is_over, is_inside, serial_in, AreExactBelow, IsNoteOf, NotesRound, NotesRun, RanRound, GainsMarks};
@@ -26,32 +26,9 @@ use quiet_ends::laws::quiet_rounds_end;
 use shown_shapes::laws::targets_are_of_the_list;
 use std::alloc::Global;
 use upkeep_answers::laws::{upkeep_goes_on, upkeep_leaves_lines, upkeep_leaves_states};
+use upkeep_steps::{Exact, RowNote};
 use value_lists::NoMemory;
 
-/// A node that showed just the row, and the serial of that piece.
-#[derive(Clone, Copy, Debug, PartialEq, Eq)]
-pub struct Exact {
-    pub node: u8,
-    pub serial: u64,
-}
-
-/// What the last round of a row told.
-#[derive(Drop)]
-pub struct RowNote {
-    pub bucket: Bucket,
-    /// Whether all Reads were answered.
-    pub whole: bool,
-    /// The receivers that accepted the union.
-    pub holders: NodeSet,
-    /// The nodes that showed a piece strictly over the row.
-    pub over: NodeSet,
-    /// The nodes that showed a piece strictly inside the row.
-    pub inside: NodeSet,
-    /// The nodes that showed just the row, each with its serial.
-    pub exact: Vec<Exact>,
-    /// How many documents the union has; 0 where there is none.
-    pub documents: u64,
-}
 /// Whether one of these pieces lies strictly over a row.
 fn has_over(row: Bucket, pieces: &[Piece]) -> bool
     ensures { result ≡ list_any (is_over row) pieces.now }

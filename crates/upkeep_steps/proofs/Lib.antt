@@ -17,5 +17,4 @@ pub mod Levels
 pub mod Pairs
 pub mod Lists
 pub mod WholeLists
-pub mod Resent
 pub mod ResentActivates

@@ -97,7 +97,7 @@ found-any p (y ∷ ys) (suc k) x h e = or_right (p y) (list_any p ys) (found-any
 
 -- ---- notes and nodes
 
-documents-noted : (o : Option RowNote) (note : RowNote) → whole_in o ≡ Some note → documents_in o ≡ Some note.documents
+pub documents-noted : (o : Option RowNote) (note : RowNote) → whole_in o ≡ Some note → documents_in o ≡ Some note.documents
 documents-noted None note h = cc
 documents-noted (Some n) note h = by_test n.whole refl h
   where

@@ -72,7 +72,7 @@ sibling-to lane rows row other j =
     below : (m n : ℕ) → m < n → nat_lt m n ≡ true
     below m n h = grind (arith, nat_tests)
 
-to-sibling : (lane : Low) (rows : List Row) (row : Row) → can_join lane rows row ≡ true → (other : Row) × IsJoinable lane rows row other
+pub to-sibling : (lane : Low) (rows : List Row) (row : Row) → can_join lane rows row ≡ true → (other : Row) × IsJoinable lane rows row other
 to-sibling lane rows row h =
     let x = both-of (nat_lt lane.bits row.bucket.bits) (list_any (is_sibling row) rows) h in
     let found = any-of (is_sibling row) rows x.1 in

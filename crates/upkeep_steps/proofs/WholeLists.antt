@@ -60,11 +60,11 @@ no-note : (shown : Low → ℕ → Shape) (notes : BTreeMap ℕ RowNote) (row : 
 no-note shown notes row e = ap (λ (o : Option RowNote). row_with (shown row.bucket) (whole_in (of_bucket row.bucket o)) row) e
 
 module _ (lane : Low) (rows : List Row) (h : AreRows lane (buckets_of rows)) where
-  valid : (k : ℕ) (row : Row) → slice_get rows k ≡ Some row → IsBucket row.bucket
+  pub valid : (k : ℕ) (row : Row) → slice_get rows k ≡ Some row → IsBucket row.bucket
   valid k row found = valid_at (buckets_of rows) k row.bucket h.valid (bucket_at rows k row found)
 
   -- rows that have a key in common are one
-  one-place : (i k : ℕ) (x y : Row) → slice_get rows i ≡ Some x → slice_get rows k ≡ Some y → has_key y.bucket x.bucket.low ≡ true → i ≡ k
+  pub one-place : (i k : ℕ) (x y : Row) → slice_get rows i ≡ Some x → slice_get rows k ≡ Some y → has_key y.bucket x.bucket.low ≡ true → i ≡ k
   one-place i k x y at to has =
       let ok = valid i x at in
       let whole : count_by (λ b. has_key b x.bucket.low) (buckets_of rows) ≡ one_if (has_key lane x.bucket.low) = h.partition x.bucket.low (low_below x.bucket ok) in

@@ -1,5 +1,5 @@
 -- The machine and the rows as `upkeep_turns` and `lane_rest` have them in the abstract.
-use Rattle.std.specs.Prelude.{◌≡◌, ◌==◌, ◌⊎◌, ◌&&◌, not, ◌<◌, ◌≤◌, ◌+◌, ℕ, suc, Bool, true, false, List, [], ◌∷◌, Option, Some, None, is_some, Contains, map, drop, slice_get, if◌then◌else◌}
+use Rattle.std.specs.Prelude.{◌≡◌, ◌==◌, ◌⊎◌, ◌&&◌, not, ◌<◌, ◌≤◌, ℕ, Bool, true, false, List, [], ◌∷◌, Option, Some, None, is_some, Contains, map, slice_get}
 use Rattle.std.specs.List.{find, list_any, remove}
 use Rattle.std.specs.Ordering.{nat_cmp}
 use Rattle.std.specs.BTreeMap.{BTreeMap, get}
@@ -14,7 +14,6 @@ use Rattle.messages.specs.declared.decision.Decision.{Decision}
 use Rattle.messages.specs.declared.decision.Decision.TheVariants.{ActiveOn, DeleteFrom, DeleteOver as DeleteIsOver, RowsJoined}
 use Rattle.bucket_db.specs.Changes.{without_delete}
 use Rattle.bucket_db.specs.declared.row.Row.{Row}
-use Rattle.bucket_db.specs.declared.row.Deleting.{Deleting as Delete}
 use Rattle.distributor_part.specs.Upkeep.{deleting_from}
 use Rattle.lane_rest.specs.Nodes.{Node}
 use Rattle.lane_rest.specs.Shapes.{Shape, Nothing, Same, Over as ShowedOver, Inside as ShowedInside, shape_beside}
@@ -38,7 +37,6 @@ use Rattle.upkeep_steps.specs.declared.doing.Turn.TheVariants.{Over, Says}
 use Rattle.upkeep_steps.specs.declared.notes.Exact.{Exact}
 use Rattle.upkeep_steps.specs.declared.notes.RowNote.{RowNote}
 use Rattle.upkeep_steps.specs.Notes.{note_for, whole_in}
-use Rattle.upkeep_steps.specs.Places.{was_sent}
 use Rattle.upkeep_steps.specs.Turns.{View, answered, decided, accepted, rounded}
 
 -- ---- where it stands; of the rows that joins made the second time there is a list
@@ -230,40 +228,6 @@ row_in shown notes row = row_with (shown row.bucket) (whole_in (note_for row.buc
 
 abbrev pub rows_in : (Low → ℕ → Shape) → BTreeMap ℕ RowNote → List Row → List rest.Row
 rows_in shown notes = map (row_in shown notes)
-
--- ---- Deletes that are sent again
-
--- a Delete of the row of a place is, if its node serves and no row before that has the same
-abbrev pub to_resend : View → ℕ → Option Delete → List turns.Unanswered → List turns.Unanswered
-to_resend v at None ds = ds
-to_resend v at (Some d) ds = if not (was_sent v.rows at d) && serves v.state d.node then record { node = d.node; bucket = d.bucket; serial = d.serial } ∷ ds else ds
-
-abbrev pub resent_among : View → ℕ → List Row → List turns.Unanswered
-resent_among v at [] = []
-resent_among v at (row ∷ rows) = to_resend v at row.deleting (resent_among v (suc at) rows)
-
--- from a place on
-abbrev pub resent_from : View → ℕ → List turns.Unanswered
-resent_from v at = resent_among v at (drop at v.rows)
-
-abbrev pub resending_of : View → Doing → turns.Doing
-resending_of v (ResendingDelete at) = turns.ResendingDelete (resent_from v at)
-resending_of v (ResentDelete at) = turns.ResentDelete (resent_from v (at + 1))
-resending_of v d = doing_of [] d
-
--- Deletes of one bucket to one node are of one serial
-abbrev pub AreOneEach : List Row → Type 0
-AreOneEach rows = (i k : ℕ) (x y : Row) (d e : Delete) → slice_get rows i ≡ Some x → slice_get rows k ≡ Some y → x.deleting ≡ Some d → y.deleting ≡ Some e
-    → d.bucket ≡ e.bucket → d.node ≡ e.node → d.serial ≡ e.serial
-
--- to go over a place changes nothing, a message is one turn, and so is that the Delete is over, which no row has then
-abbrev pub Resends : View → Settings → World → Doing → Turn → Type 0
-Resends v s w d (Over e) = (k : ℕ) × (turns.turns s k (stand (resending_of v d) w) ≡ stand (resending_of v e) w)
-Resends v s w d (Says (step.Tell n b)) = turn_at s (resending_of v d) w
-    ≡ stand (resending_of v (answered v (answer_of b (w.nodes n)) d)) (record { nodes = told_node n b w.nodes; rows = w.rows })
-Resends v s w d (Says (step.Decide at (DeleteIsOver b n))) = (next : View) → next.state ≡ v.state → next.rows ≡ map (without_delete b n) v.rows
-    → turn_at s (resending_of v d) w ≡ stand (resending_of next (decided d (DeleteIsOver b n))) w
-Resends v s w d (Says x) = ⊥
 
 -- ---- Activates that are sent again, before any round
 

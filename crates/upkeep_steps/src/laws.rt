@@ -27,11 +27,11 @@ ghost use Rattle.distributor_part.specs.Upkeep.{SplitsRow, JoinsRows};
 ghost use Rattle.upkeep_steps.specs.Going.{Forgets, split_makes, join_makes};
 ghost use Rattle.cluster_states.specs.Publishing.{serves};
 ghost use Rattle.lane_rest.specs.Nodes.{Node};
-ghost use Rattle.upkeep_steps.specs.declared.doing.Doing.TheVariants.{ResendingDelete, ResentDelete, ResendingActivate, ResentActivate, Rounding, Joining, JoinTold, JoinRound, Splitting, SplitTold, SplitFirst, SplitSecond, Settling};
+ghost use Rattle.upkeep_steps.specs.declared.doing.Doing.TheVariants.{ResendingActivate, ResentActivate, Rounding, Joining, JoinTold, JoinRound, Splitting, SplitTold, SplitFirst, SplitSecond, Settling};
 ghost use Rattle.upkeep_steps.specs.declared.notes.RowNote.{RowNote};
 ghost use Rattle.upkeep_steps.specs.Notes.{note_for, whole_in};
 ghost use Rattle.upkeep_steps.specs.Turns.{View, begin_joins, turn_at, settle_turn, answered_row, rounded};
-ghost use Rattle.upkeep_steps.specs.Abstract.{AreMade, IsPlace, Pends, answer_of, after_decision, Refines, Tells, Agrees, AreOfBuckets, AreNoted, IsPairJoined, Pairs, AreOneEach, Resends, Activates, row_with, row_in, rows_in, time_of, doing_of};
+ghost use Rattle.upkeep_steps.specs.Abstract.{AreMade, IsPlace, Pends, answer_of, after_decision, Refines, Tells, Agrees, AreOfBuckets, AreNoted, IsPairJoined, Pairs, Activates, row_with, row_in, rows_in, time_of, doing_of};
 ghost use Rattle.upkeep_steps.specs.Places.{first_with, place_of, is_full_by};
 ghost use Rattle.upkeep_turns.specs.Turns.{stand, with_made, with_children, without_pair, turn_at as turn_at_rest, round_of as round_at_rest, Joining as Joining_rest, SplitTold as SplitTold_rest};
 
@@ -153,16 +153,6 @@ pub fn decisions_change_lists()
         → w.rows ≡ rows_in shown notes (rows_of p.rows) → Forgets (join_makes d) notes after
         → rows_in shown after (rows_of q.rows)
         ≡ with_row (merged (parent_of (j.one).bucket) j.one j.two) (without_pair at j.other w.rows) }
-{}
-
-/// Deletes that have no answer are sent again in the turns of the abstract, which has them in a list: to go over a row
-/// is no turn or one that changes nothing, and a message is one. That such a Delete is over leaves the list behind it,
-/// where Deletes of one bucket to one node are of one serial.
-pub fn resends_are_turns()
-    ensures sent { (v : View) (s : Settings) (made : BTreeMap ℕ (Unit {0})) (notes : BTreeMap ℕ RowNote) (w : World)
-        (at : ℕ) → Resends v s w (ResendingDelete at) (turn_at v made notes (ResendingDelete at)) }
-    ensures over { (v : View) (s : Settings) (made : BTreeMap ℕ (Unit {0})) (notes : BTreeMap ℕ RowNote) (w : World)
-        (at : ℕ) → AreOneEach v.rows → Resends v s w (ResentDelete at) (turn_at v made notes (ResentDelete at)) }
 {}
 
 /// The active node of a row is told so again in a turn of the abstract, and that it accepted is noted in one, before any

@@ -1,50 +1,84 @@
-use Rattle.lane_states.proofs.Results.{on_ok}
-use Rattle.lane_upkeep.proofs.QuietPass.{resent_steps, rounded_steps, settled_steps, pass_steps}
+use Rattle.std.proofs.Common.{◌≡◌, ◌∙◌, ◌<◌, ◌^◌, ℕ, Option, Some, None, refl, sym, subst}
+use Rattle.upkeep_steps.specs.declared.doing.Doing.{Doing}
+use Rattle.upkeep_steps.specs.declared.notes.RowNote.{RowNote}
+use Rattle.lane_upkeep.specs.UnderWay.{KnowsDoing}
+use Rattle.lane_upkeep.proofs.Going.{on_none, on_then}
+use Rattle.lane_upkeep.proofs.Standings.{does_begin, does_more, does_finish}
+use Rattle.lane_upkeep.specs.Taking.{GoesOneOn}
+use Rattle.lane_upkeep.proofs.Taken.{run_none, run_more, run_over}
 use Rattle.lane_upkeep.proofs.pass.make_pass.Goals as goal
+
+no-note : (o : Option RowNote) (note : RowNote) → o ≡ None → o ≡ Some note → ⊥
+no-note o note a b = let e : ◌≡◌ {A = Option RowNote} None (Some note) = sym a ∙ b in cc
+
+pub loop-pass-init : goal.loop-pass-init
+loop-pass-init g c =
+    let x = c.args.lane.now in
+    let o = c.args.owner.now in
+    let p = c.new-pass.result in
+    let begins = c.new-pass.ensures in
+    record {
+      passing = c.requires.passing;
+      on = on_none x o;
+      planned = refl;
+      kind = refl;
+      under_way = record {
+        notes = λ number note has. absurd (no-note _ note (begins.no_notes number) has);
+        doing = subst (λ (d : Doing). KnowsDoing x o d) (sym begins.begins) tt;
+      };
+      run = run_none x o p (g.C.Carrier.given c.args.carrier.now) (record { begins = begins.begins; none_made = begins.none_made; no_notes = begins.no_notes });
+      few = subst (λ (n : ℕ). n < 2 ^ 64) c.row_count-many.ensures c.row_count-many.type_inv;
+      quiet = does_begin c.passes_stand.ensures.begins x o (g.C.Carrier.given c.args.carrier.now) p c.requires.passing c.rows_are_whole.ensures.whole begins.begins begins.none_made begins.no_notes;
+    }
+
+pub returns-in_err-go_on-clause-on : goal.returns-in_err-go_on-clause-on
+returns-in_err-go_on-clause-on g c = on_then c.args.lane.now c.loop-pass.lane c.go_on.new.lane c.args.owner.now c.loop-pass.invariant.on c.go_on.ensures.on
+
+pub loop-pass-preserved : goal.loop-pass-preserved
+loop-pass-preserved g c =
+    let x = c.args.lane.now in
+    let m = c.loop-pass.lane in
+    let e = c.go_on.new.lane in
+    let o = c.args.owner.now in
+    let i = c.loop-pass.invariant in
+    let h = c.go_on.ensures in
+    record {
+      passing = h.passing;
+      on = on_then x m e o i.on h.on;
+      planned = h.planned ∙ i.planned;
+      kind = h.kind ∙ i.kind;
+      under_way = c.in_ok-go_on.ensures.under_way;
+      run = run_more x m e o c.loop-pass.pass c.go_on.new.pass (g.C.Carrier.given c.args.carrier.now) (g.C.Carrier.given c.loop-pass.carrier) (g.C.Carrier.given c.go_on.new.carrier) i.run
+          (subst (GoesOneOn m e o c.loop-pass.pass c.go_on.new.pass (g.C.Carrier.given c.loop-pass.carrier) (g.C.Carrier.given c.go_on.new.carrier)) c.if-branch.true c.in_ok-go_on.ensures.takes);
+      few = subst (λ (n : ℕ). n < 2 ^ 64) c.row_count-many-in-loop-pass.ensures c.row_count-many-in-loop-pass.type_inv;
+      quiet = does_more c.quiet_spans_part.ensures.first c.quiet_spans_part.ensures.second x m e o (g.C.Carrier.given c.args.carrier.now) (g.C.Carrier.given c.loop-pass.carrier) (g.C.Carrier.given c.go_on.new.carrier) c.loop-pass.pass c.go_on.new.pass
+          i.on h.on i.passing h.passing i.quiet c.in_ok-go_on.ensures.quiet;
+    }
+
+pub returns-clause-on : goal.returns-clause-on
+returns-clause-on g c = on_then c.args.lane.now c.loop-pass.lane c.go_on.new.lane c.args.owner.now c.loop-pass.invariant.on c.go_on.ensures.on
 
 pub returns-clause-quiet : goal.returns-clause-quiet
 returns-clause-quiet g c =
-    let first = c.quiet_spans_part.ensures.first in
-    let second = c.quiet_spans_part.ensures.second in
+    let x = c.args.lane.now in
+    let m = c.loop-pass.lane in
+    let e = c.go_on.new.lane in
     let o = c.args.owner.now in
-    let n0 = c.new-notes.result.by_number in
-    let n1 = c.round_rows.new.notes.by_number in
-    let n2 = c.join_pairs.new.notes.by_number in
-    let n3 = c.split_rows.new.notes.by_number in
-    let n4 = c.settle_rows.new.notes.by_number in
-    let n5 = c.join_pairs-2.new.notes.by_number in
-    let n6 = c.settle_joined.new.notes.by_number in
-    let h1 = c.in_ok-resend_deletes.ensures in
-    let h2 = c.in_ok-resend_activates.ensures in
-    let h3 = c.in_ok-round_rows.ensures in
-    let h4 = c.in_ok-join_pairs.ensures in
-    let h5 = c.in_ok-split_rows.ensures in
-    let h6 = c.in_ok-settle_rows.ensures in
-    let h7 = c.in_ok-joined.ensures in
-    let h8 = c.settle_joined.ensures in
-    let e0 = c.args.lane.now in
-    let e1 = c.resend_deletes.new.lane in
-    let e2 = c.resend_activates.new.lane in
-    let e3 = c.round_rows.new.lane in
-    let e4 = c.join_pairs.new.lane in
-    let e5 = c.split_rows.new.lane in
-    let e6 = c.settle_rows.new.lane in
-    let e7 = c.join_pairs-2.new.lane in
-    let e8 = c.settle_joined.new.lane in
-    let f0 = g.C.Carrier.given c.args.carrier.now in
-    let f1 = g.C.Carrier.given c.resend_deletes.new.carrier in
-    let f2 = g.C.Carrier.given c.resend_activates.new.carrier in
-    let f3 = g.C.Carrier.given c.round_rows.new.carrier in
-    let f4 = g.C.Carrier.given c.join_pairs.new.carrier in
-    let f5 = g.C.Carrier.given c.split_rows.new.carrier in
-    let f6 = g.C.Carrier.given c.settle_rows.new.carrier in
-    let f7 = g.C.Carrier.given c.join_pairs-2.new.carrier in
-    let f8 = g.C.Carrier.given c.settle_joined.new.carrier in
-    on_ok c.settle_joined.result (λ last.
-    pass_steps first second o e0 e2 e5 e6 e7 e8 f0 f2 f5 f8 n0 n3 n4 n5 n6 c.in_ok-joined.joined.buckets
-    (resent_steps first second o e0 e1 e2 f0 f1 f2 (record { on = h1.on; passing = h1.passing; does = h1.quiet }) (record { on = h2.on; passing = h2.passing; does = h2.quiet }))
-    (rounded_steps first second o e2 e3 e4 e5 f2 f3 f4 f5 n0 n1 n2 n3 c.in_ok-join_pairs.field-0.buckets (record { on = h3.on; passing = h3.passing; does = h3.quiet }) (record { on = h4.on; passing = h4.passing; does = h4.quiet })
-    (record { on = h5.on; passing = h5.passing; does = h5.quiet }))
-    (settled_steps first second o e5 e6 e7 e8 f5 f6 f7 f8 n3 n4 n5 n6 c.in_ok-joined.joined.buckets (record { on = h6.on; passing = h6.passing; does = h6.quiet }) (record { on = h7.on; passing = h7.passing; does = h7.quiet })
-    (record { on = h8.on; passing = h8.passing; does = last })))
-    h8.quiet
+    let i = c.loop-pass.invariant in
+    let h = c.go_on.ensures in
+    let given = g.C.Carrier.given c.args.carrier.now in
+    let now = g.C.Carrier.given c.go_on.new.carrier in
+    does_finish c.passes_end.ensures x e o given now c.go_on.new.pass (c.in_ok-go_on.ensures.ends c.if-branch.false)
+    (does_more c.quiet_spans_part.ensures.first c.quiet_spans_part.ensures.second x m e o given (g.C.Carrier.given c.loop-pass.carrier) now c.loop-pass.pass c.go_on.new.pass i.on h.on i.passing h.passing i.quiet c.in_ok-go_on.ensures.quiet)
+
+pub returns-clause-pass : goal.returns-clause-pass
+returns-clause-pass g c =
+    let x = c.args.lane.now in
+    let m = c.loop-pass.lane in
+    let e = c.go_on.new.lane in
+    let o = c.args.owner.now in
+    let given = g.C.Carrier.given c.args.carrier.now in
+    let mid = g.C.Carrier.given c.loop-pass.carrier in
+    let now = g.C.Carrier.given c.go_on.new.carrier in
+    run_over x m e o c.loop-pass.pass c.go_on.new.pass given mid now c.loop-pass.invariant.run (subst (GoesOneOn m e o c.loop-pass.pass c.go_on.new.pass mid now) c.if-branch.false c.in_ok-go_on.ensures.takes)
+    (c.in_ok-go_on.ensures.ends c.if-branch.false)

@@ -1,0 +1,21 @@
+-- Lemmas of a pass: its rows and notes, the turns so far, and each kind of step.
+pub mod Leading
+pub mod Rows
+pub mod RowPlaces
+pub mod Goings
+pub mod StandsOn
+pub mod RoundRows
+pub mod Resending
+pub mod Rounding
+pub mod ForgottenNotes
+pub mod Joining
+pub mod Splitting
+pub mod PlaceChanges
+pub mod SettleFits
+pub mod SettlingEnds
+pub mod SettledRows
+pub mod Settling
+pub mod Orders
+pub mod Beginning
+pub mod Ending
+pub mod Assembly
