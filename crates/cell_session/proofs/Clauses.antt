@@ -16,7 +16,7 @@ use Rattle.lane_journals.specs.KeptJournals.{IsLegal}
 use Rattle.lane_carriage.specs.Carriage.{IsCarried}
 use Rattle.lane_keeping.specs.LaneKeeping.{setting_of}
 use Rattle.lane_operations.specs.OperationKeeping.{IsFresh}
-use Rattle.lane_core.specs.LaneValues.{LaneValue}
+use Rattle.session_lanes.specs.LaneValues.{LaneValue}
 use Rattle.reports.specs.ReportText.{usage_text}
 use Rattle.session_settings.specs.Choices.{Chooses}
 use Rattle.session_settings.specs.Settings.{lane_count, IsSetting}

@@ -7,7 +7,7 @@ use Rattle.cluster_states.specs.Publishing.{Told, publish_fault}
 use Rattle.cluster_states.specs.declared.cluster_state.ClusterState.{ClusterState}
 use Rattle.cluster_states.specs.declared.states.PublishFault.{PublishFault}
 use Rattle.messages.specs.declared.operation.Operation.{Operation}
-use Rattle.lane_states.specs.Growing.{stopped_next, started_next}
+use Rattle.session_lanes.specs.Growing.{stopped_next, started_next}
 use Rattle.lane_journals.specs.declared.event.LaneEvent.TheVariants.{Published}
 use Rattle.session_settings.specs.declared.setting.Setting.{Setting}
 use Rattle.session_lanes.specs.Lives.{Deed, Runs, lines_of, last_line, states_in, deed_events}

@@ -19,8 +19,8 @@ use Rattle.reports.specs.declared.answer.Answer.TheVariants as answer
 use Rattle.lane_journals.specs.Buckets.{key_of}
 use Rattle.lane_journals.specs.Meanings.{history}
 use Rattle.lane_journals.specs.Readers.{held}
-use Rattle.lane_core.specs.LaneValues.{LaneValue, IsLaneValue}
-use Rattle.lane_states.specs.Growing.{last_state}
+use Rattle.session_lanes.specs.LaneValues.{LaneValue, IsLaneValue}
+use Rattle.session_lanes.specs.Growing.{last_state}
 use Rattle.session_settings.specs.declared.setting.Setting.{Setting}
 use Rattle.session_settings.specs.Settings.{lane_count}
 use Rattle.session_lanes.specs.Lives.{Deed, lines_of, last_line, newest_in}

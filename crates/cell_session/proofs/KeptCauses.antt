@@ -11,7 +11,7 @@ use Rattle.lane_journals.specs.Readers.{held}
 use Rattle.lane_journals.specs.declared.event.LaneEvent.TheVariants.{Heard}
 use Rattle.lane_carriage.specs.Carriage.{IsCarried}
 use Rattle.lane_keeping.specs.LaneKeeping.{setting_of}
-use Rattle.lane_core.specs.LaneValues.{LaneValue}
+use Rattle.session_lanes.specs.LaneValues.{LaneValue}
 use Rattle.session_settings.specs.Settings.{IsSetting}
 use Rattle.session_settings.specs.declared.setting.Setting.{Setting}
 use Rattle.session_lanes.specs.Hearings.{deaf_in, HeardNewest}

@@ -6,7 +6,7 @@ use Rattle.std.proofs.lemmas.Option.{slice_get_within}
 use Rattle.std.proofs.KnownBytes.{Appends-nil, Appends-trans}
 use Rattle.std.specs.List.{count_by}
 use Rattle.std.specs.Io.KnownBytes.{Appends, Keeps}
-use Rattle.lane_core.specs.LaneValues.{LaneValue}
+use Rattle.session_lanes.specs.LaneValues.{LaneValue}
 use Rattle.io_ends.specs.Causes.{AppendsFront}
 use Rattle.io_ends.specs.Lines.{lines_of, end_of, NoLineFeed}
 use Rattle.io_ends.specs.Reading.{Reading, StandsIn, IsLittle}

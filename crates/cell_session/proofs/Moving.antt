@@ -11,7 +11,7 @@ use Rattle.messages.specs.declared.operation.Operation.{Operation}
 use Rattle.messages.specs.declared.outcome.Outcome.{Outcome}
 use Rattle.bucket_ids.specs.Buckets.{Low}
 use Rattle.distributor_part.specs.declared.rules.Rules.{Rules}
-use Rattle.lane_core.specs.LaneValues.{LaneValue}
+use Rattle.session_lanes.specs.LaneValues.{LaneValue}
 use Rattle.session_settings.specs.declared.setting.Setting.{Setting}
 use Rattle.session_lanes.specs.Lives.{FeedLine, Deed, Announces, Stops, Starts, Runs, Maintains, IsCarriedOut, outcome_in}
 use Rattle.session_lanes.specs.Serving.{bucket_in}

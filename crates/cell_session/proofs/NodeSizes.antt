@@ -3,8 +3,8 @@ use Rattle.std.proofs.Common.{◌≡◌, ◌<◌, ◌≤◌, ◌+◌, ◌-◌, �
 use Rattle.std.proofs.Math.Seq.{take-suc}
 use Rattle.std.proofs.lemmas.List.{map-append, take_all}
 use Rattle.std.proofs.lemmas.List.Sums.{sum_by-append}
-use Rattle.lane_core.specs.LaneValues.{LaneValue}
-use Rattle.lane_states.specs.Shown.{HasEntries}
+use Rattle.session_lanes.specs.LaneValues.{LaneValue}
+use Rattle.session_lanes.specs.Shown.{HasEntries}
 use Rattle.cell_session.specs.Lanes.{Journal}
 use Rattle.cell_session.specs.Sizes.{AreSizes, HasSize}
 use Rattle.cell_session.proofs.LaneLists.{journal_is}

@@ -1,7 +1,7 @@
 -- The lanes that are made, one after the other.
 use Rattle.std.proofs.Common.{◌≡◌, ◌⊎◌, ◌<◌, ◌+◌, ℕ, zero, suc, List, [], ◌∷◌, ◌++◌, Some, inl, inr, refl, sym, ◌∙◌, subst, arith, length, length-append, slice_get}
 use Rattle.carriers.specs.declared.fate.Fate.{Fate}
-use Rattle.lane_core.specs.LaneValues.{LaneValue}
+use Rattle.session_lanes.specs.LaneValues.{LaneValue}
 use Rattle.session_settings.specs.declared.setting.Setting.{Setting}
 use Rattle.session_lanes.specs.Serving.{IsServing}
 use Rattle.cell_session.specs.Cells.{Cell}

@@ -4,7 +4,7 @@ use Rattle.carriers.specs.declared.fate.Fate.{Fate}
 use Rattle.cluster_states.specs.Publishing.{Told}
 use Rattle.messages.specs.declared.outcome.Outcome.{Outcome}
 use Rattle.messages.specs.declared.outcome.Outcome.TheVariants as outcome
-use Rattle.lane_core.specs.LaneValues.{LaneValue}
+use Rattle.session_lanes.specs.LaneValues.{LaneValue}
 use Rattle.lane_journals.specs.KeptJournals.{IsLegal}
 use Rattle.lane_keeping.specs.LaneKeeping.{setting_of}
 use Rattle.session_settings.specs.declared.setting.Setting.{Setting}

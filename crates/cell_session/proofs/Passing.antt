@@ -3,8 +3,8 @@ use Rattle.std.proofs.Common.{◌≡◌, ◌⊎◌, ◌<◌, ◌≤◌, ◌+◌,
 use Rattle.std.proofs.lemmas.Bool.{cases_lt}
 use Rattle.std.proofs.lemmas.Option.{slice_get_within}
 use Rattle.value_lists.specs.declared.no_memory.NoMemory.{NoMemory}
-use Rattle.lane_core.specs.LaneValues.{LaneValue, IsLaneValue}
-use Rattle.lane_core.specs.Upkept.{Maintains}
+use Rattle.session_lanes.specs.LaneValues.{LaneValue, IsLaneValue}
+use Rattle.session_lanes.specs.Upkept.{Maintains}
 use Rattle.session_lanes.specs.Upkeep.{MayBeUpkept, IsSpan}
 use Rattle.session_lanes.specs.declared.spans.UpkeepSpan.{UpkeepSpan}
 use Rattle.cell_session.specs.Cells.{Cell}

@@ -9,7 +9,7 @@ use Rattle.cluster_states.specs.declared.cluster_state.ClusterState.{ClusterStat
 use Rattle.cluster_states.specs.declared.states.PublishFault.{PublishFault}
 use Rattle.messages.specs.declared.operation.Operation.{Operation}
 use Rattle.messages.specs.declared.outcome.Outcome.{Outcome}
-use Rattle.lane_core.specs.LaneValues.{LaneValue, IsLaneValue}
+use Rattle.session_lanes.specs.LaneValues.{LaneValue, IsLaneValue}
 use Rattle.session_settings.specs.declared.setting.Setting.{Setting}
 use Rattle.session_lanes.specs.Lives.{Deed, Announces, Stops, Starts, Runs, Maintains, lines_of, last_line}
 use Rattle.session_lanes.specs.Serving.{IsServing}

@@ -14,8 +14,8 @@ use Rattle.lane_journals.specs.declared.event.LaneEvent.{LaneEvent}
 use Rattle.distributor_part.specs.declared.rules.Rules.{Rules}
 use Rattle.lane_keeping.specs.LaneKeeping.{setting_of}
 use Rattle.lane_rest.specs.Rest.{IsAtRest}
-use Rattle.lane_core.specs.LaneValues.{LaneValue, IsLaneValue}
-use Rattle.lane_core.specs.Upkept.{IsLaneAtRest}
+use Rattle.session_lanes.specs.LaneValues.{LaneValue, IsLaneValue}
+use Rattle.session_lanes.specs.Upkept.{IsLaneAtRest}
 use Rattle.session_settings.specs.declared.setting.Setting.{Setting}
 use Rattle.session_lanes.specs.Lives.{Deed, Announces, Stops, Starts, Maintains, IsMaintained}
 use Rattle.session_lanes.specs.Serving.{bucket_in}

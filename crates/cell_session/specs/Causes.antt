@@ -2,7 +2,7 @@
 use Rattle.std.specs.Prelude.{◌≡◌, ℕ, List, Option, Some, slice_get}
 use Rattle.doc_types.specs.SchemaCodes.{Types}
 use Rattle.messages.specs.declared.outcome.Outcome.TheVariants.{TooFew, OwnedElsewhere}
-use Rattle.lane_core.specs.LaneValues.{LaneValue}
+use Rattle.session_lanes.specs.LaneValues.{LaneValue}
 use Rattle.session_settings.specs.declared.setting.Setting.{Setting}
 use Rattle.session_lanes.specs.Lives.{lines_of, outcome_in}
 use Rattle.session_lanes.specs.Promises.{WasRefused, FellShort}

@@ -4,7 +4,7 @@ use Rattle.std.specs.Coded.{Coded, code_by, coded×, coded_ℕ, coded_list}
 use Rattle.cluster_states.specs.Publishing.{Told}
 use Rattle.cluster_states.specs.declared.cluster_state.ClusterState.{ClusterState}
 use Rattle.cluster_states.specs.contracts.cluster_state.ClusterState as states
-use Rattle.lane_core.specs.LaneValues.{LaneValue, lane_code}
+use Rattle.session_lanes.specs.LaneValues.{LaneValue, lane_code}
 use Rattle.lane_journals.specs.declared.event.LaneEvent.{LaneEvent}
 use Rattle.cell_session.specs.declared.spans.LineSpans.{LineSpans}
 use Rattle.cell_session.specs.contracts.spans.LineSpans as line_spans

@@ -1,7 +1,7 @@
 -- What holds of the lanes between two lines.
 use Rattle.std.specs.Prelude.{◌≡◌, ◌<◌, ℕ, ◌+◌, List, [], length, None, Some, slice_get}
 use Rattle.carriers.specs.declared.fate.Fate.{Fate}
-use Rattle.lane_core.specs.LaneValues.{LaneValue}
+use Rattle.session_lanes.specs.LaneValues.{LaneValue}
 use Rattle.session_settings.specs.Settings.{lane_count, IsSetting}
 use Rattle.session_settings.specs.declared.setting.Setting.{Setting}
 use Rattle.session_lanes.specs.Serving.{IsServing}

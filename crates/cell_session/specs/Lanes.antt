@@ -5,7 +5,7 @@ use Rattle.lane_journals.specs.Readers.{began, closed, before_line}
 use Rattle.lane_journals.specs.Meanings.{history}
 use Rattle.lane_journals.specs.KeptJournals.{IsLegal}
 use Rattle.lane_journals.specs.declared.event.LaneEvent.{LaneEvent}
-use Rattle.lane_core.specs.LaneValues.{LaneValue}
+use Rattle.session_lanes.specs.LaneValues.{LaneValue}
 use Rattle.lane_keeping.specs.LaneKeeping.{setting_of}
 use Rattle.session_settings.specs.declared.setting.Setting.{Setting}
 use Rattle.session_lanes.specs.Lives.{told_events}

@@ -5,7 +5,7 @@ use Rattle.carriers.specs.declared.fate.Fate.{Fate}
 use Rattle.doc_types.specs.SchemaCodes.{Types}
 use Rattle.lane_journals.specs.Meanings.{history}
 use Rattle.lane_carriage.specs.Carriage.{IsCarried}
-use Rattle.lane_core.specs.LaneValues.{LaneValue}
+use Rattle.session_lanes.specs.LaneValues.{LaneValue}
 use Rattle.lane_operations.specs.OperationKeeping.{IsFresh}
 use Rattle.session_settings.specs.declared.setting.Setting.{Setting}
 use Rattle.session_lanes.specs.Lives as life

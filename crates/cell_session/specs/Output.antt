@@ -9,7 +9,7 @@ use Rattle.documents.specs.Fields.{Contents}
 use Rattle.entry_maps.specs.declared.entry.Entry.{Entry}
 use Rattle.cell_session.specs.declared.asked.Asked.{Asked}
 use Rattle.cell_session.specs.declared.asked.Asked.TheVariants as command
-use Rattle.lane_core.specs.LaneValues.{LaneValue}
+use Rattle.session_lanes.specs.LaneValues.{LaneValue}
 use Rattle.lane_journals.specs.Meanings.{entry_at}
 use Rattle.session_settings.specs.declared.setting.Setting.{Setting}
 use Rattle.session_lanes.specs.Lives.{outcome_in}

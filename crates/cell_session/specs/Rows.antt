@@ -7,8 +7,8 @@ use Rattle.cluster_states.specs.declared.cluster_state.ClusterState.{ClusterStat
 use Rattle.cluster_states.specs.declared.marks.Mark.TheVariants.{Down}
 use Rattle.global_ids.specs.Keys.{lane_bucket}
 use Rattle.ideal_nodes.specs.Placement.{IsOwner}
-use Rattle.lane_core.specs.LaneValues.{LaneValue}
-use Rattle.lane_states.specs.Shown.{HasRows}
+use Rattle.session_lanes.specs.LaneValues.{LaneValue}
+use Rattle.session_lanes.specs.Shown.{HasRows}
 use Rattle.lane_journals.specs.Meanings.{history}
 use Rattle.lane_journals.specs.Readers.{held}
 

@@ -1,6 +1,6 @@
 -- How many entries a node's stores hold.
 use Rattle.std.specs.Prelude.{◌≡◌, ℕ, ◌-◌, ◌^◌, List, [], ◌∷◌, min, sum_by}
-use Rattle.lane_states.specs.Shown.{HasEntries}
+use Rattle.session_lanes.specs.Shown.{HasEntries}
 use Rattle.cell_session.specs.Lanes.{Journal}
 
 -- each number is how many entries the node holds in a lane

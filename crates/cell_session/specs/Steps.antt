@@ -13,9 +13,9 @@ use Rattle.lane_journals.specs.Meanings.{history}
 use Rattle.lane_journals.specs.Places.{told}
 use Rattle.lane_journals.specs.Readers.{held}
 use Rattle.lane_keeping.specs.LaneKeeping.{setting_of}
-use Rattle.lane_states.specs.Growing.{announced, stopped_next, started_next, last_state}
-use Rattle.lane_core.specs.LaneValues.{LaneValue, IsLaneValue}
-use Rattle.lane_core.specs.Upkept.{Maintains}
+use Rattle.session_lanes.specs.Growing.{announced, stopped_next, started_next, last_state}
+use Rattle.session_lanes.specs.LaneValues.{LaneValue, IsLaneValue}
+use Rattle.session_lanes.specs.Upkept.{Maintains}
 use Rattle.lane_operations.specs.OperationKeeping.{IsFresh}
 use Rattle.session_settings.specs.declared.setting.Setting.{Setting}
 use Rattle.session_lanes.specs.Runs.{IsLineRun}

@@ -1,7 +1,7 @@
 -- What became of the lines that asked for upkeep.
 use Rattle.std.specs.Prelude.{◌≡◌, ◌<◌, ◌≤◌, ◌⊎◌, ℕ, suc, List, length, take, Option, None, Some, IsSome, slice_get}
 use Rattle.doc_types.specs.SchemaCodes.{Types}
-use Rattle.lane_core.specs.LaneValues.{LaneValue}
+use Rattle.session_lanes.specs.LaneValues.{LaneValue}
 use Rattle.session_settings.specs.Settings.{lane_count}
 use Rattle.session_settings.specs.declared.setting.Setting.{Setting}
 use Rattle.session_lanes.specs.Serving.{bucket_in}

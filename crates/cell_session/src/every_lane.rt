@@ -2,14 +2,13 @@
 //! or start, which takes none; and they make upkeep.
 
 ghost use Rattle.std.specs.Prelude.{◌≡◌, ◌<◌, [], map, OnOk, OnErr};
-ghost use Rattle.lane_core.specs.LaneValues.{LaneValue, IsLaneValue};
+ghost use Rattle.session_lanes.specs.LaneValues.{LaneValue, IsLaneValue};
 ghost use Rattle.cell_session.specs.Steps.{with_room, without_room, after_state, after_stop, after_start, EachLane, IsRoomy, MayAnnounce, MayMaintain, MayHaveAllPassed, AreSpans};
 
 use carriers::Carrier;
 use cluster_states::ClusterState;
-use lane_core::Lane;
 use node_sets::NodeSet;
-use session_lanes::{UpkeepSpan, announce, maintain, start, stop};
+use session_lanes::{Lane, UpkeepSpan, announce, maintain, start, stop};
 use value_lists::NoMemory;
 
 /// Makes room in each lane for a state, a stop or a start. The only error is want of memory, and then there is room in

@@ -5,8 +5,7 @@ ghost use Rattle.cell_session.specs.Keeping.{AreOpen, IsKept};
 
 use crate::cluster::Cluster;
 use carriers::Carriers;
-use lane_core::Lane;
-use session_lanes::open_lane;
+use session_lanes::{Lane, open_lane};
 use session_settings::Setting;
 use std::alloc::Global;
 use value_lists::NoMemory;

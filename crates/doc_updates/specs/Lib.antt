@@ -2,3 +2,5 @@
 pub mod Words
 pub mod Effects
 pub mod Updates
+-- Passed on, so that the crates above need not list those below.
+pub use Rattle.documents.specs.Fields

@@ -18,5 +18,6 @@ pub mod update;
 mod words;
 
 pub use change::Change;
+pub use documents::Document;
 pub use fault::UpdateFault;
 pub use update::Update;

@@ -5,3 +5,5 @@ pub mod Json
 pub mod Faults
 pub mod Fitting
 pub mod Places
+-- Passed on, so that the crates above need not list those below.
+pub use Rattle.document_ids.specs.Parts

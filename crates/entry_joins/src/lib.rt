@@ -10,4 +10,5 @@
 
 pub mod joins;
 
+pub use entry_maps::{Entry, EntryMap, SharedEntry};
 pub use joins::{join, joins_are_by_document};

@@ -10,3 +10,6 @@ pub mod Merging
 pub mod Runs
 pub mod Stamps
 pub mod Kept
+-- Passed on, so that the crates above need not list those below.
+pub use Rattle.global_ids.proofs.KeyLaws
+pub use Rattle.global_ids.specs.Keys

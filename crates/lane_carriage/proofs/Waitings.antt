@@ -5,9 +5,9 @@ use Rattle.std.proofs.lemmas.Bool.Decides.{nat_tests}
 use Rattle.std.proofs.lemmas.List.{append-nil}
 use Rattle.carriers.specs.declared.fate.Fate.{Fate}
 use Rattle.carriers.specs.declared.fate.Fate.TheVariants as fate
-use Rattle.messages.specs.declared.message.Message.{Message}
-use Rattle.messages.specs.declared.noted.NotedBody.{NotedBody}
-use Rattle.messages.specs.declared.noted.NotedReply.{NotedReply}
+use Rattle.late_messages.specs.Message.{Message}
+use Rattle.late_messages.specs.NotedBody.{NotedBody}
+use Rattle.late_messages.specs.NotedReply.{NotedReply}
 use Rattle.lane_journals.specs.Readers.{stopped}
 use Rattle.lane_journals.specs.Meanings.{history}
 use Rattle.lane_journals.specs.declared.event.LaneEvent.{LaneEvent}

@@ -1,8 +1,8 @@
 -- Wrong journals, each beside the right one.
 use Rattle.std.proofs.Common.{◌≡◌, [], ◌∷◌, true, false, refl}
 use Rattle.carriers.specs.declared.fate.Fate.TheVariants as fate
-use Rattle.messages.specs.declared.noted.NotedBody.TheVariants as body
-use Rattle.messages.specs.declared.noted.NotedReply.TheVariants as reply
+use Rattle.late_messages.specs.NotedBody.TheVariants as body
+use Rattle.late_messages.specs.NotedReply.TheVariants as reply
 use Rattle.lane_journals.specs.declared.event.LaneEvent.TheVariants.{Returned, Stopped, Started}
 use Rattle.lane_carriage.specs.Carriage.{Nothing, Other, Message}
 use Rattle.lane_carriage.specs.WrongCarriage.{IsRefused, ask, reply_to, in_time, early, once, twice, numbered, skipped, unanswered, answered, cut_off, reaching_stopped, late_cut_off, late_reaching_stopped, started_again, lost_at_started, late_started_again, late_lost_at_started}

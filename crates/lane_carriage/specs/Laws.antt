@@ -1,7 +1,7 @@
 -- What the laws say.
 use Rattle.std.specs.Prelude.{ℕ, ◌+◌, List}
 use Rattle.carriers.specs.declared.fate.Fate.{Fate}
-use Rattle.messages.specs.declared.message.Message.{Message}
+use Rattle.late_messages.specs.Message.{Message}
 use Rattle.lane_journals.specs.declared.event.LaneEvent.{LaneEvent}
 use Rattle.late_messages.specs.declared.late.Late.{Late}
 use Rattle.late_messages.specs.Waiting.{NoneIsDue}

@@ -1,8 +1,8 @@
 -- Journals in which a message has another fate than it was given: beside each stands the right one.
 use Rattle.std.specs.Prelude.{ℕ, List, [], ◌∷◌}
 use Rattle.carriers.specs.declared.fate.Fate.{Fate}
-use Rattle.messages.specs.declared.noted.NotedBody.TheVariants as body
-use Rattle.messages.specs.declared.noted.NotedReply.TheVariants as reply
+use Rattle.late_messages.specs.NotedBody.TheVariants as body
+use Rattle.late_messages.specs.NotedReply.TheVariants as reply
 use Rattle.lane_journals.specs.declared.event.LaneEvent.{LaneEvent}
 use Rattle.lane_journals.specs.declared.event.LaneEvent.TheVariants.{Sent, Delivered, Returned, Stopped, Started}
 use Rattle.lane_carriage.specs.Carriage.{IsCarried}

@@ -4,8 +4,8 @@ ghost use Rattle.std.specs.Prelude.{◌≡◌, ◌<◌, ◌≤◌, ◌+◌, ◌+
 ghost use Rattle.std.specs.List.Sorted.{IsStrictlyIncreasing};
 ghost use Rattle.carriers.specs.declared.fate.Fate.{Fate};
 ghost use Rattle.carriers.specs.declared.fate.Fate.TheVariants as fate;
-ghost use Rattle.messages.specs.declared.noted.NotedReply.{NotedReply};
-ghost use Rattle.messages.specs.declared.noted.NotedBody.{NotedBody};
+ghost use Rattle.late_messages.specs.NotedReply.{NotedReply};
+ghost use Rattle.late_messages.specs.NotedBody.{NotedBody};
 ghost use Rattle.lane_journals.specs.Readers.{sent, stopped, first_reply, returned};
 ghost use Rattle.lane_journals.specs.Meanings.{history};
 ghost use Rattle.lane_journals.specs.declared.event.LaneEvent.{LaneEvent};

@@ -22,10 +22,10 @@ use Rattle.lane_journals.specs.Places.{state_in}
 use Rattle.lane_journals.specs.Buckets.{key_of}
 use Rattle.lane_journals.specs.declared.event.LaneEvent.{LaneEvent}
 use Rattle.lane_journals.specs.declared.event.LaneEvent.TheVariants as event
-use Rattle.node_journals.specs.Replaying.{sending}
-use Rattle.lane_keeping.specs.Acting.{IsActing}
-use Rattle.lane_rounds.specs.RoundKeeping.{KnowsRound}
-use Rattle.lane_operations.specs.OperationKeeping.{beginning_of, IsUnderWay}
+use Rattle.lane_wants.specs.Replaying.{sending}
+use Rattle.lane_wants.specs.Acting.{IsActing}
+use Rattle.lane_wants.specs.RoundKeeping.{KnowsRound}
+use Rattle.lane_wants.specs.OperationKeeping.{beginning_of, IsUnderWay}
 use Rattle.lane_wants.specs.Wants.{Adds, Wants, OpeningGives, RoundGives, BodyGives, NextGives, UnpreparedWants}
 
 -- the round ends for the owner under the state of the line, once nothing is left to send

@@ -16,9 +16,9 @@ use Rattle.lane_journals.specs.Buckets.{key_of}
 use Rattle.lane_journals.specs.Readers.{Journal, Beginning, prepared}
 use Rattle.lane_journals.specs.Meanings.{history}
 use Rattle.lane_journals.specs.declared.event.LaneEvent.{LaneEvent}
-use Rattle.lane_keeping.specs.LaneKeeping.{setting_of}
-use Rattle.lane_keeping.specs.Acting.{IsActing}
-use Rattle.lane_operations.specs.OperationKeeping.{beginning_of}
+use Rattle.lane_wants.specs.LaneKeeping.{setting_of}
+use Rattle.lane_wants.specs.Acting.{IsActing}
+use Rattle.lane_wants.specs.OperationKeeping.{beginning_of}
 use Rattle.lane_wants.specs.Wants.{Adds, Ends, RoundGives, UnpreparedWants}
 use Rattle.lane_completeness.specs.Completeness.{AreRules, with_begun, IsUndisturbedLine, WantedMemory, IsDecided, EndsWell}
 use Rattle.lane_completeness.specs.Causes.{IsMissing, IsRunLine}

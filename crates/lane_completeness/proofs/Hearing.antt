@@ -12,7 +12,7 @@ use Rattle.lane_journals.specs.States.{state_of}
 use Rattle.lane_journals.specs.Meanings.{history}
 use Rattle.lane_journals.specs.declared.event.LaneEvent.{LaneEvent}
 use Rattle.lane_journals.proofs.Basics.{or_else-some, sent_before, first_reply-stays, replied-sent, returned-cases, returned-replied}
-use Rattle.lane_operations.specs.OperationKeeping.{WasShort}
+use Rattle.lane_wants.specs.OperationKeeping.{WasShort}
 use Rattle.lane_completeness.specs.Completeness.{HaveReturned, WantedMemory}
 use Rattle.lane_completeness.specs.Causes.{IsUnheard, IsOfPhase, IsMissing}
 use Rattle.lane_completeness.proofs.Replies.{IsNewest, IsHeard, IsFenced, IsOwed, known-owed, not-fenced}

@@ -29,9 +29,9 @@ use Rattle.lane_journals.specs.States.{state_of}
 use Rattle.lane_journals.specs.Meanings.{history}
 use Rattle.lane_journals.specs.Places.{state_in}
 use Rattle.lane_journals.specs.declared.event.LaneEvent.{LaneEvent}
-use Rattle.lane_keeping.specs.LaneKeeping.{KnowsOpening, Holds, PartKeeps}
-use Rattle.lane_operations.specs.OperationKeeping.{WasShort}
-use Rattle.lane_operations.proofs.Counting.{not_answered}
+use Rattle.lane_wants.specs.LaneKeeping.{KnowsOpening, Holds, PartKeeps}
+use Rattle.lane_wants.specs.OperationKeeping.{WasShort}
+use Rattle.lane_wants.specs.Counting.{not_answered}
 use Rattle.lane_wants.specs.Wants.{Ends, EndsUnless, WasAskedIn, is_ask, OpeningGives, OpeningWants}
 use Rattle.lane_completeness.specs.Completeness.{WantedMemory}
 use Rattle.lane_completeness.specs.Causes.{OfOpening, IsMissing}

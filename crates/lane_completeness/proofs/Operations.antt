@@ -32,12 +32,12 @@ use Rattle.lane_journals.specs.States.{state_of}
 use Rattle.lane_journals.specs.Meanings.{history}
 use Rattle.lane_journals.specs.KeptJournals.{IsLegal}
 use Rattle.lane_journals.specs.declared.event.LaneEvent.{LaneEvent}
-use Rattle.lane_keeping.specs.LaneKeeping.{setting_of}
-use Rattle.lane_operations.specs.OperationKeeping.{beginning_of, WasRead, WasShort, IsReadOf, IsStoreOf}
-use Rattle.lane_operations.proofs.Counting.{few-count, absent-lacks, active-absent, lacks-parts}
-use Rattle.lane_operations.proofs.Judged.{NextEnd, ByReads, ByStores, next-end, due-by, verdict-writes, ends-looks}
-use Rattle.lane_operations.proofs.Messages.{own-wrote}
-use Rattle.lane_operations.proofs.Ending.{unwritten-yet}
+use Rattle.lane_wants.specs.LaneKeeping.{setting_of}
+use Rattle.lane_wants.specs.OperationKeeping.{beginning_of, WasRead, WasShort, IsReadOf, IsStoreOf}
+use Rattle.lane_wants.specs.Counting.{few-count, absent-lacks, active-absent, lacks-parts}
+use Rattle.lane_wants.specs.Judged.{NextEnd, ByReads, ByStores, next-end, due-by, verdict-writes, ends-looks}
+use Rattle.lane_wants.specs.Messages.{own-wrote}
+use Rattle.lane_wants.specs.Ending.{unwritten-yet}
 use Rattle.lane_wants.specs.Wants.{Ends, NextGives, OperationWants}
 use Rattle.lane_completeness.specs.Causes.{OfLooking, OfStoring, IsMissing}
 use Rattle.lane_completeness.proofs.Runs.{At}

@@ -17,7 +17,7 @@ use Rattle.lane_journals.specs.KeptJournals.{IsLegal, IsLegalStep}
 use Rattle.lane_journals.specs.declared.event.LaneEvent.{LaneEvent}
 use Rattle.lane_journals.specs.declared.event.LaneEvent.TheVariants as event
 use Rattle.lane_journals.proofs.Basics.{or_else-cases, only_if-some}
-use Rattle.lane_keeping.specs.LaneKeeping.{setting_of}
+use Rattle.lane_wants.specs.LaneKeeping.{setting_of}
 use Rattle.lane_completeness.specs.Completeness.{AreRules}
 use Rattle.lane_completeness.proofs.Sizes.{within-size, ranked-size}
 use Rattle.lane_completeness.proofs.Ideal.{ranked-take, ideal-of}

@@ -17,7 +17,7 @@ use Rattle.lane_journals.specs.declared.event.LaneEvent.TheVariants as event
 use Rattle.lane_journals.proofs.Basics.{sent-stays, sent-cases, began-stays, rounds-grow}
 use Rattle.lane_journals.proofs.Beginnings.{before-now, before-same}
 use Rattle.lane_journals.proofs.Meant.{meant-legal}
-use Rattle.lane_keeping.specs.LaneKeeping.{setting_of}
+use Rattle.lane_wants.specs.LaneKeeping.{setting_of}
 use Rattle.lane_wants.specs.Wants.{IsCarriage, IsRun, Same, More, IsWanted}
 use Rattle.lane_completeness.specs.Completeness.{with_begun}
 use Rattle.lane_completeness.proofs.Replies.{IsNewest}

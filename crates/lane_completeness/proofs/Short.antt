@@ -23,8 +23,8 @@ use Rattle.lane_journals.specs.Places.{state_in, receivers_of}
 use Rattle.lane_journals.specs.KeptJournals.{IsLegal}
 use Rattle.lane_journals.specs.declared.event.LaneEvent.{LaneEvent}
 use Rattle.lane_journals.proofs.Meant.{state-serves}
-use Rattle.lane_keeping.specs.LaneKeeping.{setting_of}
-use Rattle.lane_operations.specs.OperationKeeping.{WasShort}
+use Rattle.lane_wants.specs.LaneKeeping.{setting_of}
+use Rattle.lane_wants.specs.OperationKeeping.{WasShort}
 use Rattle.lane_wants.specs.Wants.{Ends, is_round_read, is_round_apply, ShortWants}
 use Rattle.lane_completeness.specs.Completeness.{AreRules}
 use Rattle.lane_completeness.specs.Causes.{IsOfRound, IsOfPhase, OfReading, OfUnion, IsMissing}

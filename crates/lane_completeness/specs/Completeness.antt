@@ -14,8 +14,8 @@ use Rattle.lane_journals.specs.KeptJournals.{IsLegal}
 use Rattle.lane_journals.specs.declared.event.LaneEvent.{LaneEvent}
 use Rattle.lane_journals.specs.declared.event.LaneEvent.TheVariants.{Begun, Stopped, Started}
 use Rattle.lane_carriage.specs.Readers.{receives, fate_of, is_returned}
-use Rattle.lane_keeping.specs.LaneKeeping.{setting_of}
-use Rattle.lane_operations.specs.OperationKeeping.{WasShort}
+use Rattle.lane_wants.specs.LaneKeeping.{setting_of}
+use Rattle.lane_wants.specs.OperationKeeping.{WasShort}
 use Rattle.lane_wants.specs.Wants.{IsCarriage, IsRun, IsEnd}
 
 -- ---- no message is lost

@@ -18,7 +18,7 @@ ghost use Rattle.lane_journals.specs.KeptJournals.{IsLegal};
 ghost use Rattle.lane_journals.specs.declared.event.LaneEvent.{LaneEvent};
 ghost use Rattle.lane_carriage.specs.Carriage.{IsCarried};
 ghost use Rattle.lane_carriage.specs.Readers.{receives};
-ghost use Rattle.lane_keeping.specs.LaneKeeping.{setting_of};
+ghost use Rattle.lane_wants.specs.LaneKeeping.{setting_of};
 ghost use Rattle.lane_completeness.specs.Completeness.{AreAnswered, RunSince, NoneStops, IsUndisturbed, AreRules, IsUndisturbedLine, IsDecided, EndsWell};
 ghost use Rattle.lane_completeness.specs.Causes.{IsMissing, IsLost, ReturnInTurn, IsRunLine};
 

@@ -16,7 +16,7 @@ use Rattle.lane_durability.specs.Laws.{ActiveIsComplete}
 use Rattle.lane_keeping.specs.Acting.{IsKnownRow}
 use Rattle.lane_operations.specs.OperationKeeping.{IsUnderWay, KnowsPreparing, KnowsOperation}
 use Rattle.lane_operations.specs.Left.{messages_left}
-use Rattle.lane_wants.specs.Wants.{Wants, Adds}
+use Rattle.lane_states.specs.Wants.{Wants, Adds}
 use Rattle.lane_core.specs.declared.job.Job.{Job}
 use Rattle.lane_core.specs.declared.job.Phase.TheVariants as phase
 use Rattle.lane_states.specs.declared.lane_state.LaneState.{LaneState}

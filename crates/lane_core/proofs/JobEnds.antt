@@ -16,7 +16,7 @@ use Rattle.lane_states.specs.Closing.{MayEndWith}
 use Rattle.lane_core.specs.declared.job.Job.{Job}
 use Rattle.lane_core.specs.declared.job.Phase.{Phase}
 use Rattle.lane_core.specs.declared.job.Phase.TheVariants.{Begun, Prepared, Over, Short}
-use Rattle.lane_wants.specs.Wants.{IsEnd}
+use Rattle.lane_states.specs.Wants.{IsEnd}
 use Rattle.lane_core.specs.LaneValues.{EndsAs}
 use Rattle.lane_core.specs.Works.{progress_of, IsJob, PhaseKeeps, PhaseEnds, MayMark, IsEndedBy}
 use Rattle.lane_core.proofs.Working.{same-key}

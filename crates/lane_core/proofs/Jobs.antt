@@ -26,7 +26,7 @@ use Rattle.lane_keeping.specs.Acting.{IsActing}
 use Rattle.lane_operations.specs.OperationKeeping.{IsUnderWay, KnowsOperation}
 use Rattle.lane_operations.specs.Laws.{OfOperation, IsAckedAs}
 use Rattle.lane_operations.specs.Left.{messages_left}
-use Rattle.lane_wants.specs.Wants.{Ends, IsRun, IsEnd, NextGives}
+use Rattle.lane_states.specs.Wants.{Ends, IsRun, IsEnd, NextGives}
 use Rattle.lane_states.specs.declared.lane_state.LaneState.{LaneState}
 use Rattle.lane_core.specs.declared.job.Job.{Job}
 use Rattle.lane_core.specs.declared.job.Phase.{Phase}

@@ -22,7 +22,7 @@ use Rattle.lane_core.specs.declared.work.Work.{Work}
 use Rattle.lane_core.specs.Works.{value_of, under_way_in}
 use Rattle.lane_core.specs.Upkeeping.{MaintainsBy, MayMaintain, OpensBy, RestsBy}
 use Rattle.lane_core.specs.Upkept.{Maintains, IsHeldBy, HasOpened, IsLaneAtRest, IsUpkept}
-use Rattle.quiet_spans.specs.Quiet.{IsQuiet}
+use Rattle.lane_upkeep.specs.QuietSpansQuiet.{IsQuiet}
 
 -- ---- the answer
 

@@ -17,7 +17,7 @@ use Rattle.lane_journals.specs.declared.event.LaneEvent.TheVariants as event
 use Rattle.lane_keeping.specs.LaneKeeping.{part_in, setting_of}
 use Rattle.lane_carriage.specs.Readers.{fate_of}
 use Rattle.lane_rest.specs.Rest.{IsAtRest}
-use Rattle.quiet_spans.specs.Quiet.{IsQuiet}
+use Rattle.lane_upkeep.specs.QuietSpansQuiet.{IsQuiet}
 use Rattle.lane_operations.specs.OperationKeeping.{AllClosed}
 use Rattle.lane_states.specs.declared.lane_state.LaneState.{LaneState}
 use Rattle.lane_states.specs.Growing.{is_older, heard_next, last_state}

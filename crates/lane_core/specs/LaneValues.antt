@@ -35,7 +35,7 @@ use Rattle.lane_core.specs.declared.answers.Begin.{Begin}
 use Rattle.lane_core.specs.declared.answers.Begin.TheVariants as begin
 use Rattle.lane_core.specs.declared.answers.Advance.{Advance}
 use Rattle.lane_core.specs.declared.answers.Advance.TheVariants as advance
-use Rattle.lane_wants.specs.Wants.{IsRun, IsCutRun, IsEnd}
+use Rattle.lane_states.specs.Wants.{IsRun, IsCutRun, IsEnd}
 
 pub record LaneValue : Type 0 where
   pub lane : Low

@@ -10,3 +10,6 @@ pub mod Searching
 pub mod Upkept
 pub mod Upkeeping
 pub mod Undisturbed
+-- Passed on, so that the crates above need not list those below.
+pub use Rattle.lane_states.specs.Growing
+pub use Rattle.lane_states.specs.Shown

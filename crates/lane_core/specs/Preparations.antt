@@ -12,7 +12,7 @@ use Rattle.lane_keeping.specs.LaneKeeping.{setting_of}
 use Rattle.messages.specs.declared.outcome.Outcome.{Outcome}
 use Rattle.lane_journals.specs.declared.event.LaneEvent.TheVariants.{Prepared, Closed}
 use Rattle.lane_keeping.specs.Acting.{IsActing, IsKnownRow}
-use Rattle.lane_wants.specs.Wants.{Wants, Adds, IsEnd}
+use Rattle.lane_states.specs.Wants.{Wants, Adds, IsEnd}
 use Rattle.lane_core.specs.declared.job.Job.{Job}
 use Rattle.lane_core.specs.declared.job.Phase.{Phase}
 use Rattle.lane_core.specs.declared.job.Progress.TheVariants.{Runs, Over}

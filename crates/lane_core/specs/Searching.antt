@@ -2,7 +2,7 @@
 use Rattle.std.specs.Prelude.{◌≤◌, ◌-◌, Bool, true, false, List, Option, None, Some}
 use Rattle.carriers.specs.declared.fate.Fate.{Fate}
 use Rattle.messages.specs.declared.outcome.Outcome.{Outcome}
-use Rattle.lane_wants.specs.Wants.{IsEnd}
+use Rattle.lane_states.specs.Wants.{IsEnd}
 use Rattle.lane_core.specs.declared.answers.Advance.{Advance}
 use Rattle.lane_core.specs.declared.job.Job.{Job}
 use Rattle.lane_core.specs.declared.job.Phase.{Phase}

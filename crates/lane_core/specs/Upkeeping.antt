@@ -6,7 +6,7 @@ use Rattle.lane_journals.specs.Meanings.{history}
 use Rattle.lane_keeping.specs.LaneKeeping.{setting_of}
 use Rattle.lane_states.specs.LaneStates.{journal_of}
 use Rattle.lane_rest.specs.Rest.{IsAtRest}
-use Rattle.quiet_spans.specs.Quiet.{IsQuiet}
+use Rattle.lane_upkeep.specs.QuietSpansQuiet.{IsQuiet}
 use Rattle.upkeep_answers.specs.Spans.{later}
 use Rattle.upkeep_answers.specs.Causes.{first_absent}
 use Rattle.lane_core.specs.declared.work.Work.{Work}

@@ -39,7 +39,7 @@ use Rattle.lane_core.specs.declared.work.Work.{Work}
 use Rattle.lane_states.specs.LaneStates.{journal_of, IsKept, HasRoom, AreResting, IsSetUp}
 use Rattle.stamp_places.specs.Places.{place_of}
 use Rattle.lane_states.specs.Written.{FindsEntries}
-use Rattle.lane_wants.specs.Wants.{Stands, IsEnd, WasAskedIn}
+use Rattle.lane_states.specs.Wants.{Stands, IsEnd, WasAskedIn}
 use Rattle.lane_core.specs.LaneValues.{LaneValue, drawn, under_way_of}
 use Rattle.lane_states.specs.Growing.{last_state}
 

@@ -1,9 +1,9 @@
 -- Documents whose number is even lie in the lane of even keys.
 use Rattle.std.proofs.Common.{◌≡◌, ℕ, ◌%◌, ◌^◌, Option, Some, true, refl, sym, ap, ◌∙◌, arith, eq-eqb}
 use Rattle.document_ids.specs.Parts.{number_of, group_of}
-use Rattle.global_ids.specs.Keys.{location_by, location_of}
-use Rattle.global_ids.specs.Keys as keys
-use Rattle.global_ids.proofs.KeyLaws.{key_locates}
+use Rattle.messages.specs.Keys.{location_by, location_of}
+use Rattle.messages.specs.Keys as keys
+use Rattle.messages.specs.KeyLaws.{key_locates}
 use Rattle.lane_journals.specs.Buckets.{Id, contains, key_of}
 use Rattle.lane_journals.specs.Lives.{lane}
 use Rattle.lane_journals.proofs.BucketLaws.{low_of_low}

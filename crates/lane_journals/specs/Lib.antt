@@ -22,3 +22,11 @@ pub mod Endings
 pub mod KeptJournals
 pub mod Lives
 pub mod WrongSteps
+-- Passed on, so that the crates above need not list those below.
+pub use Rattle.messages.specs.Entry
+pub use Rattle.messages.specs.declared.body.Body
+pub use Rattle.messages.specs.declared.decision.Decision
+pub use Rattle.messages.specs.declared.noted.NotedBody
+pub use Rattle.messages.specs.declared.noted.NotedReply
+pub use Rattle.messages.specs.declared.outcome.Outcome
+pub use Rattle.messages.specs.declared.reply.Reply

@@ -1,8 +1,7 @@
 use bucket_ids::Bucket;
 use cluster_states::ClusterState;
 use document_ids::DocId;
-use entry_maps::SharedEntry;
-use messages::{BucketList, Decision, NotedBody, NotedReply, Outcome};
+use messages::{BucketList, Decision, NotedBody, NotedReply, Outcome, SharedEntry};
 use node_sets::NodeSet;
 use stamps::Stamp;
 

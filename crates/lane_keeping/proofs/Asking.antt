@@ -7,16 +7,16 @@ use Rattle.cluster_states.specs.declared.cluster_state.ClusterState.{ClusterStat
 use Rattle.ideal_nodes.specs.Placement.{IsOwner}
 use Rattle.pieces.specs.declared.piece.Piece.{Piece}
 use Rattle.laid_pieces.specs.Runs.{IsLaid}
-use Rattle.replica_store.specs.Replicas.{IsReplica}
+use Rattle.node_journals.specs.Replicas.{IsReplica}
 use Rattle.messages.specs.declared.message.Message.{Message}
 use Rattle.messages.specs.declared.body.Body.{Body}
 use Rattle.messages.specs.declared.body.Body.TheVariants as body
 use Rattle.messages.specs.declared.reply.Reply.{Reply}
 use Rattle.messages.specs.declared.reply.Reply.TheVariants as reply
 use Rattle.messages.specs.Noting.{noted_reply}
-use Rattle.entry_maps.specs.Stamps.{stamps_of}
-use Rattle.service_layer.specs.Nodes.{Node, new_node, adopt, stored, after_body}
-use Rattle.service_layer.specs.Takes.{Takes, Treats}
+use Rattle.messages.specs.Stamps.{stamps_of}
+use Rattle.node_journals.specs.Nodes.{Node, new_node, adopt, stored, after_body}
+use Rattle.node_journals.specs.Takes.{Takes, Treats}
 use Rattle.distributor_part.specs.declared.rules.Rules.{Rules}
 use Rattle.distributor_part.specs.declared.stage.Stage.{Stage}
 use Rattle.node_sets.specs.Members.{has_node}

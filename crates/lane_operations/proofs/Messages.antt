@@ -9,9 +9,9 @@ use Rattle.lane_journals.specs.Facts.{ReadAt, ReadBack}
 use Rattle.lane_journals.specs.Legal.{Belongs, Carries, MayCarry, MaySend, Legal}
 use Rattle.lane_journals.proofs.Basics.{sent-stays, sent-cases, sent_before, sent-member, first_reply-stays, replied-sent, returned-stays, returned-cases, returned-replied, began-cases, began-stays, prepared-stays, closed-before}
 use Rattle.lane_journals.proofs.Beginnings.{before-same, before-now}
-use Rattle.lane_durability.proofs.Marks.{complete-took}
-use Rattle.lane_durability.proofs.Kept.{stamp-line}
-use Rattle.lane_durability.proofs.Bases.{one-open}
+use Rattle.node_journals.specs.Marks.{complete-took}
+use Rattle.node_journals.specs.Kept.{stamp-line}
+use Rattle.node_journals.specs.Bases.{one-open}
 use Rattle.lane_operations.specs.OperationKeeping.{CameBack, WasShort}
 use Rattle.lane_operations.proofs.Plain.{none-some}
 

@@ -3,3 +3,7 @@
 pub mod OperationKeeping
 pub mod Laws
 pub mod Left
+-- Passed on, so that the crates above need not list those below.
+pub use Rattle.lane_keeping.specs.Acting
+pub use Rattle.lane_keeping.specs.LaneKeeping
+pub use Rattle.node_journals.specs.Replaying

@@ -4,7 +4,7 @@ use Rattle.std.specs.List.{list_any}
 use Rattle.bucket_ids.specs.Buckets.{Low, IsBucket, has_key, covers}
 use Rattle.bucket_ids.specs.Paths.{first_path}
 use Rattle.pieces.specs.declared.piece.Piece.{Piece}
-use Rattle.service_layer.specs.Nodes.{with_region}
+use Rattle.node_journals.specs.Nodes.{with_region}
 use Rattle.laid_pieces.specs.Pieces.{same_bucket, meets, with_piece, make_ready, renew, with_serial, without, does_meet, is_over, is_inside, is_exactly}
 use Rattle.laid_pieces.proofs.PieceLaws.{bucket-same, or_false}
 use Rattle.lane_rest.specs.Shapes.{IsApart}

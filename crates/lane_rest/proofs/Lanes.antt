@@ -10,17 +10,17 @@ use Rattle.laid_pieces.specs.Runs.{IsLaid, AreRuns}
 use Rattle.laid_pieces.specs.Told.{Accepted, NoBucket, Differs, where_some, by_mark}
 use Rattle.laid_pieces.proofs.Laid.{none_past}
 use Rattle.laid_pieces.proofs.PieceLaws.{both}
-use Rattle.messages.specs.declared.body.Body.{Body}
-use Rattle.messages.specs.declared.body.Body.TheVariants as body
-use Rattle.messages.specs.declared.reply.Reply.{Reply}
-use Rattle.messages.specs.declared.reply.Reply.TheVariants as reply
+use Rattle.lane_journals.specs.Body.{Body}
+use Rattle.lane_journals.specs.Body.TheVariants as body
+use Rattle.lane_journals.specs.Reply.{Reply}
+use Rattle.lane_journals.specs.Reply.TheVariants as reply
 use Rattle.entry_maps.specs.declared.entry.Entry.{Entry}
 use Rattle.entry_maps.specs.EntryCodes.{Entries}
-use Rattle.entry_joins.specs.Joins.{joined}
-use Rattle.replica_store.specs.Replicas.{IsReplica}
-use Rattle.service_layer.specs.Nodes as lane
-use Rattle.service_layer.specs.Nodes.{stored, with_region}
-use Rattle.service_layer.specs.Takes.{IsInside, Treats}
+use Rattle.node_journals.specs.Joins.{joined}
+use Rattle.node_journals.specs.Replicas.{IsReplica}
+use Rattle.node_journals.specs.Nodes as lane
+use Rattle.node_journals.specs.Nodes.{stored, with_region}
+use Rattle.node_journals.specs.Takes.{IsInside, Treats}
 use Rattle.lane_journals.specs.Stamps.{newer}
 use Rattle.lane_journals.specs.Buckets.{Id, key_of}
 use Rattle.lane_journals.specs.Meanings.{history}

@@ -2,12 +2,12 @@
 use Rattle.std.specs.Prelude.{ℕ, Bool, true, false}
 use Rattle.std.specs.FinMap as fin
 use Rattle.std.specs.List.{list_any}
-use Rattle.messages.specs.declared.body.Body.{Body}
-use Rattle.messages.specs.declared.body.Body.TheVariants as body
-use Rattle.messages.specs.declared.reply.Reply.{Reply}
-use Rattle.messages.specs.declared.reply.Reply.TheVariants as reply
+use Rattle.lane_journals.specs.Body.{Body}
+use Rattle.lane_journals.specs.Body.TheVariants as body
+use Rattle.lane_journals.specs.Reply.{Reply}
+use Rattle.lane_journals.specs.Reply.TheVariants as reply
 use Rattle.laid_pieces.specs.Pieces.{is_over, is_inside}
-use Rattle.service_layer.specs.Nodes as lane
+use Rattle.node_journals.specs.Nodes as lane
 use Rattle.node_journals.specs.NodeKeeping.{stamp_of}
 use Rattle.lane_rest.specs.Nodes.{Node, apply_once, split_once, join_once, can_ready, ready_once, can_activate, activate_once, can_delete, delete_once}
 

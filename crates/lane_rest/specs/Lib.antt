@@ -19,3 +19,9 @@ pub mod Worlds
 pub mod Lanes
 pub mod Scripts
 pub mod Loops
+-- Passed on, so that the crates above need not list those below.
+pub use Rattle.node_journals.specs.NodeKeeping
+pub use Rattle.node_journals.specs.Nodes as ServiceLayerNodes
+pub use Rattle.node_journals.specs.Replaying
+pub use Rattle.node_journals.specs.Replicas
+pub use Rattle.node_journals.specs.Takes

@@ -1,7 +1,7 @@
 -- Which messages of a span are taken twice, as a journal says it.
 use Rattle.std.specs.Prelude.{◌≡◌, ◌==◌, ◌&&◌, ℕ, ◌+◌, Bool, true, false, not, nat_lt, is_some, [], ◌∷◌, Option, None, Some, if◌then◌else◌}
-use Rattle.messages.specs.declared.body.Body.{Body as Told}
-use Rattle.messages.specs.declared.body.Body.TheVariants as body
+use Rattle.lane_journals.specs.Body.{Body as Told}
+use Rattle.lane_journals.specs.Body.TheVariants as body
 use Rattle.lane_journals.specs.Events.{Body, Ask, Read, ReadDoc, Reply, NoMemory, Delivered}
 use Rattle.lane_journals.specs.Readers.{Journal, Message, sent, first_reply}
 use Rattle.node_journals.specs.NodeKeeping.{stamp_of}

@@ -15,7 +15,7 @@ use Rattle.ideal_nodes.specs.Scores.{Has}
 use Rattle.bucket_db.specs.declared.row.Row.{Row}
 use Rattle.entry_maps.specs.EntryCodes.{id_cmp}
 use Rattle.messages.specs.declared.decision.Decision.TheVariants as choice
-use Rattle.service_layer.specs.Nodes.{Node}
+use Rattle.lane_keeping.specs.Nodes.{Node}
 use Rattle.distributor_part.specs.declared.rules.Rules.{Rules}
 use Rattle.distributor_part.specs.Parts.{Part}
 use Rattle.distributor_part.specs.Targets as targets
@@ -35,8 +35,8 @@ use Rattle.lane_journals.proofs.Basics.{sent-member}
 use Rattle.lane_journals.proofs.Rows.{running-row}
 use Rattle.lane_journals.proofs.Walking.{contains-none}
 use Rattle.lane_journals.proofs.Meant.{meant-legal, state-serves}
-use Rattle.lane_durability.proofs.Marks.{active-complete, complete-took}
-use Rattle.node_journals.proofs.Uniting.{union-begins}
+use Rattle.lane_keeping.specs.Marks.{active-complete, complete-took}
+use Rattle.lane_keeping.specs.Uniting.{union-begins}
 use Rattle.lane_keeping.specs.LaneKeeping.{setting_of, Holds, part_in, Keeps}
 use Rattle.lane_keeping.specs.Acting.{IsKnownRow}
 use Rattle.lane_rounds.specs.RoundKeeping.{is_apply, origin_in, KnowsAnswersOf, KnowsRoundOf, KnowsRound}

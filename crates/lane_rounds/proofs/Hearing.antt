@@ -20,7 +20,7 @@ use Rattle.messages.specs.declared.body.Body.TheVariants as body
 use Rattle.messages.specs.declared.reply.Reply.{Reply}
 use Rattle.messages.specs.declared.reply.Reply.TheVariants as reply
 use Rattle.messages.specs.declared.step.NodePieces.{NodePieces}
-use Rattle.service_layer.specs.Nodes.{Node}
+use Rattle.lane_keeping.specs.Nodes.{Node}
 use Rattle.distributor_part.specs.declared.rules.Rules.{Rules}
 use Rattle.distributor_part.specs.Parts.{Part}
 use Rattle.merge_rounds.specs.Rounds.{RoundState, did_show, is_answer, shown_by, after_read, IsAfterApply}
@@ -37,12 +37,12 @@ use Rattle.lane_journals.specs.declared.event.LaneEvent.TheVariants as event
 use Rattle.lane_journals.proofs.BucketLaws.{same_bucket-refl}
 use Rattle.lane_journals.proofs.Meant.{meant-legal}
 use Rattle.lane_journals.proofs.Walking.{contains-none, contains-one}
-use Rattle.node_journals.specs.Flights.{meant, BringsBack}
-use Rattle.node_journals.specs.Replaying.{IsTaken, delivered}
-use Rattle.node_journals.specs.Unions.{IsUnion}
-use Rattle.node_journals.proofs.Stamping.{written-apply, content-is}
-use Rattle.node_journals.proofs.Sending.{taken-back}
-use Rattle.node_journals.proofs.Uniting.{union-stays, union-joins, union-lies}
+use Rattle.lane_keeping.specs.Flights.{meant, BringsBack}
+use Rattle.lane_keeping.specs.Replaying.{IsTaken, delivered}
+use Rattle.lane_keeping.specs.Unions.{IsUnion}
+use Rattle.lane_keeping.specs.Stamping.{written-apply, content-is}
+use Rattle.lane_keeping.specs.Sending.{taken-back}
+use Rattle.lane_keeping.specs.Uniting.{union-stays, union-joins, union-lies}
 use Rattle.lane_keeping.specs.LaneKeeping.{setting_of, node_in, Keeps}
 use Rattle.lane_keeping.specs.Asking.{IsTakenBy}
 use Rattle.lane_rounds.specs.RoundKeeping.{was_sent, is_apply, is_of, IsNamed, AreAnswers, IsReading, KnowsRoundOf, KnowsRound, body_of, IsAwaited}

@@ -13,7 +13,7 @@ use Rattle.messages.specs.declared.body.Body.{Body as LetterBody}
 use Rattle.messages.specs.declared.body.Body.TheVariants as body
 use Rattle.messages.specs.declared.step.NodePieces.{NodePieces}
 use Rattle.entry_maps.specs.EntryCodes.{Entries}
-use Rattle.replica_store.specs.Replicas.{LieIn}
+use Rattle.lane_keeping.specs.Replicas.{LieIn}
 use Rattle.merge_rounds.specs.Rounds.{RoundState, did_show}
 use Rattle.lane_journals.specs.Events.{Body, Apply, Sent}
 use Rattle.lane_journals.specs.Readers.{Journal, Message, Given, sent, is_read, answer, round_in, round_of, running}
@@ -21,8 +21,8 @@ use Rattle.lane_journals.specs.Facts.{AnsweredApply}
 use Rattle.lane_journals.specs.Meanings.{history, entry_at, names as names_of}
 use Rattle.lane_journals.specs.Places.{receivers_of}
 use Rattle.lane_journals.specs.declared.event.LaneEvent.{LaneEvent}
-use Rattle.node_journals.specs.NodeKeeping.{AreWritten}
-use Rattle.node_journals.specs.Unions.{IsUnion}
+use Rattle.lane_keeping.specs.NodeKeeping.{AreWritten}
+use Rattle.lane_keeping.specs.Unions.{IsUnion}
 use Rattle.lane_keeping.specs.Asking.{IsJustSent}
 
 -- ---- what was sent

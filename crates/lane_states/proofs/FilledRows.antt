@@ -37,7 +37,7 @@ use Rattle.lane_rounds.specs.Laws.{OfAnswers, HasTooFew}
 use Rattle.lane_operations.specs.Laws.{OfPreparing, OfUnderWay}
 use Rattle.lane_operations.specs.OperationKeeping.{WasShort, beginning_of}
 use Rattle.lane_operations.proofs.Counting.{small, count_nodes-is, not_answered}
-use Rattle.lane_wants.specs.Wants.{Ends, EndsUnless, NoRoundSince, reads_short, union_short, is_round_read, is_round_apply, AfterRound, ShortWants}
+use Rattle.lane_completeness.specs.Wants.{Ends, EndsUnless, NoRoundSince, reads_short, union_short, is_round_read, is_round_apply, AfterRound, ShortWants}
 use Rattle.lane_states.specs.declared.lane_state.LaneState.{LaneState}
 use Rattle.lane_states.specs.declared.rounds.RoundRun.{RoundRun}
 use Rattle.lane_states.specs.declared.rounds.RoundEnd.{RoundEnd}

@@ -18,7 +18,7 @@ use Rattle.lane_journals.specs.declared.event.LaneEvent.TheVariants.{Delivered, 
 use Rattle.node_journals.specs.Replaying.{sending}
 use Rattle.lane_keeping.specs.LaneKeeping.{PartKeeps, setting_of}
 use Rattle.lane_operations.specs.OperationKeeping.{WasShort}
-use Rattle.lane_wants.specs.Wants.{IsRun, Same, More, WasAskedIn, is_ask}
+use Rattle.lane_completeness.specs.Wants.{IsRun, Same, More, WasAskedIn, is_ask}
 use Rattle.lane_states.specs.Growing.{HasHeard, IsSettled}
 use Rattle.lane_states.specs.Openings as openings
 use Rattle.lane_states.specs.Openings.{IsGone, IsAsked, Nobody}

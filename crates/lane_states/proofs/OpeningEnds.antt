@@ -33,7 +33,7 @@ use Rattle.lane_operations.specs.Laws.{MayLackAnswers}
 use Rattle.lane_operations.proofs.Counting.{small}
 use Rattle.lane_operations.proofs.Opening.{lacks-answers}
 use Rattle.lane_operations.proofs.Preparing.{ends-opening}
-use Rattle.lane_wants.specs.Wants.{IsRun, More, Adds, Ends, Want, OpeningWants, EndsUnless, is_ask, opening_short, Wants, IsEnd}
+use Rattle.lane_completeness.specs.Wants.{IsRun, More, Adds, Ends, Want, OpeningWants, EndsUnless, is_ask, opening_short, Wants, IsEnd}
 use Rattle.lane_states.specs.OpeningRuns.{KnowsAsking, opening_shortage}
 use Rattle.lane_states.specs.Readying.{IsToPrepare, outcome_of}
 use Rattle.lane_states.proofs.SameStates.{some-same}

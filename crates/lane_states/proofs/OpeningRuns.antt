@@ -37,7 +37,7 @@ use Rattle.lane_keeping.proofs.Owners.{acting-stays}
 use Rattle.lane_operations.specs.OperationKeeping.{IsOfNoLine, WasShort}
 use Rattle.lane_operations.proofs.Lines.{preparing-waits}
 use Rattle.lane_operations.proofs.Messages.{short-on, short-cases}
-use Rattle.lane_wants.specs.Wants.{WasAskedIn, is_ask}
+use Rattle.lane_completeness.specs.Wants.{WasAskedIn, is_ask}
 use Rattle.lane_states.specs.Growing.{CameShort, IsSettled}
 use Rattle.lane_states.specs.Openings.{IsGone}
 use Rattle.lane_states.specs.OpeningRuns.{HasAskedJust, KnowsShort}

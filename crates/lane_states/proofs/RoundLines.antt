@@ -27,7 +27,7 @@ use Rattle.lane_journals.proofs.Beginnings.{lasting}
 use Rattle.lane_journals.proofs.BucketLaws.{same_bucket-refl}
 use Rattle.node_journals.specs.Replaying.{sending}
 use Rattle.lane_keeping.specs.Acting.{IsActing}
-use Rattle.lane_wants.specs.Wants.{NoRoundSince}
+use Rattle.lane_completeness.specs.Wants.{NoRoundSince}
 use Rattle.lane_states.specs.declared.rounds.RoundRun.{RoundRun}
 use Rattle.lane_states.specs.declared.rounds.RoundEnd.{RoundEnd}
 use Rattle.lane_states.specs.LaneStates.{IsResting}

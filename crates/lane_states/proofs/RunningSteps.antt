@@ -28,7 +28,7 @@ use Rattle.lane_keeping.specs.Laws.{IsNoAsk}
 use Rattle.lane_operations.specs.OperationKeeping.{HasWritten, KnowsEntry}
 use Rattle.lane_operations.specs.Laws.{MayWriteNext}
 use Rattle.lane_operations.proofs.Judged.{NextMessage, ARead, AStore, next-message, store-due}
-use Rattle.lane_wants.specs.Wants.{Adds, BodyGives, NextGives, IsWanted, IsRun, Same, More}
+use Rattle.lane_completeness.specs.Wants.{Adds, BodyGives, NextGives, IsWanted, IsRun, Same, More}
 use Rattle.lane_states.specs.declared.lane_state.LaneState.{LaneState}
 use Rattle.lane_states.specs.LaneStates.{journal_of}
 use Rattle.lane_states.proofs.GivenOut.{over-all}

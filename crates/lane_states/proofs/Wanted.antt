@@ -27,7 +27,7 @@ use Rattle.lane_keeping.specs.Acting.{IsActing, IsKnownRow}
 use Rattle.lane_keeping.specs.LaneKeeping.{PartKeeps}
 use Rattle.lane_rounds.specs.RoundKeeping.{KnowsRound}
 use Rattle.lane_operations.specs.OperationKeeping.{IsUnderWay}
-use Rattle.lane_wants.specs.Wants.{Adds, Wants, NoRoundSince, RoundGives, IsRun, Same, More, IsCutRun}
+use Rattle.lane_completeness.specs.Wants.{Adds, Wants, NoRoundSince, RoundGives, IsRun, Same, More, IsCutRun}
 use Rattle.lane_states.specs.Growing.{met_at}
 use Rattle.lane_states.specs.RoundRuns.{SendsNext, IsRoundRun, Nothing, Further, IsRunning, NoneRuns, Begins, IsBegunFor, IsWaitedFor, IsWholeRun, IsCutShort}
 use Rattle.lane_states.specs.declared.rounds.RoundRun.{RoundRun}

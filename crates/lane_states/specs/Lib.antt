@@ -19,3 +19,7 @@ pub mod FilledRows
 pub mod KnownOwners
 pub mod Accepting
 pub mod Shortages
+-- Passed on, so that the crates above need not list those below.
+pub use Rattle.lane_completeness.proofs.Hearing
+pub use Rattle.lane_completeness.proofs.Replies
+pub use Rattle.lane_completeness.specs.Wants

@@ -12,7 +12,7 @@ use Rattle.op_machine.specs.Outcomes.{absent_of}
 use Rattle.lane_journals.specs.Meanings.{history}
 use Rattle.lane_journals.specs.declared.event.LaneEvent.{LaneEvent}
 use Rattle.lane_operations.specs.OperationKeeping.{WasShort}
-use Rattle.lane_wants.specs.Wants.{WasAskedIn, is_ask, IsRun}
+use Rattle.lane_completeness.specs.Wants.{WasAskedIn, is_ask, IsRun}
 use Rattle.lane_states.specs.declared.readying.Shortage.{Shortage}
 use Rattle.lane_states.specs.declared.readying.Shortage.TheVariants as shortage
 use Rattle.lane_states.specs.Readying.{IsToPrepare}

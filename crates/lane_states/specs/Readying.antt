@@ -19,7 +19,7 @@ use Rattle.lane_journals.specs.declared.event.LaneEvent.TheVariants.{Closed}
 use Rattle.lane_keeping.specs.LaneKeeping.{setting_of}
 use Rattle.lane_keeping.specs.Acting.{IsActing, IsKnownRow}
 use Rattle.lane_operations.specs.OperationKeeping.{KnowsPreparing}
-use Rattle.lane_wants.specs.Wants.{WasAskedIn, NoRoundSince, IsRun, IsCutRun, IsEnd}
+use Rattle.lane_completeness.specs.Wants.{WasAskedIn, NoRoundSince, IsRun, IsCutRun, IsEnd}
 use Rattle.lane_states.specs.declared.lane_state.LaneState.{LaneState}
 use Rattle.lane_states.specs.declared.readying.Shortage.{Shortage}
 use Rattle.lane_states.specs.declared.readying.Shortage.TheVariants as shortage

@@ -37,7 +37,7 @@ use Rattle.lane_keeping.specs.Acting.{IsActing, IsKnownRow}
 use Rattle.lane_keeping.specs.Asking.{unkept}
 use Rattle.lane_operations.specs.OperationKeeping.{IsUnderWay}
 use Rattle.lane_rounds.specs.RoundKeeping.{origin_in, KnowsRound, KnowsAnswers}
-use Rattle.lane_wants.specs.Wants.{NoRoundSince}
+use Rattle.lane_completeness.specs.Wants.{NoRoundSince}
 use Rattle.lane_states.specs.Growing.{met_at, DeliversSome}
 use Rattle.lane_states.specs.declared.rounds.RoundRun.{RoundRun}
 use Rattle.lane_states.specs.declared.rounds.RoundEnd.{RoundEnd}

@@ -20,7 +20,7 @@ use Rattle.lane_operations.specs.OperationKeeping.{IsUnderWay, KnowsAsked}
 use Rattle.lane_states.specs.declared.lane_state.LaneState.{LaneState}
 use Rattle.lane_states.specs.LaneStates.{journal_of}
 use Rattle.lane_states.specs.Growing.{last_state}
-use Rattle.lane_wants.specs.Wants.{Stands, IsRun}
+use Rattle.lane_completeness.specs.Wants.{Stands, IsRun}
 
 -- the distributor that sends the operation's messages
 abbrev pub sender_of : Standing → ℕ

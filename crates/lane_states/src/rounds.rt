@@ -26,7 +26,7 @@ ghost use Rattle.node_journals.specs.Replaying.{sending};
 ghost use Rattle.lane_keeping.specs.LaneKeeping.{setting_of};
 ghost use Rattle.lane_keeping.specs.Asking.{IsJustSent, OthersStay};
 ghost use Rattle.lane_rounds.specs.RoundKeeping.{IsAwaited};
-ghost use Rattle.lane_wants.specs.Wants.{IsRun, IsCutRun};
+ghost use Rattle.lane_completeness.specs.Wants.{IsRun, IsCutRun};
 ghost use Rattle.lane_states.specs.LaneStates.{journal_of, IsKept, HasRoom, Receives, part_of, IsCarriedBy, NodesOn};
 ghost use Rattle.lane_states.specs.RoundRuns.{IsAfterReply, IsRoundToldBy, is_refusal, NoneRuns, IsRunning, IsToSend, IsCutOff, GoesOn, IsRunToldBy, left, IsRunBy, MayBegin, MayBeginAt, LowIsThere, IsNewRun, EndsEnough, Begins, RunsOn, EndsWith, IsStageOver, IsToldOver, EndsJob, EndsRun, are_missing, is_short, IsEnd, IsBegunFor, OfWaited, IsWholeRun, IsCutShort};
 ghost use Rattle.lane_states.specs.Growing.{IsSettled};

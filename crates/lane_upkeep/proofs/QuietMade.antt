@@ -24,8 +24,8 @@ use Rattle.lane_rest.specs.Scripts.{Script}
 use Rattle.lane_rest.specs.Sets.{newest_of}
 use Rattle.lane_rest.specs.Shapes.{Shape, Nothing, shape_of}
 use Rattle.lane_rest.specs.Targets.{is_target_in}
-use Rattle.quiet_rounds.specs.Rounding.{applied_if}
-use Rattle.quiet_notes.specs.Noting.{newest_in}
+use Rattle.quiet_ends.specs.Rounding.{applied_if}
+use Rattle.quiet_ends.specs.Noting.{newest_in}
 use Rattle.quiet_ends.specs.Ending.{HasEnded}
 use Rattle.lane_upkeep.specs.declared.owner.Owner.{Owner}
 use Rattle.upkeep_steps.specs.declared.notes.RowNote.{RowNote}

@@ -17,7 +17,7 @@ use Rattle.lane_rest.specs.Rest.{documents}
 use Rattle.lane_rest.specs.Scripts.{Script}
 use Rattle.lane_rest.specs.Shapes.{Shape, Same, Over, Inside, shape_of}
 use Rattle.shown_shapes.specs.Shown.{lies_over, lies_inside, shape_with, shape_shown}
-use Rattle.quiet_notes.specs.Noting.{newest_in}
+use Rattle.quiet_ends.specs.Noting.{newest_in}
 use Rattle.quiet_ends.specs.Ending.{HasEnded}
 use Rattle.upkeep_steps.specs.declared.notes.Exact.{Exact}
 use Rattle.upkeep_steps.specs.declared.notes.RowNote.{RowNote}

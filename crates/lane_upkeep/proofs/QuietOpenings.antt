@@ -30,8 +30,8 @@ use Rattle.lane_durability.proofs.BelowLines.{some-none}
 use Rattle.node_journals.specs.Replaying.{sending}
 use Rattle.lane_keeping.specs.LaneKeeping.{setting_of, IsNewest, PartKeeps, Holds, KnowsOpening}
 use Rattle.lane_keeping.specs.Acting.{IsActing}
-use Rattle.lane_completeness.proofs.Replies.{IsOwed, known-owed, not-fenced}
-use Rattle.lane_completeness.proofs.Hearing.{answer-given, ask-counts}
+use Rattle.lane_states.specs.Replies.{IsOwed, known-owed, not-fenced}
+use Rattle.lane_states.specs.Hearing.{answer-given, ask-counts}
 use Rattle.lane_states.specs.declared.lane_state.LaneState.{LaneState}
 use Rattle.lane_states.specs.declared.opening.OpeningEnd.{OpeningEnd}
 use Rattle.lane_states.specs.LaneStates.{journal_of, part_of, IsKept}

@@ -15,7 +15,7 @@ use Rattle.lane_journals.specs.declared.event.LaneEvent.TheVariants as event
 use Rattle.lane_journals.proofs.Basics.{or_else-cases, only_if-some}
 use Rattle.lane_journals.proofs.Meant.{meant-legal, state-published}
 use Rattle.lane_durability.proofs.Bases.{opened-version}
-use Rattle.lane_completeness.proofs.Replies.{version-below}
+use Rattle.lane_states.specs.Replies.{version-below}
 use Rattle.lane_rest.specs.Rest.{documents}
 use Rattle.upkeep_answers.specs.Spans.{IsUpkeepEvent, AreUpkeep, Nothing, More}
 

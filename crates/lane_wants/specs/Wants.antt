@@ -21,7 +21,7 @@ use Rattle.distributor_part.specs.declared.rules.Rules.{Rules}
 use Rattle.distributor_part.specs.declared.stage.Stage.TheVariants.{Before}
 use Rattle.distributor_part.specs.Parts.{Part}
 use Rattle.distributor_part.specs.Steps.{IsStep}
-use Rattle.merge_rounds.specs.Rounds.{RoundState, did_show, HaveAllShown, IsNext}
+use Rattle.lane_rounds.specs.Rounds.{RoundState, did_show, HaveAllShown, IsNext}
 use Rattle.op_machine.specs.declared.machine.Standing.{Standing}
 use Rattle.op_machine.specs.Nodes.{count_nodes}
 use Rattle.op_machine.specs.Outcomes.{absent_of, Next, Asks, Finishes}
@@ -33,9 +33,9 @@ use Rattle.lane_journals.specs.Readers.{Journal, Beginning, prepared, opened, ro
 use Rattle.lane_journals.specs.Meanings.{history}
 use Rattle.lane_journals.specs.declared.event.LaneEvent.{LaneEvent}
 use Rattle.lane_journals.specs.declared.event.LaneEvent.TheVariants.{Opened, Prepared, Wrote, Delivered, Returned, Decided}
-use Rattle.node_journals.specs.Replaying.{sending}
-use Rattle.lane_keeping.specs.LaneKeeping.{PartKeeps}
-use Rattle.lane_keeping.specs.Acting.{IsActing, IsKnownRow}
+use Rattle.lane_operations.specs.Replaying.{sending}
+use Rattle.lane_operations.specs.LaneKeeping.{PartKeeps}
+use Rattle.lane_operations.specs.Acting.{IsActing, IsKnownRow}
 use Rattle.lane_rounds.specs.RoundKeeping.{KnowsRound, KnowsAnswers}
 use Rattle.lane_operations.specs.OperationKeeping.{IsUnderWay, WasShort, KnowsOperation}
 

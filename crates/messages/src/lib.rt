@@ -29,6 +29,7 @@ pub mod step;
 
 pub use body::Body;
 pub use decision::Decision;
+pub use entry_maps::{EntryMap, SharedEntry};
 pub use lists::{BucketList, StampList};
 pub use message::{Message, Origin};
 pub use noted::{NotedBody, NotedReply};

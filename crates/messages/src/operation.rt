@@ -3,9 +3,8 @@ ghost use Rattle.doc_updates.specs.declared.fault.UpdateFault.TheVariants as rea
 ghost use Rattle.messages.specs.Meaning.{makes_one, is_met, decide_plain, decide_by, decide, or_empty, updated_of, effect};
 
 use doc_selection::Selection;
-use doc_updates::{Update, UpdateFault};
+use doc_updates::{Document, Update, UpdateFault};
 use document_ids::DocId;
-use documents::Document;
 use std::alloc::Global;
 use value_lists::{NoMemory, TryCopy};
 

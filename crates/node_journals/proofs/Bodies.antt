@@ -5,7 +5,7 @@ use Rattle.std.specs.FinMap as fin
 use Rattle.global_ids.specs.Keys.{key_of}
 use Rattle.entry_maps.specs.Entries.{with_entry, in_bucket}
 use Rattle.entry_maps.specs.EntryCodes.{Entries}
-use Rattle.entry_joins.specs.Joins.{joined}
+use Rattle.service_layer.specs.Joins.{joined}
 use Rattle.pieces.specs.declared.piece.Piece.{Piece}
 use Rattle.laid_pieces.specs.Pieces.{has_key_of, does_meet, renewed, ready_at, split_at, join_at, apply_at, without}
 use Rattle.messages.specs.declared.body.Body.{Body}

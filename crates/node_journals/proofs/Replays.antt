@@ -15,7 +15,7 @@ use Rattle.messages.specs.declared.body.Body.{Body}
 use Rattle.messages.specs.declared.body.Body.TheVariants as body
 use Rattle.messages.specs.declared.noted.NotedReply.{NotedReply}
 use Rattle.messages.specs.declared.noted.NotedReply.TheVariants as noted
-use Rattle.replica_store.specs.Replicas.{Replica, IsReplica}
+use Rattle.service_layer.specs.Replicas.{Replica, IsReplica}
 use Rattle.service_layer.specs.Nodes.{Node, new_node, adopt, after_body, stored}
 use Rattle.service_layer.specs.Takes.{told, shown_pieces, IsInside}
 use Rattle.lane_journals.specs.Stamps.{Stamp}

@@ -13,9 +13,9 @@ use Rattle.entry_maps.specs.EntryCodes.{Entries, id_cmp}
 use Rattle.entry_maps.specs.Entries.{is_newer, with_entry, newer_of, in_bucket}
 use Rattle.entry_maps.specs.Stamps.{stamp_in, stamps_of}
 use Rattle.entry_maps.proofs.StampLaws.{stamps_of-members}
-use Rattle.entry_joins.specs.Joins.{joined}
-use Rattle.entry_joins.proofs.JoinLaws.{get-joined}
-use Rattle.replica_store.specs.Replicas.{LieIn}
+use Rattle.service_layer.specs.Joins.{joined}
+use Rattle.service_layer.specs.JoinLaws.{get-joined}
+use Rattle.service_layer.specs.Replicas.{LieIn}
 use Rattle.messages.specs.declared.body.Body.{Body}
 use Rattle.messages.specs.declared.body.Body.TheVariants as body
 use Rattle.service_layer.specs.Takes.{IsInside}

@@ -2,7 +2,7 @@
 use Rattle.std.proofs.Common.{◌≡◌, inl, inr, ℕ, ◌+◌, ◌^◌, ◌<◌, List, sym, ◌∙◌, subst, arith}
 use Rattle.bucket_ids.specs.Buckets.{has_key}
 use Rattle.global_ids.specs.Keys.{key_of}
-use Rattle.entry_joins.proofs.JoinLaws.{get-joined}
+use Rattle.service_layer.specs.JoinLaws.{get-joined}
 use Rattle.laid_pieces.specs.Pieces.{holds, has_key_of, does_meet}
 use Rattle.laid_pieces.specs.Runs.{AreRuns}
 use Rattle.laid_pieces.specs.Told.{Accepted}
@@ -15,8 +15,8 @@ use Rattle.messages.specs.declared.body.Body.TheVariants as body
 use Rattle.messages.specs.declared.reply.Reply.{Reply}
 use Rattle.messages.specs.declared.reply.Reply.TheVariants as reply
 use Rattle.messages.specs.declared.message.Message.{Message}
-use Rattle.replica_store.specs.Replicas.{Replica, IsReplica}
-use Rattle.replica_store.proofs.HeldEntries.{AreHeld-store, AreHeld-more, AreHeld-join, AreHeld-delete}
+use Rattle.service_layer.specs.Replicas.{Replica, IsReplica}
+use Rattle.service_layer.specs.HeldEntries.{AreHeld-store, AreHeld-more, AreHeld-join, AreHeld-delete}
 use Rattle.service_layer.specs.Nodes.{Node, adopt, after_body, stored}
 use Rattle.service_layer.specs.Takes.{Takes, Treats, told}
 use Rattle.std.proofs.lemmas.Bool.{cases_lt}

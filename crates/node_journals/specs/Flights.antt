@@ -8,7 +8,7 @@ use Rattle.messages.specs.declared.body.Body.TheVariants as body
 use Rattle.messages.specs.declared.message.Message.{Message}
 use Rattle.messages.specs.declared.reply.Reply.{Reply}
 use Rattle.messages.specs.declared.reply.Reply.TheVariants as reply
-use Rattle.replica_store.specs.Replicas.{LieIn}
+use Rattle.service_layer.specs.Replicas.{LieIn}
 use Rattle.service_layer.specs.Takes.{IsInside}
 use Rattle.lane_journals.specs.Buckets.{key_of}
 use Rattle.lane_journals.specs.Naming.{exact_bucket}

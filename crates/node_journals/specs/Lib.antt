@@ -4,3 +4,11 @@ pub mod NodeKeeping
 pub mod Flights
 pub mod Replaying
 pub mod Unions
+-- Passed on, so that the crates above need not list those below.
+pub use Rattle.lane_durability.proofs.Bases
+pub use Rattle.lane_durability.proofs.Kept
+pub use Rattle.lane_durability.proofs.Marks
+pub use Rattle.service_layer.specs.Joins
+pub use Rattle.service_layer.specs.Nodes
+pub use Rattle.service_layer.specs.Replicas
+pub use Rattle.service_layer.specs.Takes

@@ -7,7 +7,7 @@ use Rattle.entry_maps.specs.declared.entry.Entry.{Entry}
 use Rattle.entry_maps.specs.EntryCodes.{Entries}
 use Rattle.pieces.specs.declared.piece.Piece.{Piece}
 use Rattle.laid_pieces.specs.Pieces.{is_piece}
-use Rattle.replica_store.specs.Replicas.{IsReplica}
+use Rattle.service_layer.specs.Replicas.{IsReplica}
 use Rattle.service_layer.specs.Nodes.{Node, stored, with_region}
 use Rattle.lane_journals.specs.Stamps.{Stamp}
 use Rattle.lane_journals.specs.Buckets.{Bucket, Id}

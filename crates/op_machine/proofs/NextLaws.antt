@@ -5,7 +5,7 @@ use Rattle.node_sets.specs.Members.{has_node, size_of}
 use Rattle.stamps.specs.declared.stamp.Stamp.{Stamp}
 use Rattle.entry_maps.specs.declared.entry.Entry.{Entry}
 use Rattle.conditions.specs.Formulas.{Formula}
-use Rattle.doc_selection.specs.declared.terms.Term.{Term}
+use Rattle.messages.specs.Term.{Term}
 use Rattle.messages.specs.Meaning.{decide_by}
 use Rattle.messages.specs.Noting.{message_of}
 use Rattle.messages.specs.declared.message.Message.{Message}

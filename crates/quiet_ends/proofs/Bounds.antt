@@ -17,15 +17,15 @@ use Rattle.lane_journals.specs.Facts.{AnsweredApply}
 use Rattle.lane_journals.specs.Meanings.{history}
 use Rattle.lane_journals.specs.declared.event.LaneEvent.{LaneEvent}
 use Rattle.lane_journals.specs.declared.event.LaneEvent.TheVariants.{Sent, Delivered, Returned, Decided}
-use Rattle.lane_rounds.specs.RoundKeeping.{is_among_first, AreAnswers, KnowsAnswersOf, KnowsAnswers, KnowsRoundOf, KnowsRound}
-use Rattle.lane_states.specs.declared.rounds.RoundRun.{RoundRun}
-use Rattle.lane_states.specs.declared.rounds.RoundEnd.{RoundEnd}
-use Rattle.lane_states.specs.LaneStates.{AreCarried}
-use Rattle.lane_states.specs.RoundRuns.{WasRefused, is_read_in, is_apply_in, KnowsRefusals, GoesOn, Begins, IsEnd, IsWholeRun}
-use Rattle.lane_states.proofs.Runs.{carried-decided}
-use Rattle.lane_states.proofs.RoundLines.{stays-round}
-use Rattle.lane_states.proofs.Staying.{IsOfMessage}
-use Rattle.quiet_rounds.specs.Rounding.{IsUnsent}
+use Rattle.quiet_notes.specs.RoundKeeping.{is_among_first, AreAnswers, KnowsAnswersOf, KnowsAnswers, KnowsRoundOf, KnowsRound}
+use Rattle.quiet_runs.specs.RoundRun.{RoundRun}
+use Rattle.quiet_runs.specs.RoundEnd.{RoundEnd}
+use Rattle.quiet_runs.specs.LaneStates.{AreCarried}
+use Rattle.quiet_runs.specs.RoundRuns.{WasRefused, is_read_in, is_apply_in, KnowsRefusals, GoesOn, Begins, IsEnd, IsWholeRun}
+use Rattle.quiet_runs.specs.Runs.{carried-decided}
+use Rattle.quiet_runs.specs.RoundLines.{stays-round}
+use Rattle.quiet_runs.specs.Staying.{IsOfMessage}
+use Rattle.quiet_notes.specs.Rounding.{IsUnsent}
 use Rattle.quiet_runs.specs.Running.{NoneWants, IsStarted}
 
 -- ---- its beginning

@@ -17,23 +17,23 @@ use Rattle.lane_journals.specs.KeptJournals.{IsLegal}
 use Rattle.lane_journals.specs.Meanings.{history}
 use Rattle.lane_journals.specs.declared.event.LaneEvent.{LaneEvent}
 use Rattle.lane_journals.specs.declared.event.LaneEvent.TheVariants.{Decided}
-use Rattle.node_spans.specs.Spans.{GoBy, NodesGo}
+use Rattle.quiet_notes.specs.Spans.{GoBy, NodesGo}
 use Rattle.lane_carriage.specs.Carriage.{IsCarried, due}
 use Rattle.lane_carriage.specs.Waits.{numbers, IsWaiting}
 use Rattle.lane_carriage.specs.Laws.{OfTaken}
-use Rattle.lane_states.specs.declared.rounds.RoundRun.{RoundRun}
-use Rattle.lane_states.specs.declared.rounds.RoundEnd.{RoundEnd}
-use Rattle.lane_states.specs.LaneStates.{AreCarried}
-use Rattle.lane_states.proofs.Runs.{runs-carried}
+use Rattle.quiet_runs.specs.RoundRun.{RoundRun}
+use Rattle.quiet_runs.specs.RoundEnd.{RoundEnd}
+use Rattle.quiet_runs.specs.LaneStates.{AreCarried}
+use Rattle.quiet_runs.specs.Runs.{runs-carried}
 use Rattle.lane_rest.specs.Rest.{documents}
 use Rattle.lane_rest.specs.Scripts.{Script}
 use Rattle.lane_rest.specs.Shapes.{IsApart}
 use Rattle.lane_rest.proofs.Lanes.{seen-sound}
 use Rattle.upkeep_answers.specs.Spans.{later, AreUpkeep, OfUpkeep, Nothing, More}
 use Rattle.quiet_spans.specs.Quiet.{GoesQuietly}
-use Rattle.quiet_passes.specs.Telling.{seen_nodes}
-use Rattle.quiet_passes.proofs.Takings.{one-span}
-use Rattle.quiet_rounds.specs.Rounding.{applied_if}
+use Rattle.quiet_runs.specs.Telling.{seen_nodes}
+use Rattle.quiet_runs.specs.Takings.{one-span}
+use Rattle.quiet_notes.specs.Rounding.{applied_if}
 use Rattle.quiet_runs.specs.Running.{RunsQuietly, IsRunTo, IsStarted}
 use Rattle.quiet_notes.specs.Noting.{newest_in, IsRounded, IsNoted}
 use Rattle.quiet_ends.specs.Ending.{IsWholeRound, HasEnded}

@@ -16,20 +16,20 @@ use Rattle.lane_journals.specs.Places.{Setting}
 use Rattle.lane_journals.specs.KeptJournals.{IsLegal}
 use Rattle.lane_journals.specs.Meanings.{history}
 use Rattle.lane_journals.specs.declared.event.LaneEvent.{LaneEvent}
-use Rattle.node_spans.specs.Spans.{NodesGo}
+use Rattle.quiet_notes.specs.Spans.{NodesGo}
 use Rattle.lane_carriage.specs.Carriage.{IsCarried}
-use Rattle.lane_states.specs.declared.rounds.RoundRun.{RoundRun}
-use Rattle.lane_states.specs.declared.rounds.RoundEnd.{RoundEnd}
-use Rattle.lane_states.specs.LaneStates.{AreCarried}
-use Rattle.lane_states.specs.RoundRuns.{GoesOn, Begins, IsEnd, IsWholeRun}
+use Rattle.quiet_runs.specs.RoundRun.{RoundRun}
+use Rattle.quiet_runs.specs.RoundEnd.{RoundEnd}
+use Rattle.quiet_runs.specs.LaneStates.{AreCarried}
+use Rattle.quiet_runs.specs.RoundRuns.{GoesOn, Begins, IsEnd, IsWholeRun}
 use Rattle.lane_rest.specs.Rest.{documents}
 use Rattle.lane_rest.specs.Scripts.{Script}
 use Rattle.lane_rest.specs.Shapes.{Over, Inside, shape_of}
 use Rattle.upkeep_answers.specs.Spans.{AreUpkeep}
-use Rattle.shown_shapes.specs.Shown.{lies_over, lies_inside, shape_shown}
+use Rattle.quiet_notes.specs.Shown.{lies_over, lies_inside, shape_shown}
 use Rattle.quiet_spans.specs.Quiet.{GoesQuietly}
-use Rattle.quiet_passes.specs.Telling.{seen_nodes}
-use Rattle.quiet_rounds.specs.Rounding.{applied_if}
+use Rattle.quiet_runs.specs.Telling.{seen_nodes}
+use Rattle.quiet_notes.specs.Rounding.{applied_if}
 use Rattle.quiet_notes.specs.Noting.{newest_in}
 
 -- the round was begun, run to its end and ended, and no node wanted memory for it; the span is quiet, and each node that

@@ -6,8 +6,8 @@ ghost use Rattle.carriers.specs.declared.fate.Fate.{Fate};
 ghost use Rattle.late_messages.specs.declared.late.Late.{Late};
 ghost use Rattle.service_layer.specs.Nodes.{Node};
 ghost use Rattle.lane_journals.specs.declared.event.LaneEvent.{LaneEvent};
-ghost use Rattle.lane_states.specs.declared.rounds.RoundRun.{RoundRun};
-ghost use Rattle.lane_states.specs.declared.rounds.RoundEnd.{RoundEnd};
+ghost use Rattle.quiet_runs.specs.RoundRun.{RoundRun};
+ghost use Rattle.quiet_runs.specs.RoundEnd.{RoundEnd};
 ghost use Rattle.lane_rest.specs.Scripts.{Script};
 ghost use Rattle.quiet_ends.specs.Ending.{IsWholeRound, HasEnded};
 

@@ -25,8 +25,8 @@ use Rattle.lane_journals.specs.Places.{Setting}
 use Rattle.lane_journals.specs.KeptJournals.{IsLegal}
 use Rattle.lane_journals.specs.Meanings.{history, names}
 use Rattle.lane_journals.specs.declared.event.LaneEvent.{LaneEvent}
-use Rattle.lane_rounds.specs.RoundKeeping.{is_apply, is_of, is_among_first, IsNamed}
-use Rattle.lane_rounds.proofs.Sent.{sent-passes, passes}
+use Rattle.quiet_rounds.specs.RoundKeeping.{is_apply, is_of, is_among_first, IsNamed}
+use Rattle.quiet_rounds.specs.Sent.{sent-passes, passes}
 use Rattle.lane_rest.specs.Rest.{documents}
 use Rattle.lane_rest.specs.Scripts.{Script}
 use Rattle.lane_rest.specs.Shapes.{Shape, Over, Inside, IsApart, shape_of}

@@ -10,8 +10,8 @@ use Rattle.service_layer.specs.Nodes.{Node}
 use Rattle.merge_rounds.specs.Rounds.{RoundState, HaveAllShown, IsOver, pieces_by}
 use Rattle.lane_journals.specs.Events.{Content}
 use Rattle.lane_journals.specs.declared.event.LaneEvent.{LaneEvent}
-use Rattle.node_journals.specs.NodeKeeping.{stamp_of}
-use Rattle.lane_rounds.specs.RoundKeeping.{KnowsRoundOf}
+use Rattle.lane_rest.specs.NodeKeeping.{stamp_of}
+use Rattle.quiet_rounds.specs.RoundKeeping.{KnowsRoundOf}
 use Rattle.lane_rest.specs.Sets.{newest_of}
 use Rattle.lane_rest.specs.Scripts.{Script}
 use Rattle.lane_rest.specs.Shapes.{Over, Inside, IsApart, shape_of}

@@ -9,12 +9,12 @@ use Rattle.lane_journals.specs.Events as plain
 use Rattle.lane_journals.specs.Events.{Content}
 use Rattle.lane_journals.specs.Meanings.{meaning_body, entry_at}
 use Rattle.lane_journals.specs.declared.event.LaneEvent.{LaneEvent}
-use Rattle.node_journals.specs.NodeKeeping.{stamp_of}
-use Rattle.node_journals.specs.Flights.{meant, Brings}
-use Rattle.node_journals.proofs.Stamping.{content-is}
-use Rattle.lane_rest.specs.Nodes.{Node, apply_once, split_once, join_once, ready_once, activate_once, delete_once, apply_node, split_node, join_node, ready_node, activate_node, delete_node, received}
-use Rattle.lane_rest.specs.Lanes.{IsPassBody, after_once, is_taken}
-use Rattle.lane_rest.specs.Scripts.{told_body}
+use Rattle.node_spans.specs.NodeKeeping.{stamp_of}
+use Rattle.node_spans.specs.Flights.{meant, Brings}
+use Rattle.node_spans.specs.Stamping.{content-is}
+use Rattle.quiet_spans.specs.Nodes.{Node, apply_once, split_once, join_once, ready_once, activate_once, delete_once, apply_node, split_node, join_node, ready_node, activate_node, delete_node, received}
+use Rattle.quiet_spans.specs.Lanes.{IsPassBody, after_once, is_taken}
+use Rattle.quiet_spans.specs.Scripts.{told_body}
 
 -- what a body of a pass means to a node of a pass
 once_by : plain.Body → Node → Node

@@ -25,14 +25,14 @@ use Rattle.lane_journals.specs.Events as plain
 use Rattle.lane_journals.specs.Readers.{sent, first_reply, version}
 use Rattle.lane_journals.specs.Meanings.{history, entry_at, names, content, meaning_body, meaning_reply}
 use Rattle.lane_journals.specs.declared.event.LaneEvent.TheVariants.{Delivered, Returned}
-use Rattle.node_journals.specs.NodeKeeping.{stamp_of, AreWritten}
-use Rattle.node_journals.specs.Flights.{meant}
-use Rattle.node_journals.specs.Replaying.{sending}
-use Rattle.node_journals.proofs.Words.{key-is, names-is}
-use Rattle.node_journals.proofs.Stamping.{content-is, shown_in}
+use Rattle.node_spans.specs.NodeKeeping.{stamp_of, AreWritten}
+use Rattle.node_spans.specs.Flights.{meant}
+use Rattle.node_spans.specs.Replaying.{sending}
+use Rattle.node_spans.specs.Words.{key-is, names-is}
+use Rattle.node_spans.specs.Stamping.{content-is, shown_in}
 use Rattle.upkeep_answers.specs.Spans.{later}
 use Rattle.node_spans.specs.Spans.{IsTakenIn, GoBy, NodesGo}
-use Rattle.lane_rest.specs.Scripts.{came, tells, is_telling}
+use Rattle.quiet_spans.specs.Scripts.{came, tells, is_telling}
 use Rattle.quiet_spans.specs.Quiet.{IsTakenOnce, IsTakenTwice}
 use Rattle.quiet_passes.specs.Telling.{held_in, IsShownIn}
 use Rattle.quiet_passes.proofs.Takings.{Nodes, Events, one-span, the, sent-now, still-current, versions-once, versions-twice, first-is, second-is, to, means, treats, elsewhere}

@@ -16,8 +16,8 @@ use Rattle.lane_carriage.specs.Carriage.{due, IsMessage, IsCarried}
 use Rattle.lane_carriage.specs.Readers.{last_sent, arrivals, receives, fate_of, is_returned, arrivals_of}
 use Rattle.lane_carriage.specs.Laws.{OfCarried}
 use Rattle.upkeep_answers.specs.Spans.{later}
-use Rattle.lane_rest.specs.Scripts.{Script, is_want, takings}
-use Rattle.node_journals.specs.Replaying.{sending}
+use Rattle.quiet_spans.specs.Scripts.{Script, is_want, takings}
+use Rattle.node_spans.specs.Replaying.{sending}
 use Rattle.quiet_spans.specs.Quiet.{IsTakenOnce, IsTakenTwice}
 use Rattle.quiet_spans.proofs.Taking.{taken}
 use Rattle.quiet_passes.specs.Telling.{IsSaid, IsToldIn, IsFresh, IsAskedOf, IsShownIn}

@@ -12,8 +12,8 @@ use Rattle.lane_journals.specs.Readers.{or_else, only_if, sent, first_reply, rou
 use Rattle.lane_journals.specs.Meanings.{history, meaning_body, meaning_reply}
 use Rattle.lane_journals.specs.declared.event.LaneEvent.{LaneEvent}
 use Rattle.lane_journals.specs.declared.event.LaneEvent.TheVariants.{Delivered, Returned}
-use Rattle.node_journals.specs.Flights.{meant}
-use Rattle.node_journals.specs.Replaying.{sending}
+use Rattle.node_spans.specs.Flights.{meant}
+use Rattle.node_spans.specs.Replaying.{sending}
 use Rattle.upkeep_answers.specs.Spans.{later}
 use Rattle.node_spans.specs.Spans.{IsTakenIn}
 

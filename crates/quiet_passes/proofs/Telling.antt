@@ -17,14 +17,14 @@ use Rattle.lane_journals.specs.Readers.{or_else, only_if, sent, first_reply, rou
 use Rattle.lane_journals.specs.Meanings.{history, meaning_body, meaning_reply}
 use Rattle.lane_journals.specs.declared.event.LaneEvent.{LaneEvent}
 use Rattle.lane_journals.specs.declared.event.LaneEvent.TheVariants.{Delivered, Returned}
-use Rattle.node_journals.specs.Flights.{meant}
-use Rattle.node_journals.specs.Replaying.{sending, delivered}
+use Rattle.node_spans.specs.Flights.{meant}
+use Rattle.node_spans.specs.Replaying.{sending, delivered}
 use Rattle.upkeep_answers.specs.Spans.{later}
 use Rattle.node_spans.specs.Spans.{IsTakenIn, GoBy, NodesGo}
-use Rattle.lane_rest.specs.Nodes.{Node, counted, once_or_twice, received}
-use Rattle.lane_rest.specs.Lanes.{seen_node, IsPassBody, after_once, is_taken, IsNoWant, is_answer}
-use Rattle.lane_rest.specs.Scripts.{Script, came, Agrees, is_want, told_body, told_node}
-use Rattle.lane_rest.proofs.Lanes.{laid-apart, tells, does}
+use Rattle.quiet_spans.specs.Nodes.{Node, counted, once_or_twice, received}
+use Rattle.quiet_spans.specs.Lanes.{seen_node, IsPassBody, after_once, is_taken, IsNoWant, is_answer}
+use Rattle.quiet_spans.specs.Scripts.{Script, came, Agrees, is_want, told_body, told_node}
+use Rattle.quiet_spans.specs.LaneRestLanes.{laid-apart, tells, does}
 use Rattle.quiet_spans.proofs.Changing.{came-own, came-other, came-again, script-once, script-again, no-want}
 use Rattle.quiet_passes.specs.Telling.{seen_nodes, IsNew, IsTaken, IsToldIn}
 use Rattle.quiet_passes.proofs.Takings.{Nodes, Events, one-span, the, sent-now, still-current, versions-once, versions-twice, first-is, second-is, to, means, treats, elsewhere}

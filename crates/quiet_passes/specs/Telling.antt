@@ -17,14 +17,14 @@ use Rattle.lane_journals.specs.Events.{Content}
 use Rattle.lane_journals.specs.Readers.{sent, first_reply, version, stopped}
 use Rattle.lane_journals.specs.Meanings.{history, entry_at, meaning_reply}
 use Rattle.lane_journals.specs.declared.event.LaneEvent.{LaneEvent}
-use Rattle.node_journals.specs.NodeKeeping.{stamp_of}
-use Rattle.node_journals.specs.Flights.{Brings}
-use Rattle.node_journals.specs.Replaying.{sending}
+use Rattle.node_spans.specs.NodeKeeping.{stamp_of}
+use Rattle.node_spans.specs.Flights.{Brings}
+use Rattle.node_spans.specs.Replaying.{sending}
 use Rattle.lane_carriage.specs.Carriage.{met, IsDealt, AreDelivered, due, IsCarried}
 use Rattle.node_spans.specs.Spans.{NodesGo}
-use Rattle.lane_rest.specs.Nodes.{Node}
-use Rattle.lane_rest.specs.Lanes.{seen_node, IsPassBody, is_taken, is_answer}
-use Rattle.lane_rest.specs.Scripts.{Script, came, takings, Agrees, told_node}
+use Rattle.quiet_spans.specs.Nodes.{Node}
+use Rattle.quiet_spans.specs.Lanes.{seen_node, IsPassBody, is_taken, is_answer}
+use Rattle.quiet_spans.specs.Scripts.{Script, came, takings, Agrees, told_node}
 use Rattle.quiet_spans.specs.Quiet.{IsQuiet, GoesQuietly, IsTakenOnce, IsTakenTwice}
 
 -- the nodes of a lane as nodes of a pass

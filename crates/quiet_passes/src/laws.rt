@@ -9,7 +9,7 @@ ghost use Rattle.lane_journals.specs.Meanings.{history};
 ghost use Rattle.lane_journals.specs.declared.event.LaneEvent.{LaneEvent};
 ghost use Rattle.messages.specs.declared.message.Message.{Message};
 ghost use Rattle.service_layer.specs.Nodes.{Node};
-ghost use Rattle.lane_rest.specs.Scripts.{Script, Agrees};
+ghost use Rattle.quiet_spans.specs.Scripts.{Script, Agrees};
 ghost use Rattle.node_spans.specs.Spans.{NodesGo};
 ghost use Rattle.quiet_passes.specs.Telling.{IsTaken, IsSaid, IsToldIn, IsFresh, IsAskedOf, IsShownIn};
 

@@ -25,13 +25,13 @@ use Rattle.lane_journals.specs.declared.event.LaneEvent.{LaneEvent}
 use Rattle.lane_journals.specs.declared.event.LaneEvent.TheVariants.{Delivered, Returned}
 use Rattle.node_journals.specs.NodeKeeping.{stamp_of}
 use Rattle.node_journals.specs.Replaying.{sending}
-use Rattle.lane_rest.specs.Nodes.{Node, apply_once, apply_node, received, counted, once_or_twice, taken_in}
+use Rattle.quiet_passes.specs.Nodes.{Node, apply_once, apply_node, received, counted, once_or_twice, taken_in}
 use Rattle.laid_pieces.specs.Pieces.{apply_at}
-use Rattle.lane_rest.specs.Lanes.{is_taken, is_answer, seen_node}
-use Rattle.lane_rest.specs.Scripts.{Script, told_body}
+use Rattle.quiet_passes.specs.Lanes.{is_taken, is_answer, seen_node}
+use Rattle.quiet_passes.specs.Scripts.{Script, told_body}
 use Rattle.lane_rounds.specs.RoundKeeping.{was_sent, is_apply, is_of}
 use Rattle.lane_rounds.proofs.Waiting.{answered-stays}
-use Rattle.quiet_spans.specs.Quiet.{IsTakenOnce, IsTakenTwice}
+use Rattle.quiet_passes.specs.Quiet.{IsTakenOnce, IsTakenTwice}
 use Rattle.quiet_passes.specs.Telling.{seen_nodes, IsShownIn, IsToldIn}
 use Rattle.quiet_passes.proofs.Takings.{Nodes, Events, the, sent-now, first-is, second-is}
 use Rattle.quiet_rounds.specs.Rounding.{IsGiven, was_told, was_asked, applied_if, HasRounded, IsUnsent, IsNextOf, AreAlike}

@@ -12,8 +12,8 @@ use Rattle.node_journals.specs.NodeKeeping.{stamp_of}
 use Rattle.node_journals.specs.Unions.{IsUnion}
 use Rattle.lane_journals.proofs.Order.{Le_none}
 use Rattle.service_layer.specs.Nodes as lane
-use Rattle.lane_rest.specs.Sets.{held_if, newest_below, newest_of}
-use Rattle.lane_rest.proofs.Stamps.{Le-both, newest-most, newest-above, held-most}
+use Rattle.quiet_passes.specs.Sets.{held_if, newest_below, newest_of}
+use Rattle.quiet_passes.specs.Stamps.{Le-both, newest-most, newest-above, held-most}
 use Rattle.quiet_passes.specs.Telling.{held_in}
 use Rattle.quiet_rounds.specs.Rounding.{IsGiven, AreAlike}
 

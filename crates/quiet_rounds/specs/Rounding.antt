@@ -16,10 +16,10 @@ use Rattle.lane_journals.specs.Meanings.{history}
 use Rattle.lane_journals.specs.declared.event.LaneEvent.{LaneEvent}
 use Rattle.node_journals.specs.NodeKeeping.{stamp_of}
 use Rattle.node_journals.specs.Replaying.{sending}
-use Rattle.lane_rest.specs.Nodes.{Node, apply_node}
-use Rattle.lane_rest.specs.Scripts.{Script}
+use Rattle.quiet_passes.specs.Nodes.{Node, apply_node}
+use Rattle.quiet_passes.specs.Scripts.{Script}
 use Rattle.lane_rounds.specs.RoundKeeping.{was_sent, is_apply, is_of}
-use Rattle.quiet_spans.specs.Quiet.{IsTakenOnce, IsTakenTwice}
+use Rattle.quiet_passes.specs.Quiet.{IsTakenOnce, IsTakenTwice}
 use Rattle.quiet_passes.specs.Telling.{seen_nodes, held_in}
 
 -- an answer has what the node has in the bucket, and names its pieces that meet it

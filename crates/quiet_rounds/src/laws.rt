@@ -14,8 +14,8 @@ ghost use Rattle.lane_journals.specs.Meanings.{history};
 ghost use Rattle.lane_journals.specs.declared.event.LaneEvent.{LaneEvent};
 ghost use Rattle.node_journals.specs.NodeKeeping.{stamp_of};
 ghost use Rattle.node_journals.specs.Unions.{IsUnion};
-ghost use Rattle.lane_rest.specs.Sets.{newest_of};
-ghost use Rattle.lane_rest.specs.Scripts.{Script};
+ghost use Rattle.quiet_passes.specs.Sets.{newest_of};
+ghost use Rattle.quiet_passes.specs.Scripts.{Script};
 ghost use Rattle.quiet_passes.specs.Telling.{IsToldIn, IsShownIn};
 ghost use Rattle.quiet_rounds.specs.Rounding.{HasRounded, IsUnsent, IsNextOf, AreAlike};
 

@@ -22,14 +22,14 @@ use Rattle.lane_journals.specs.declared.event.LaneEvent.{LaneEvent}
 use Rattle.node_journals.specs.Flights.{Brings}
 use Rattle.node_journals.specs.Unions.{IsUnion}
 use Rattle.node_journals.specs.Replaying.{sending}
-use Rattle.node_spans.specs.Spans.{GoBy, NodesGo}
+use Rattle.quiet_passes.specs.Spans.{GoBy, NodesGo}
 use Rattle.lane_carriage.specs.Carriage.{met, IsDealt, AreDelivered, due, IsCarried}
 use Rattle.lane_carriage.specs.Waits.{numbers, IsWaiting}
 use Rattle.lane_carriage.specs.Laws.{OfTaken}
 use Rattle.upkeep_answers.specs.Spans.{later, IsUpkeepBody, IsUpkeepEvent, AreUpkeep, OfUpkeep}
 use Rattle.lane_rest.specs.Lanes.{IsPassBody}
 use Rattle.lane_rest.specs.Scripts.{Script}
-use Rattle.lane_rounds.specs.RoundKeeping.{origin_in, was_sent, is_apply, is_of, is_among_first}
+use Rattle.quiet_rounds.specs.RoundKeeping.{origin_in, was_sent, is_apply, is_of, is_among_first}
 use Rattle.lane_states.specs.LaneStates.{AreCarried}
 use Rattle.lane_states.specs.RoundRuns.{Sends, SendsNext, IsRoundRun, Nothing, Further, WasRefused, is_read_in, is_apply_in}
 use Rattle.lane_states.proofs.Runs.{runs-carried}

@@ -12,7 +12,7 @@ use Rattle.lane_journals.specs.Readers.{version, round_of, running}
 use Rattle.lane_journals.specs.Meanings.{history}
 use Rattle.lane_journals.specs.declared.event.LaneEvent.{LaneEvent}
 use Rattle.node_journals.specs.NodeKeeping.{stamp_of}
-use Rattle.node_spans.specs.Spans.{NodesGo}
+use Rattle.quiet_passes.specs.Spans.{NodesGo}
 use Rattle.lane_rest.specs.Sets.{newest_of}
 use Rattle.lane_rest.specs.Scripts.{Script}
 use Rattle.lane_states.specs.LaneStates.{AreCarried}

@@ -7,14 +7,14 @@ use Rattle.messages.specs.declared.message.Message.{Message}
 use Rattle.messages.specs.declared.reply.Reply.{Reply}
 use Rattle.messages.specs.declared.reply.Reply.TheVariants as reply
 use Rattle.messages.specs.Noting.{noted_body, noted_reply}
-use Rattle.service_layer.specs.Nodes.{Node}
+use Rattle.lane_rest.specs.ServiceLayerNodes.{Node}
 use Rattle.lane_journals.specs.Events as plain
 use Rattle.lane_journals.specs.Readers as readers
 use Rattle.lane_journals.specs.Readers.{or_else, only_if, sent, first_reply, round_in}
 use Rattle.lane_journals.specs.Meanings.{history, meaning_body, meaning_reply}
 use Rattle.lane_journals.specs.declared.event.LaneEvent.{LaneEvent}
 use Rattle.lane_journals.specs.declared.event.LaneEvent.TheVariants.{Returned}
-use Rattle.node_journals.specs.Replaying.{sending, delivered}
+use Rattle.lane_rest.specs.Replaying.{sending, delivered}
 use Rattle.lane_rest.specs.Lanes.{IsPassBody, IsNoWant, seen_node}
 use Rattle.lane_rest.specs.Scripts.{Script, is_telling, tells, came, came_before, is_want, takings, Agrees, told_body}
 

@@ -4,9 +4,9 @@ use Rattle.std.specs.Coded.{Coded, code_by, coded×, coded_ℕ, coded_list}
 use Rattle.std.specs.FinMap as fin
 use Rattle.bucket_ids.specs.Buckets.{Low}
 use Rattle.global_ids.specs.Keys.{key_of}
-use Rattle.entry_maps.specs.declared.entry.Entry.{Entry}
-use Rattle.entry_maps.specs.Entries.{with_entry, in_bucket}
-use Rattle.entry_maps.specs.EntryCodes.{Entries, entries_code}
+use Rattle.entry_joins.specs.Entry.{Entry}
+use Rattle.entry_joins.specs.Entries.{with_entry, in_bucket}
+use Rattle.entry_joins.specs.EntryCodes.{Entries, entries_code}
 use Rattle.entry_joins.specs.Joins.{joined}
 use Rattle.pieces.specs.declared.piece.Piece.{Piece}
 use Rattle.pieces.specs.PieceCodes.{piece_code}

@@ -3,7 +3,7 @@ ghost use Rattle.std.specs.List.{list_any};
 ghost use Rattle.std.specs.Option.{option_copied};
 ghost use Rattle.std.specs.FinMap as fin;
 ghost use Rattle.global_ids.specs.Keys.{key_of};
-ghost use Rattle.entry_maps.specs.Entries.{in_bucket};
+ghost use Rattle.entry_joins.specs.Entries.{in_bucket};
 ghost use Rattle.laid_pieces.specs.Pieces.{holds, does_meet, is_exactly};
 ghost use Rattle.laid_pieces.specs.Told.{IsTold, IsSurelyTold, Accepted, key_told, split_told, join_told, ready_told, activate_told, delete_told};
 ghost use Rattle.laid_pieces.specs.declared.fault.StoreFault.TheVariants as fault;
@@ -11,8 +11,7 @@ ghost use Rattle.replica_store.specs.Replicas.{IsReplica, LieIn, no_replica, aft
 
 use bucket_ids::Bucket;
 use document_ids::DocId;
-use entry_joins::{join, joins_are_by_document};
-use entry_maps::{Entry, EntryMap, SharedEntry};
+use entry_joins::{Entry, EntryMap, SharedEntry, join, joins_are_by_document};
 use global_ids::laws::keys_locate;
 use laid_pieces::{LaidPieces, StoreFault};
 use pieces::{Piece, PieceList};

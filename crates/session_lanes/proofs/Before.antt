@@ -16,8 +16,8 @@ use Rattle.lane_journals.specs.declared.event.LaneEvent.{LaneEvent}
 use Rattle.lane_journals.specs.declared.event.LaneEvent.TheVariants as event
 use Rattle.lane_carriage.specs.Carriage.{IsOther, IsCarried, Other}
 use Rattle.lane_completeness.specs.Completeness.{NoneStops}
-use Rattle.lane_wants.specs.Wants.{IsRun, Same, More, IsCutRun}
-use Rattle.lane_states.specs.Growing.{heard_next, announced, stopped_next, started_next}
+use Rattle.lane_completeness.specs.Wants.{IsRun, Same, More, IsCutRun}
+use Rattle.lane_core.specs.Growing.{heard_next, announced, stopped_next, started_next}
 use Rattle.session_settings.specs.declared.setting.Setting.{Setting}
 use Rattle.session_lanes.specs.Lives.{FeedLine, RunsTo, begun_at, IsRunAt, IsRefused, IsCarriedOut, Deed, Announces, Stops, Starts, Runs, Maintains, Does, IsMaintained}
 use Rattle.session_lanes.proofs.CarriedBefore.{IsCarriedThen, carried_then}

@@ -25,11 +25,11 @@ use Rattle.lane_journals.specs.KeptJournals.{IsLegal}
 use Rattle.lane_journals.specs.declared.event.LaneEvent.{LaneEvent}
 use Rattle.lane_journals.specs.declared.event.LaneEvent.TheVariants.{Begun, Closed}
 use Rattle.lane_keeping.specs.LaneKeeping.{setting_of}
-use Rattle.lane_wants.specs.Wants.{IsRun, IsEnd}
+use Rattle.lane_completeness.specs.Wants.{IsRun, IsEnd}
 use Rattle.lane_carriage.specs.Carriage.{IsCarried, Other}
 use Rattle.lane_carriage.specs.Readers.{fate_of, is_returned, receives}
 use Rattle.lane_completeness.specs.Completeness.{AreAnswered, RunSince, NoneStops, IsUndisturbed, AreRules, IsUndisturbedLine, IsDecided, EndsWell}
-use Rattle.lane_states.specs.Growing.{heard_next, last_state}
+use Rattle.lane_core.specs.Growing.{heard_next, last_state}
 use Rattle.lane_core.specs.LaneValues.{LaneValue, drawn}
 use Rattle.session_settings.specs.declared.setting.Setting.{Setting}
 use Rattle.session_lanes.specs.Lives.{FeedLine, RunsTo, begun_at, IsRunAt, IsRefused, IsCarriedOut, Deed, Announces, Stops, Starts, Runs, Maintains, Does, IsLife, outcome_in}

@@ -11,7 +11,7 @@ use Rattle.lane_journals.specs.Readers.{or_else, only_if, held}
 use Rattle.lane_journals.specs.Meanings.{history}
 use Rattle.lane_journals.specs.Places.{state_in}
 use Rattle.lane_journals.specs.declared.event.LaneEvent.{LaneEvent}
-use Rattle.lane_states.specs.Growing.{heard_next, announced}
+use Rattle.lane_core.specs.Growing.{heard_next, announced}
 use Rattle.lane_journals.proofs.Basics.{or_else-cases, only_if-some}
 use Rattle.session_settings.specs.declared.setting.Setting.{Setting}
 use Rattle.session_lanes.specs.Lives.{FeedLine, begun_at, IsRunAt, IsRefused, IsCarriedOut, Deed, Announces, Stops, Starts, Runs, Maintains, Does, IsLife, lines_of, outcome_in}

@@ -11,7 +11,7 @@ use Rattle.lane_journals.specs.Readers.{held}
 use Rattle.lane_journals.specs.Meanings.{history}
 use Rattle.lane_journals.specs.declared.event.LaneEvent.{LaneEvent}
 use Rattle.lane_journals.specs.declared.event.LaneEvent.TheVariants.{Published, Heard}
-use Rattle.lane_states.specs.Growing.{heard_below, announced}
+use Rattle.lane_core.specs.Growing.{heard_below, announced}
 use Rattle.lane_core.specs.LaneValues.{LaneValue, new_value, IsLaneValue}
 use Rattle.session_settings.specs.declared.setting.Setting.{Setting}
 use Rattle.session_lanes.specs.Serving.{bucket_in, IsServing}

@@ -10,7 +10,7 @@ use Rattle.lane_journals.specs.Meanings.{history}
 use Rattle.lane_journals.specs.declared.event.LaneEvent.{LaneEvent}
 use Rattle.lane_journals.specs.declared.event.LaneEvent.TheVariants as event
 use Rattle.lane_keeping.specs.Acting.{IsNoHearing}
-use Rattle.lane_states.specs.Growing.{is_older, heard_next, heard_below, stopped_next, started_next, last_state}
+use Rattle.lane_core.specs.Growing.{is_older, heard_next, heard_below, stopped_next, started_next, last_state}
 use Rattle.upkeep_answers.specs.Spans.{IsUpkeepEvent}
 use Rattle.session_settings.specs.declared.setting.Setting.{Setting}
 use Rattle.session_lanes.specs.Hearings.{deaf_in, WasTold, HeardNewest}

@@ -6,7 +6,7 @@ use Rattle.lane_journals.specs.Meanings.{history}
 use Rattle.lane_journals.specs.declared.event.LaneEvent.{LaneEvent}
 use Rattle.lane_journals.specs.declared.event.LaneEvent.TheVariants.{Refused}
 use Rattle.lane_operations.specs.OperationKeeping.{IsFresh}
-use Rattle.lane_states.specs.Growing.{heard_next}
+use Rattle.lane_core.specs.Growing.{heard_next}
 use Rattle.lane_core.specs.LaneValues.{LaneValue, IsLaneValue, Begins, BeginsAtOwner, Refuses, IsAt}
 use Rattle.lane_core.specs.declared.job.Progress.TheVariants as progress
 use Rattle.session_lanes.specs.Lives.{FeedLine, outcome_in}

@@ -10,7 +10,7 @@ use Rattle.lane_journals.specs.Places.{published_states}
 use Rattle.lane_journals.specs.declared.event.LaneEvent.{LaneEvent}
 use Rattle.lane_journals.specs.declared.event.LaneEvent.TheVariants as event
 use Rattle.lane_operations.specs.OperationKeeping.{IsFresh}
-use Rattle.lane_states.specs.Growing.{announced, stopped_next, started_next, last_state}
+use Rattle.lane_core.specs.Growing.{announced, stopped_next, started_next, last_state}
 use Rattle.session_settings.specs.declared.setting.Setting.{Setting}
 use Rattle.session_lanes.specs.Lives.{Lines, Deed, Announces, Stops, Starts, Runs, Maintains, IsLife, lines_of, IsNone, last_line, AreRising, states_in, newest_in, deed_events, told_events}
 use Rattle.session_lanes.proofs.FirstEvents.{heard_first}

@@ -16,7 +16,7 @@ use Rattle.lane_journals.specs.Meanings.{history, entry_at, is_acked, version_in
 use Rattle.lane_journals.specs.declared.event.LaneEvent.{LaneEvent}
 use Rattle.lane_journals.specs.declared.event.LaneEvent.TheVariants as event
 use Rattle.lane_operations.specs.OperationKeeping.{IsFresh}
-use Rattle.lane_states.specs.Growing.{heard_next, announced, stopped_next, started_next}
+use Rattle.lane_core.specs.Growing.{heard_next, announced, stopped_next, started_next}
 use Rattle.upkeep_answers.specs.Spans.{AreUpkeep}
 use Rattle.session_settings.specs.declared.setting.Setting.{Setting}
 use Rattle.session_lanes.specs.Lives.{FeedLine, IsRunAt, IsRefused, IsCarriedOut, Deed, Announces, Stops, Starts, Runs, Maintains, Does, IsMaintained, outcome_in, told_events}

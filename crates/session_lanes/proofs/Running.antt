@@ -8,7 +8,7 @@ use Rattle.messages.specs.declared.outcome.Outcome.{Outcome}
 use Rattle.lane_journals.specs.declared.event.LaneEvent.{LaneEvent}
 use Rattle.lane_journals.specs.declared.event.LaneEvent.TheVariants.{Closed}
 use Rattle.lane_core.specs.LaneValues.{LaneValue, under_way_of, with_run, IsAt, IsAdvance, EndsAs, IsOutcome, MayClose, line_of, closed_by}
-use Rattle.lane_wants.specs.Wants.{IsRun, Same, More, IsCutRun, IsEnd}
+use Rattle.lane_completeness.specs.Wants.{IsRun, Same, More, IsCutRun, IsEnd}
 use Rattle.lane_core.specs.declared.job.UnderWay.{UnderWay}
 use Rattle.lane_core.specs.declared.job.Progress.{Progress}
 use Rattle.lane_core.specs.declared.job.Progress.TheVariants.{Runs, Over, Short}

@@ -13,7 +13,7 @@ use Rattle.lane_journals.specs.Places.{told}
 use Rattle.lane_journals.specs.declared.event.LaneEvent.{LaneEvent}
 use Rattle.lane_keeping.specs.LaneKeeping.{setting_of}
 use Rattle.lane_operations.specs.OperationKeeping.{IsFresh}
-use Rattle.lane_states.specs.Growing.{announced, stopped_next, started_next, last_state}
+use Rattle.lane_core.specs.Growing.{announced, stopped_next, started_next, last_state}
 use Rattle.lane_core.specs.LaneValues.{LaneValue, IsLaneValue}
 use Rattle.session_settings.specs.declared.setting.Setting.{Setting}
 use Rattle.session_lanes.specs.Lives.{FeedLine, Deed, Announces, Stops, Starts, Runs, Maintains, Does, IsMaintained, IsCarriedOut, lines_of, last_line, AreRising, states_in, newest_in}

@@ -17,7 +17,7 @@ use Rattle.lane_carriage.specs.Readers.{fate_of, is_returned}
 use Rattle.lane_completeness.specs.Causes.{IsMissing, IsLost, ReturnInTurn, IsRunLine}
 use Rattle.lane_completeness.specs.Completeness.{AreRules}
 use Rattle.lane_keeping.specs.LaneKeeping.{setting_of}
-use Rattle.lane_wants.specs.Wants.{IsEnd}
+use Rattle.lane_completeness.specs.Wants.{IsEnd}
 use Rattle.lane_core.specs.LaneValues.{drawn}
 use Rattle.session_settings.specs.declared.setting.Setting.{Setting}
 use Rattle.session_lanes.specs.Lives.{RunsTo, begun_at, Deed, IsLife, lines_of, outcome_in}

@@ -8,7 +8,7 @@ use Rattle.lane_journals.specs.Meanings.{history}
 use Rattle.lane_journals.specs.Places.{published_states}
 use Rattle.lane_journals.specs.declared.event.LaneEvent.{LaneEvent}
 use Rattle.lane_journals.specs.declared.event.LaneEvent.TheVariants as event
-use Rattle.lane_states.specs.Growing.{is_older, heard_next, heard_below, announced, stopped_next, started_next, last_state}
+use Rattle.lane_core.specs.Growing.{is_older, heard_next, heard_below, announced, stopped_next, started_next, last_state}
 use Rattle.session_settings.specs.declared.setting.Setting.{Setting}
 use Rattle.session_lanes.specs.Lives.{Deed, Announces, Stops, Starts, Runs, Maintains, states_in, newest_in, deed_events, told_events}
 

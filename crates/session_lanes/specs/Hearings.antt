@@ -5,7 +5,7 @@ use Rattle.node_sets.specs.Members.{has_node}
 use Rattle.cluster_states.specs.declared.cluster_state.ClusterState.{ClusterState}
 use Rattle.ideal_nodes.specs.Placement.{IsOwner}
 use Rattle.lane_journals.specs.declared.event.LaneEvent.{LaneEvent}
-use Rattle.lane_states.specs.Growing.{last_state}
+use Rattle.lane_core.specs.Growing.{last_state}
 use Rattle.session_settings.specs.declared.setting.Setting.{Setting}
 use Rattle.session_lanes.specs.Lives.{Deed, Announces, newest_in}
 

@@ -7,3 +7,8 @@ pub mod Upkeep
 pub mod Serving
 pub mod Promises
 pub mod Hearings
+-- Passed on, so that the crates above need not list those below.
+pub use Rattle.lane_core.specs.Growing
+pub use Rattle.lane_core.specs.LaneValues
+pub use Rattle.lane_core.specs.Shown
+pub use Rattle.lane_core.specs.Upkept

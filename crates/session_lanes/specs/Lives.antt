@@ -14,10 +14,10 @@ use Rattle.lane_journals.specs.Meanings.{history}
 use Rattle.lane_journals.specs.Places.{state_in}
 use Rattle.lane_journals.specs.declared.event.LaneEvent.{LaneEvent}
 use Rattle.lane_journals.specs.declared.event.LaneEvent.TheVariants.{Published, Begun, Refused, Closed, Stopped, Started}
-use Rattle.lane_states.specs.Growing.{heard_next, announced, stopped_next, started_next, last_state}
+use Rattle.lane_core.specs.Growing.{heard_next, announced, stopped_next, started_next, last_state}
 use Rattle.lane_core.specs.LaneValues.{drawn}
 use Rattle.upkeep_answers.specs.Spans.{AreUpkeep}
-use Rattle.lane_wants.specs.Wants.{IsRun, IsCutRun, IsEnd}
+use Rattle.lane_completeness.specs.Wants.{IsRun, IsCutRun, IsEnd}
 use Rattle.session_settings.specs.declared.setting.Setting.{Setting}
 
 -- ---- one line

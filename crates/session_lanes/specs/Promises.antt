@@ -19,7 +19,7 @@ use Rattle.lane_durability.specs.Durability.{IsDurable, LaterIsNewer, ReadsAreFr
 use Rattle.lane_carriage.specs.Readers.{fate_of, is_returned}
 use Rattle.lane_completeness.specs.Causes.{IsMissing, IsLost}
 use Rattle.lane_core.specs.LaneValues.{LaneValue}
-use Rattle.lane_states.specs.Growing.{last_state}
+use Rattle.lane_core.specs.Growing.{last_state}
 use Rattle.session_settings.specs.declared.setting.Setting.{Setting}
 use Rattle.session_lanes.specs.Lives.{FeedLine, Lines, Deed, Runs, IsLife, outcome_in}
 

@@ -5,7 +5,7 @@ use Rattle.messages.specs.declared.outcome.Outcome.{Outcome}
 use Rattle.lane_journals.specs.declared.event.LaneEvent.{LaneEvent}
 use Rattle.lane_journals.specs.declared.event.LaneEvent.TheVariants.{Closed}
 use Rattle.lane_core.specs.LaneValues.{LaneValue, IsLaneValue, under_way_of}
-use Rattle.lane_wants.specs.Wants.{IsRun}
+use Rattle.lane_completeness.specs.Wants.{IsRun}
 use Rattle.lane_core.specs.declared.job.UnderWay.{UnderWay}
 use Rattle.lane_core.specs.declared.job.Progress.TheVariants.{Runs}
 use Rattle.session_lanes.specs.Lives.{FeedLine, RunsTo, begun_at, IsCarriedOut, outcome_in}

@@ -14,7 +14,7 @@ use Rattle.lane_carriage.specs.Readers.{fate_of, is_returned}
 use Rattle.upkeep_answers.specs.Causes.{first_late, IsCause}
 use Rattle.upkeep_answers.specs.Spans.{later}
 use Rattle.upkeep_answers.specs.declared.answers.Upkeep.TheVariants.{Rested}
-use Rattle.lane_states.specs.Growing.{last_state}
+use Rattle.lane_core.specs.Growing.{last_state}
 use Rattle.lane_core.specs.LaneValues.{LaneValue}
 use Rattle.lane_core.specs.Upkept.{Maintains, IsLaneAtRest}
 use Rattle.session_settings.specs.declared.setting.Setting.{Setting}

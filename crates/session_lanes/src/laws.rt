@@ -15,7 +15,7 @@ ghost use Rattle.lane_journals.specs.declared.event.LaneEvent.TheVariants.{Heard
 ghost use Rattle.lane_keeping.specs.LaneKeeping.{setting_of};
 ghost use Rattle.lane_carriage.specs.Carriage.{IsCarried};
 ghost use Rattle.lane_core.specs.LaneValues.{LaneValue};
-ghost use Rattle.lane_states.specs.Growing.{last_state};
+ghost use Rattle.lane_core.specs.Growing.{last_state};
 ghost use Rattle.session_settings.specs.Settings.{IsSetting};
 ghost use Rattle.session_settings.specs.declared.setting.Setting.{Setting};
 ghost use Rattle.session_lanes.specs.Hearings.{deaf_in, HeardNewest};

@@ -25,6 +25,7 @@ pub mod spans;
 pub mod telling;
 pub mod upkeep;
 
+pub use lane_core::Lane;
 pub use opening::open_lane;
 pub use operating::run_line;
 pub use spans::UpkeepSpan;

@@ -7,7 +7,7 @@ ghost use Rattle.lane_journals.specs.Readers.{held};
 ghost use Rattle.lane_journals.specs.Meanings.{history};
 ghost use Rattle.lane_operations.specs.OperationKeeping.{IsFresh, IsPlainGet};
 ghost use Rattle.lane_core.specs.LaneValues.{IsAt};
-ghost use Rattle.lane_states.specs.Growing.{last_state};
+ghost use Rattle.lane_core.specs.Growing.{last_state};
 ghost use Rattle.lane_core.specs.declared.job.Progress.TheVariants as progress;
 ghost use Rattle.session_lanes.specs.Runs.{IsLineRun, IsFinish};
 

@@ -5,7 +5,7 @@ ghost use Rattle.std.specs.Prelude.{◌≡◌, ◌<◌, true, false, None};
 ghost use Rattle.cluster_states.specs.Publishing.{publish_fault};
 ghost use Rattle.lane_journals.specs.Places.{told};
 ghost use Rattle.lane_keeping.specs.LaneKeeping.{setting_of};
-ghost use Rattle.lane_states.specs.Growing.{announced, stopped_next, started_next};
+ghost use Rattle.lane_core.specs.Growing.{announced, stopped_next, started_next};
 ghost use Rattle.lane_core.specs.LaneValues.{LaneValue, IsLaneValue};
 
 use carriers::Carrier;

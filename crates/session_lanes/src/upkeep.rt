@@ -1,6 +1,6 @@
 ghost use Rattle.std.specs.Prelude.{◌≡◌, None, IsSome, IfOk, OnErr};
 ghost use Rattle.lane_core.specs.LaneValues.{IsLaneValue};
-ghost use Rattle.lane_states.specs.Growing.{last_state};
+ghost use Rattle.lane_core.specs.Growing.{last_state};
 ghost use Rattle.session_lanes.specs.Upkeep.{IsSpan, MayBeUpkept};
 
 use crate::spans::UpkeepSpan;

@@ -3,9 +3,9 @@ use Rattle.std.proofs.Common.{◌≡◌, ◌-◌, ◌+◌, ℕ, Bool, true, fals
 use Rattle.std.proofs.Math.Seq.{take-append_seam}
 use Rattle.carriers.specs.declared.fate.Fate.{Fate}
 use Rattle.carriers.specs.declared.fate.Fate.TheVariants.{Deliver, LoseRequest, LoseReply, Twice, Late}
-use Rattle.messages.specs.declared.decision.Decision.{Decision}
-use Rattle.messages.specs.declared.noted.NotedBody.{NotedBody}
-use Rattle.messages.specs.declared.noted.NotedReply.{NotedReply}
+use Rattle.lane_journals.specs.Decision.{Decision}
+use Rattle.lane_journals.specs.NotedBody.{NotedBody}
+use Rattle.lane_journals.specs.NotedReply.{NotedReply}
 use Rattle.lane_journals.specs.Buckets.{Id, Bucket}
 use Rattle.lane_journals.specs.Stamps.{Stamp}
 use Rattle.lane_journals.specs.Readers.{began, prepared, closed, Preparing, Beginning, Acked}

@@ -5,8 +5,8 @@ use Rattle.std.proofs.Math.Seq.{take-suc}
 use Rattle.std.proofs.lemmas.List.{reverse-append, length-reverse, length-take-le, take-append-drop, take_all}
 use Rattle.lane_journals.specs.KeptJournals.{past}
 use Rattle.carriers.specs.declared.fate.Fate.{Fate}
-use Rattle.messages.specs.declared.noted.NotedBody.{NotedBody}
-use Rattle.messages.specs.declared.noted.NotedReply.{NotedReply}
+use Rattle.lane_journals.specs.NotedBody.{NotedBody}
+use Rattle.lane_journals.specs.NotedReply.{NotedReply}
 use Rattle.lane_journals.specs.Readers.{or_else, only_if}
 use Rattle.lane_journals.specs.declared.event.LaneEvent.{LaneEvent}
 use Rattle.lane_journals.specs.declared.event.LaneEvent.TheVariants as event

@@ -1,7 +1,7 @@
 -- By which events an upkeep lets a journal grow.
 use Rattle.std.specs.Prelude.{◌≡◌, ◌-◌, ℕ, List, [], ◌∷◌, length, take, drop, Some, None}
-use Rattle.messages.specs.declared.noted.NotedBody.{NotedBody}
-use Rattle.messages.specs.declared.noted.NotedBody.TheVariants.{Ask, Read, Store, Apply, Delete, Split, Join, Ready, Activate}
+use Rattle.lane_journals.specs.NotedBody.{NotedBody}
+use Rattle.lane_journals.specs.NotedBody.TheVariants.{Ask, Read, Store, Apply, Delete, Split, Join, Ready, Activate}
 use Rattle.lane_journals.specs.declared.event.LaneEvent.{LaneEvent}
 use Rattle.lane_journals.specs.declared.event.LaneEvent.TheVariants.{Opened, Sent, Delivered, Returned, Decided}
 

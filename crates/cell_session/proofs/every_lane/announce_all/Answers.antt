@@ -2,7 +2,7 @@ use Rattle.std.proofs.Common.{◌≡◌, true, None, subst, refl, arith}
 use Rattle.cluster_states.specs.Publishing.{publish_fault}
 use Rattle.lane_journals.specs.Places.{told}
 use Rattle.lane_keeping.specs.LaneKeeping.{setting_of}
-use Rattle.lane_core.specs.LaneValues.{LaneValue, IsLaneValue}
+use Rattle.session_lanes.specs.LaneValues.{LaneValue, IsLaneValue}
 use Rattle.cell_session.specs.Steps.{after_state}
 use Rattle.cell_session.proofs.Elements.{each_more, each_there, below_none, below_set, below_all}
 use Rattle.cell_session.proofs.every_lane.announce_all.Goals as goal

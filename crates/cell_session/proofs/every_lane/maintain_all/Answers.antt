@@ -1,7 +1,7 @@
 use Rattle.std.proofs.Common.{◌≡◌, None, Some, inr, subst, slice_get}
 use Rattle.std.specs.Option.{IsSome}
-use Rattle.lane_core.specs.LaneValues.{LaneValue}
-use Rattle.lane_states.specs.Growing.{last_state}
+use Rattle.session_lanes.specs.LaneValues.{LaneValue}
+use Rattle.session_lanes.specs.Growing.{last_state}
 use Rattle.cell_session.proofs.Passing.{next_there, passed_cut, passed_more}
 use Rattle.cell_session.proofs.every_lane.maintain_all.Goals as goal
 

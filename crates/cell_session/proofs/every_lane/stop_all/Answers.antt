@@ -1,5 +1,5 @@
 use Rattle.std.proofs.Common.{◌≡◌, true, None, subst, refl, arith}
-use Rattle.lane_core.specs.LaneValues.{LaneValue, IsLaneValue}
+use Rattle.session_lanes.specs.LaneValues.{LaneValue, IsLaneValue}
 use Rattle.cell_session.specs.Steps.{after_stop}
 use Rattle.cell_session.proofs.Elements.{each_more, each_there, below_none, below_set, below_all}
 use Rattle.cell_session.proofs.every_lane.stop_all.Goals as goal

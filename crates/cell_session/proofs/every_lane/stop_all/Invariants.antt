@@ -1,5 +1,5 @@
 use Rattle.std.proofs.Common.{◌≡◌, ◌++◌, map, take, drop}
-use Rattle.lane_core.specs.LaneValues.{IsLaneValue}
+use Rattle.session_lanes.specs.LaneValues.{IsLaneValue}
 use Rattle.cell_session.specs.Steps.{after_stop}
 use Rattle.cell_session.proofs.Elements.{Below}
 use Rattle.cell_session.proofs.every_lane.stop_all.Given as goal

@@ -4,7 +4,7 @@ use Rattle.op_machine.specs.Outcomes.{Asks}
 use Rattle.op_machine.specs.Standings.{next_at}
 use Rattle.lane_states.specs.declared.lane_state.LaneState.{LaneState}
 use Rattle.lane_states.specs.LaneStates.{journal_of}
-use Rattle.lane_wants.specs.Wants.{Same}
+use Rattle.lane_completeness.specs.Wants.{Same}
 use Rattle.lane_states.specs.Steps.{SendsIn, SentIn, IsTold}
 use Rattle.lane_states.proofs.MessageKeys.{message-key}
 use Rattle.lane_states.proofs.RunningSteps.{asks-of, run-same, going-of, wrote-in, sent-in, quiet-on, quiet-same}

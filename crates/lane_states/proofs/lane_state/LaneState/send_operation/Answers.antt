@@ -5,7 +5,7 @@ use Rattle.node_journals.specs.Replaying.{sending}
 use Rattle.lane_carriage.specs.Waits.{numbers}
 use Rattle.lane_states.specs.declared.lane_state.LaneState.{LaneState}
 use Rattle.lane_states.specs.LaneStates.{journal_of}
-use Rattle.lane_wants.specs.Wants.{Same, More}
+use Rattle.lane_completeness.specs.Wants.{Same, More}
 use Rattle.lane_states.specs.Growing.{met_at}
 use Rattle.lane_states.specs.Steps.{GoesIn}
 use Rattle.lane_states.proofs.Going.{IsSentIn, went-by, went-carried}
