@@ -1,5 +1,7 @@
--- `Wants` says what the operation of a line wants next, and how a journal grows by a line.
+-- `Wants` says what the operation of a line wants next, and how a journal grows by a line; `Shortages` with what it ends
+-- before it is prepared.
 pub mod Wants
+pub mod Shortages
 -- Passed on, so that the crates above need not list those below.
 pub use Rattle.lane_operations.proofs.Counting
 pub use Rattle.lane_operations.proofs.Ending
