@@ -1,6 +1,6 @@
 -- What each step of a pass does, whatever becomes of its messages, and that a pass is one step of its machine after the
 -- other.
-use Rattle.std.specs.Prelude.{◌≡◌, ℕ, Bool, true, List, Option, Some, None, MatchBool}
+use Rattle.std.specs.Prelude.{◌≡◌, ◌⊎◌, ℕ, Bool, true, List, Option, Some, None, MatchBool}
 use Rattle.std.specs.Ordering.{nat_cmp}
 use Rattle.std.specs.BTreeMap.{Updates, get}
 use Rattle.bucket_ids.specs.Buckets.{Low}
@@ -19,6 +19,8 @@ use Rattle.upkeep_steps.specs.Turns.{answered, decided, accepted, rounded}
 use Rattle.upkeep_steps.specs.Going.{Forgets, Makes, made_in, rows_made}
 use Rattle.lane_upkeep.specs.declared.owner.Owner.{Owner}
 use Rattle.lane_upkeep.specs.Deciding.{DidAccept}
+use Rattle.lane_upkeep.specs.Maintaining.{AreReturned}
+use Rattle.lane_upkeep.specs.Passing.{IsPassing, PassesOn}
 use Rattle.lane_upkeep.specs.RoundNotes.{NotesRun}
 use Rattle.lane_upkeep.specs.Sending.{Says}
 use Rattle.lane_upkeep.specs.UnderWay.{AreIdeal, view_in, is_taken_as, DidDecide, Comes, MayComeNext}
@@ -91,3 +93,10 @@ pub record IsPass (c e : LaneState) (o : Owner) (given now : List Fate) : Type 0
   pub over : UpkeepPass
   pub ends : Comes e o last over Finished
   pub finished : over.doing ≡ doing.Finished
+
+-- the owner opened its state, where it wasn't opened, and then made a pass; or not all nodes answered, and that was all
+pub record OpensThenPasses (c e : LaneState) (o : Owner) (now : List Fate) : Type 0 where
+  pub middle : LaneState
+  pub fates : List Fate
+  pub opening : PassesOn c middle o
+  pub behind : (IsPassing middle o fates × IsPass middle e o fates now) ⊎ ((AreReturned c middle → ⊥) × (e ≡ middle) × (now ≡ fates))

@@ -2,6 +2,7 @@ ghost use Rattle.std.specs.Prelude.{◌≡◌, true, false, None, Some, IfOk, On
 ghost use Rattle.lane_upkeep.specs.Passing.{IsPassing, PassesOn};
 ghost use Rattle.lane_upkeep.specs.Maintaining.{IsBetween, AreReturned, HasOpened};
 ghost use Rattle.lane_upkeep.specs.Rests.{RestsWhereQuiet};
+ghost use Rattle.lane_upkeep.specs.Taking.{OpensThenPasses};
 ghost use Rattle.lane_states.specs.LaneStates.{journal_of};
 ghost use Rattle.lane_states.specs.Shortages.{NoneIsShort, EndsAtOnce};
 
@@ -72,6 +73,7 @@ pub fn maintain<C: Carrier>(
     ensures planned { C.planned carrier.new ≡ C.planned carrier.old }
     ensures kind { C.takes_plans carrier.new ≡ C.takes_plans carrier.old }
     ensures opened { OnOk result (AreReturned lane.old lane.new → HasOpened lane.new owner.now) }
+    ensures passes { OnOk result (OpensThenPasses lane.old lane.new owner.now (C.given carrier.new)) }
     ensures rests { OnOk result (RestsWhereQuiet (C.given carrier.new) lane.old lane.new) }
 {
     owners_act();

@@ -1,4 +1,4 @@
-use Rattle.std.proofs.Common.{rules}
+use Rattle.std.proofs.Common.{inl, inr, refl, rules}
 use Rattle.lane_upkeep.proofs.Resting.{rests-if}
 use Rattle.lane_upkeep.proofs.maintaining.maintain.Goals as goal
 
@@ -14,3 +14,22 @@ returns-clause-rests g c =
       passing = c.make_pass.ensures.passing;
       does = does;
     })) c.make_pass.ensures.quiet
+
+pub returns-clause-passes : goal.returns-clause-passes
+returns-clause-passes g c =
+    rests-if c.make_pass.result _ _
+    (λ pass. record {
+      middle = c.open_owner.new.lane;
+      fates = g.C.Carrier.given c.open_owner.new.carrier;
+      opening = c.open_owner.ensures.on;
+      behind = inl (search rules, pass);
+    }) c.make_pass.ensures.pass
+
+pub returns-then-not-branch-clause-passes : goal.returns-then-not-branch-clause-passes
+returns-then-not-branch-clause-passes g c =
+    record {
+      middle = c.open_owner.new.lane;
+      fates = g.C.Carrier.given c.open_owner.new.carrier;
+      opening = c.open_owner.ensures.on;
+      behind = inr (c.in_ok-open_owner.ensures.lacking c.if-not-branch.true, refl, refl);
+    }
