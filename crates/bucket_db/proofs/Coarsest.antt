@@ -9,7 +9,9 @@ use Rattle.bucket_ids.specs.Buckets.{Low, IsBucket, has_key, covers, first_child
 use Rattle.bucket_db.specs.Answers.{is_inside, divides, NoneDivided, IsFiner, IsCoarsest}
 use Rattle.bucket_db.specs.Dividing.{IsDivided}
 use Rattle.bucket_db.specs.Rows.{AreBuckets}
-use Rattle.bucket_db.proofs.Counts.{count_cons, count_append, count_one, or_left, or_right, or_none, none_left, none_right, all_append, all_map, any_filter}
+use Rattle.proof_basics.proofs.Lists.{count_cons, all_map}
+use Rattle.bucket_db.proofs.Counts.{count_append, count_one, or_left, or_right, all_append, any_filter}
+use Rattle.proof_basics.proofs.Tests.{or_none, none_left, none_right}
 use Rattle.bucket_db.proofs.Inside.{covers_keys, covers_self, covers_trans, covers_first, covers_second, inside_under, halves, child_covers, same_or_inside}
 
 pub divided_leaf : (b : Low) (ans : List Low) → IsBucket b → divides ans b ≡ false → IsDivided b ans (b ∷ [])

@@ -1,7 +1,9 @@
-pub mod Coarsest
-pub mod Counts
-pub mod Deletes
+-- Shared: other crates cite these.
 pub mod Inside
-pub mod Moves
 pub mod RowLaws
 pub mod RowLists
+-- Of this crate alone.
+mod Coarsest
+mod Counts
+mod Deletes
+mod Moves

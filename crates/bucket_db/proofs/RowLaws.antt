@@ -9,7 +9,7 @@ use Rattle.bucket_ids.specs.Printed.{number_of}
 use Rattle.bucket_db.specs.Changes.{placed, with_row, with_halves, split_at, with_joined, first_half, second_half, CanJoin, IsJoinable, MayJoin}
 use Rattle.bucket_db.specs.Rows.{AreBuckets, AreRows, Rows, buckets_of}
 use Rattle.bucket_db.specs.declared.row.Row.{Row}
-use Rattle.bucket_db.proofs.Counts.{one_if, count_cons, count_at, count_none, count_parts}
+use Rattle.proof_basics.proofs.Lists.{one_if, count_cons, count_at, count_none, count_parts}
 use Rattle.bucket_db.proofs.Inside.{low_of_low, low_below, key_in, key_has, has_low, covers_low, covers_key, covers_own, covers_sibling, first_valid, second_valid, halves, parent_valid, sibling_valid, sibling_differs, key_in_either}
 use Rattle.bucket_db.specs.Order.{AreHalves}
 use Rattle.bucket_db.proofs.Moves.{but_two}

@@ -1,3 +1,6 @@
+-- Shared: other crates cite these.
+pub mod LowBits
 pub mod KeySets
-pub mod Turned
-pub mod HexDigits
+-- Of this crate alone.
+mod Turned
+mod HexDigits

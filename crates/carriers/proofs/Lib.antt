@@ -1,1 +1,1 @@
-pub mod PlanLaws
+mod PlanLaws

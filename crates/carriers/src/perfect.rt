@@ -8,7 +8,7 @@ use std::marker::Model;
 use value_lists::NoMemory;
 
 /// Delivers every message.
-#[derive(Debug, Drop)]
+#[derive(Drop)]
 pub struct PerfectCarrier {
     given: u64,
 }
@@ -55,7 +55,7 @@ impl Carrier for PerfectCarrier {
 }
 
 /// Makes carriers that deliver every message.
-#[derive(Debug, Drop)]
+#[derive(Drop)]
 pub struct PerfectCarriers;
 
 impl Carriers for PerfectCarriers {

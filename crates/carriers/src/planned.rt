@@ -9,14 +9,14 @@ use std::marker::Model;
 use value_lists::NoMemory;
 
 /// A planned fate with the number of the message that gets it.
-#[derive(Clone, Copy, Debug, PartialEq, Eq)]
+#[derive(Clone, Copy, PartialEq, Eq)]
 pub struct Planned {
     pub number: u64,
     pub fate: Fate,
 }
 
 /// Gives each message the fate that is planned for it, and `Deliver` where none is.
-#[derive(Debug, Drop)]
+#[derive(Drop)]
 pub struct PlanCarrier {
     plans: Vec<Planned>,
     /// How many of the planned fates were given.
@@ -167,7 +167,7 @@ impl Carrier for PlanCarrier {
 }
 
 /// Makes carriers that take plans and have none yet.
-#[derive(Debug, Drop)]
+#[derive(Drop)]
 pub struct PlanCarriers;
 
 impl Carriers for PlanCarriers {

@@ -15,35 +15,35 @@ use Rattle.lane_journals.specs.Meanings.{history}
 use Rattle.lane_journals.specs.KeptJournals.{IsLegal}
 use Rattle.lane_carriage.specs.Carriage.{IsCarried}
 use Rattle.lane_keeping.specs.LaneKeeping.{setting_of}
-use Rattle.lane_operations.specs.OperationKeeping.{IsFresh}
-use Rattle.session_lanes.specs.LaneValues.{LaneValue}
+use Rattle.operation_keeping.specs.OperationKeeping.{IsFresh}
+use Rattle.lane_values.specs.LaneValues.{LaneValue}
 use Rattle.reports.specs.ReportText.{usage_text}
 use Rattle.session_settings.specs.Choices.{Chooses}
-use Rattle.session_settings.specs.Settings.{lane_count, IsSetting}
+use Rattle.lane_values.specs.Settings.{lane_count, IsSetting}
 use Rattle.session_settings.specs.declared.choice.Choice.{Choice}
-use Rattle.session_settings.specs.declared.setting.Setting.{Setting}
+use Rattle.lane_values.specs.declared.setting.Setting.{Setting}
 use Rattle.session_settings.proofs.Choosing.{one_choice, chosen_setting}
-use Rattle.session_lanes.specs.Promises.{IsComplete, KeepsWrites}
-use Rattle.session_lanes.specs.Serving.{bucket_in}
-use Rattle.session_lanes.proofs.Living.{in_order}
-use Rattle.cell_session.specs.declared.asked.Asked.{Asked}
+use Rattle.lane_lives.specs.Promises.{IsComplete, KeepsWrites}
+use Rattle.lane_lives.specs.Serving.{bucket_in}
+use Rattle.lane_lives.proofs.Living.{in_order}
+use Rattle.session_cluster.specs.declared.asked.Asked.{Asked}
 use Rattle.cell_session.specs.Causes.{HaveCauses}
-use Rattle.cell_session.specs.Cells.{Cell, journals_of, is_empty}
-use Rattle.cell_session.specs.Deeds.{deeds_of_lane}
+use Rattle.session_cluster.specs.Cells.{Cell, journals_of, is_empty}
+use Rattle.session_cluster.specs.Deeds.{deeds_of_lane}
 use Rattle.cell_session.specs.Dealing.{EndsAs}
 use Rattle.cell_session.specs.Ends.{IfTold, AreFirst, OfFirst, HasLanes, PassesLimit, StopsAt, DealsWith, UsageEnd, Writes}
 use Rattle.cell_session.specs.Hearing.{HaveHeard}
-use Rattle.cell_session.specs.Keeping.{IsKept}
-use Rattle.cell_session.specs.Lanes.{Journal, journal_in, AreLegal, AreDurable, AreInOrder, AreTogether, AreComplete}
+use Rattle.session_cluster.specs.Keeping.{IsKept}
+use Rattle.session_cluster.specs.Lanes.{Journal, journal_in, AreLegal, AreDurable, AreInOrder, AreTogether, AreComplete}
 use Rattle.cell_session.specs.Operations.{IsCommandAt, WereAsked, HaveOutcomes, HaveFates}
-use Rattle.cell_session.specs.Output.{output_of}
+use Rattle.session_cluster.specs.Output.{output_of}
 use Rattle.cell_session.specs.Upkeep.{HaveUpkeeps}
 use Rattle.cell_session.specs.declared.status.Status.{Status}
 use Rattle.cell_session.specs.declared.status.Status.TheVariants as status
 use Rattle.cell_session.proofs.KeptCauses.{AllRefused, AllShort, AllHold, AllHear, kept_causes, kept_heard}
 use Rattle.cell_session.proofs.KeptClauses.{kept_outcomes, kept_fates, kept_together}
-use Rattle.cell_session.proofs.KeptLanes.{in_lanes, kept_legal}
-use Rattle.cell_session.proofs.LaneLists.{journal_is, journal_at}
+use Rattle.session_cluster.proofs.KeptLanes.{in_lanes, kept_legal}
+use Rattle.session_cluster.proofs.LaneLists.{journal_is, journal_at}
 use Rattle.cell_session.proofs.Loops.{appends_nothing, first_none, unopened_ends}
 use Rattle.cell_session.proofs.UpkeepLaws.{none_upkept}
 

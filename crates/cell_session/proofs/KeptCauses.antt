@@ -11,23 +11,23 @@ use Rattle.lane_journals.specs.Readers.{held}
 use Rattle.lane_journals.specs.declared.event.LaneEvent.TheVariants.{Heard}
 use Rattle.lane_carriage.specs.Carriage.{IsCarried}
 use Rattle.lane_keeping.specs.LaneKeeping.{setting_of}
-use Rattle.session_lanes.specs.LaneValues.{LaneValue}
-use Rattle.session_settings.specs.Settings.{IsSetting}
-use Rattle.session_settings.specs.declared.setting.Setting.{Setting}
-use Rattle.session_lanes.specs.Hearings.{deaf_in, HeardNewest}
-use Rattle.session_lanes.specs.Lives.{Deed, IsLife, lines_of, newest_in, outcome_in}
-use Rattle.session_lanes.specs.Promises.{WasRefused, FellShort}
-use Rattle.session_lanes.specs.Serving.{bucket_in}
+use Rattle.lane_values.specs.LaneValues.{LaneValue}
+use Rattle.lane_values.specs.Settings.{IsSetting}
+use Rattle.lane_values.specs.declared.setting.Setting.{Setting}
+use Rattle.lane_lives.specs.Hearings.{deaf_in, HeardNewest}
+use Rattle.lane_lives.specs.Lives.{Deed, IsLife, lines_of, newest_in, outcome_in}
+use Rattle.lane_lives.specs.Promises.{WasRefused, LineFellShort}
+use Rattle.lane_lives.specs.Serving.{bucket_in}
 use Rattle.cell_session.specs.Causes.{HaveCauses}
-use Rattle.cell_session.specs.Cells.{Cell}
-use Rattle.cell_session.specs.Deeds.{deeds_of_lane}
+use Rattle.session_cluster.specs.Cells.{Cell}
+use Rattle.session_cluster.specs.Deeds.{deeds_of_lane}
 use Rattle.cell_session.specs.Hearing.{HaveHeard}
-use Rattle.cell_session.specs.Keeping.{IsKept}
-use Rattle.cell_session.specs.Lanes.{Journal}
+use Rattle.session_cluster.specs.Keeping.{IsKept}
+use Rattle.session_cluster.specs.Lanes.{Journal}
 use Rattle.cell_session.specs.Operations.{WereAsked}
-use Rattle.cell_session.specs.declared.asked.Asked.{Asked}
-use Rattle.cell_session.proofs.KeptLanes.{kept_legal}
-use Rattle.cell_session.proofs.LaneLists.{journal_at}
+use Rattle.session_cluster.specs.declared.asked.Asked.{Asked}
+use Rattle.session_cluster.proofs.KeptLanes.{kept_legal}
+use Rattle.session_cluster.proofs.LaneLists.{journal_at}
 
 -- what is promised of every lane
 abbrev pub AllRefused : Type 0
@@ -36,7 +36,7 @@ AllRefused = (s : Setting) (lane : Low) (deeds : List Deed) (J : Journal) → Is
 
 abbrev pub AllShort : Type 0
 AllShort = (s : Setting) → IsSetting s → (lane : Low) (deeds : List Deed) (J : Journal) (given : List Fate) → IsLife s lane deeds J → IsLegal (setting_of lane s.rules) J → IsCarried given J → (line answered needed absent : ℕ)
-    → outcome_in line J ≡ Some (TooFew answered needed absent) → FellShort given (lines_of deeds) J line answered needed absent
+    → outcome_in line J ≡ Some (TooFew answered needed absent) → LineFellShort given (lines_of deeds) J line answered needed absent
 
 abbrev pub AllHold : Type 0
 AllHold = (s : Setting) (lane : Low) (deeds : List Deed) (J : Journal) → IsLife s lane deeds J → (d : ℕ) → d < 32 → has_node (deaf_in deeds) d ≡ false → held d (history J) ≡ Some (newest_in s deeds).version

@@ -4,21 +4,21 @@ use Rattle.std.proofs.lemmas.List.{length-map}
 use Rattle.carriers.specs.declared.fate.Fate.{Fate}
 use Rattle.doc_types.specs.SchemaCodes.{Types}
 use Rattle.lane_journals.specs.Meanings.{history}
-use Rattle.lane_operations.specs.OperationKeeping.{IsFresh}
-use Rattle.session_settings.specs.declared.setting.Setting.{Setting}
-use Rattle.session_lanes.specs.Lives as life
-use Rattle.session_lanes.specs.Lives.{IsLife, IsNone, deed_events, told_events}
-use Rattle.session_lanes.specs.Serving.{bucket_in}
-use Rattle.session_lanes.proofs.Living.{others_fresh, events_told}
-use Rattle.cell_session.specs.Cells.{Cell, journals_of}
-use Rattle.cell_session.specs.Deeds.{deeds_of_lane}
-use Rattle.cell_session.specs.Keeping.{IsKept}
-use Rattle.cell_session.specs.Lanes.{journal_in, AreTogether}
+use Rattle.operation_keeping.specs.OperationKeeping.{IsFresh}
+use Rattle.lane_values.specs.declared.setting.Setting.{Setting}
+use Rattle.lane_lives.specs.Lives as life
+use Rattle.lane_lives.specs.Lives.{IsLife, IsNone, deed_events, told_events}
+use Rattle.lane_lives.specs.Serving.{bucket_in}
+use Rattle.lane_lives.proofs.Living.{others_fresh, events_told}
+use Rattle.session_cluster.specs.Cells.{Cell, journals_of}
+use Rattle.session_cluster.specs.Deeds.{deeds_of_lane}
+use Rattle.session_cluster.specs.Keeping.{IsKept}
+use Rattle.session_cluster.specs.Lanes.{journal_in, AreTogether}
 use Rattle.cell_session.specs.Operations.{WereAsked, HaveOutcomes, HaveFates}
-use Rattle.cell_session.specs.declared.asked.Asked.{Asked}
-use Rattle.cell_session.proofs.DeedLists.{deeds_together}
-use Rattle.cell_session.proofs.KeptLanes.{lane_there, in_lanes}
-use Rattle.cell_session.proofs.LaneLists.{journal_is, journal_at}
+use Rattle.session_cluster.specs.declared.asked.Asked.{Asked}
+use Rattle.session_cluster.proofs.DeedLists.{deeds_together}
+use Rattle.session_cluster.proofs.KeptLanes.{lane_there, in_lanes}
+use Rattle.session_cluster.proofs.LaneLists.{journal_is, journal_at}
 
 -- a lane that is there lived by the deeds of the lines
 kept_life : (s : Setting) (plans : ℕ → List Fate) (cs : List Asked) (c : Cell) → IsKept s plans cs c → (lane : ℕ) → lane < length (journals_of c) → IsLife s (bucket_in s lane) (deeds_of_lane s lane cs) (journal_in lane (journals_of c))

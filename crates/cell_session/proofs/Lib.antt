@@ -1,20 +1,8 @@
-pub mod Elements
-pub mod LaneLists
-pub mod DeedLists
-pub mod KeptLanes
-pub mod SpanLists
-pub mod SessionSteps
-pub mod Moving
-pub mod UpkeepLaws
-pub mod OutputLaws
-pub mod InLane
-pub mod Passing
-pub mod Openings
-pub mod NodeSizes
-pub mod Reports
-pub mod LongLines
-pub mod KeptClauses
-pub mod KeptCauses
-pub mod Loops
-pub mod Clauses
-pub mod OneAsked
+mod UpkeepLaws
+mod OutputLaws
+mod LongLines
+mod KeptClauses
+mod KeptCauses
+mod Loops
+mod Clauses
+mod OneAsked

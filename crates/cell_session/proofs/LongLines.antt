@@ -2,8 +2,8 @@
 use Rattle.std.proofs.Common.{ℕ, ◌<◌, List, length, refl, arith}
 use Rattle.doc_types.specs.SchemaCodes.{Types}
 use Rattle.io_ends.specs.declared.sizes.TheConstants.{LONGEST}
-use Rattle.cell_session.specs.Asking.{IsAsked}
-use Rattle.cell_session.specs.declared.asked.Asked.TheVariants as command
+use Rattle.session_cluster.specs.Asking.{IsAsked}
+use Rattle.session_cluster.specs.declared.asked.Asked.TheVariants as command
 
 pub long_asked : (types : Types) (bits : ℕ) (bytes : List ℕ) → LONGEST < length bytes → IsAsked types bits bytes command.TooLong
 long_asked types bits bytes long = record { long = λ h. refl; short = λ h. absurd (omega (arith, long, h)) }

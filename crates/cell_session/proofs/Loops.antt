@@ -6,7 +6,7 @@ use Rattle.std.proofs.lemmas.Option.{slice_get_within}
 use Rattle.std.proofs.KnownBytes.{Appends-nil, Appends-trans}
 use Rattle.std.specs.List.{count_by}
 use Rattle.std.specs.Io.KnownBytes.{Appends, Keeps}
-use Rattle.session_lanes.specs.LaneValues.{LaneValue}
+use Rattle.lane_values.specs.LaneValues.{LaneValue}
 use Rattle.io_ends.specs.Causes.{AppendsFront}
 use Rattle.io_ends.specs.Lines.{lines_of, end_of, NoLineFeed}
 use Rattle.io_ends.specs.Reading.{Reading, StandsIn, IsLittle}
@@ -15,24 +15,26 @@ use Rattle.io_ends.specs.declared.next.LimitKind.TheVariants as limit
 use Rattle.io_ends.proofs.FeedPlaces.{NoLineFeed-append}
 use Rattle.io_ends.proofs.ReaderStarts.{start_at}
 use Rattle.doc_types.specs.SchemaCodes.{Types}
-use Rattle.cell_session.specs.Asking.{IsAsked}
+use Rattle.session_cluster.specs.Asking.{IsAsked}
 use Rattle.cell_session.specs.Counting.{is_state, is_maintain, state_lines, maintain_lines, one_more, states_with, maintains_with, counts_with}
 use Rattle.cell_session.specs.declared.counts.Counts.{Counts}
-use Rattle.cell_session.specs.declared.asked.Asked.{Asked}
-use Rattle.cell_session.specs.declared.asked.Asked.TheVariants as command
-use Rattle.cell_session.specs.Answering.{IsRoomier, IsAllOrNothing, StopsAs}
-use Rattle.cell_session.specs.Cells.{Cell}
-use Rattle.cell_session.specs.Keeping.{IsKept, IsReady}
+use Rattle.session_cluster.specs.declared.asked.Asked.{Asked}
+use Rattle.session_cluster.specs.declared.asked.Asked.TheVariants as command
+use Rattle.cell_session.specs.Answering.{StopsAs}
+use Rattle.session_cluster.specs.Steps.{IsAllOrNothing}
+use Rattle.session_cluster.specs.Steps.{IsRoomier}
+use Rattle.session_cluster.specs.Cells.{Cell}
+use Rattle.session_cluster.specs.Keeping.{IsKept, IsReady}
 use Rattle.cell_session.specs.Dealing.{EndsAs}
 use Rattle.cell_session.specs.Ends.{IfTold, AreFirst, IsReadTo, IsReadNear, PassesKind, PassesLimit, StopsAt, Writes}
-use Rattle.cell_session.specs.Output.{output_of, report_in}
+use Rattle.session_cluster.specs.Output.{output_of, report_in}
 use Rattle.cell_session.specs.Reads.{Finishes, Shows, HoldsBack, IsReadEnd}
 use Rattle.carriers.specs.declared.fate.Fate.{Fate}
-use Rattle.session_settings.specs.Settings.{IsSetting}
-use Rattle.session_settings.specs.declared.setting.Setting.{Setting}
+use Rattle.lane_values.specs.Settings.{IsSetting}
+use Rattle.lane_values.specs.declared.setting.Setting.{Setting}
 use Rattle.cell_session.specs.Operations.{IsCommandAt}
 use Rattle.cell_session.specs.SoFar.{IsBehind, IsSoFar}
-use Rattle.cell_session.specs.Steps.{without_room, IsNoted, IsAfter}
+use Rattle.session_cluster.specs.Steps.{without_room, IsSpanNoted, IsAfter}
 use Rattle.cell_session.specs.declared.answering.Stop.{Stop}
 use Rattle.cell_session.specs.declared.answering.Stop.TheVariants as stop
 use Rattle.cell_session.specs.declared.limits.TheConstants.{MOST_LINES, MOST_BYTES, MOST_STATES, MOST_MAINTAINS}
@@ -40,8 +42,8 @@ use Rattle.cell_session.specs.declared.next_command.Step.TheVariants as step
 use Rattle.cell_session.specs.declared.status.Status.{Status}
 use Rattle.cell_session.specs.declared.status.Status.TheVariants as status
 use Rattle.cell_session.proofs.OutputLaws.{output_kept, output_more, roomier_output}
-use Rattle.cell_session.proofs.Elements.{element_seen}
-use Rattle.cell_session.proofs.SessionSteps.{kept_more, kept_roomier}
+use Rattle.session_cluster.proofs.Elements.{element_seen}
+use Rattle.session_cluster.proofs.SessionSteps.{kept_more, kept_roomier}
 use Rattle.cell_session.proofs.UpkeepLaws.{upkept_more, noted_last, cut_last, none_upkept, upkept_at, upkept_roomier}
 
 -- ---- how many lines are read as states, and how many as upkeep
@@ -284,7 +286,7 @@ pub so_far_more : (s : Setting) (types : Types) (plans : ℕ → List Fate) (tex
     → ((t : List ℕ) → StandsIn t reader left → Shows types s.bits t reader (step.Command number c))
     → ((t : List ℕ) → StandsIn t reader left → StandsIn t reader' left')
     → counts_with counts c ≡ Ok counted → number ≡ reader.lines + 1 → reader'.lines ≡ reader.lines + 1
-    → IsAfter s number c old new → IsNoted number c old new → Appends now now' (report_in s old.told number c new)
+    → IsAfter s number c old new → IsSpanNoted number c old new → Appends now now' (report_in s old.told number c new)
     → IsSoFar s types plans text reader' left' counted new before now'
 so_far_more s types plans text left left' reader reader' counts counted old new before now now' number c so lines bytes shows stands with is grows grown noted wrote =
     let cs = so.commands in
@@ -446,7 +448,7 @@ pub fault_ends : (why : Stop) (s : Setting) (types : Types) (plans : ℕ → Lis
 fault_ends why s types plans text left left' reader reader' counts counted old new before now now' number c so lines bytes shows stands with is grows little fault stopped =
     ended (subst (λ w. StopsAs w s number c old new now now') fault stopped)
   where
-    ended : (IsAfter s number c old new) × (IsNoted number c old new × AppendsFront now now' (report_in s old.told number c new)) → EndsAs status.WriteFault s types plans text left' new before now'
+    ended : (IsAfter s number c old new) × (IsSpanNoted number c old new × AppendsFront now now' (report_in s old.told number c new)) → EndsAs status.WriteFault s types plans text left' new before now'
     ended (grown, (noted, (front, (rest, (whole, wrote))))) =
         let cs = so.commands in
         let more = line_more s types plans text left left' reader reader' counts counted old new before now number c so lines bytes shows stands with is grown in

@@ -12,11 +12,11 @@ use Rattle.feed_lines.specs.Meaning.{line_said}
 use Rattle.feed_lines.specs.declared.command.Cause.{Cause}
 use Rattle.feed_lines.specs.declared.command.Command.{Command}
 use Rattle.feed_lines.specs.declared.command.Command.TheVariants as said
-use Rattle.cell_session.specs.Asking.{IsOfText, IsAskedBy, IsAsked}
+use Rattle.session_cluster.specs.Asking.{IsOfText, IsAskedBy, IsAsked}
 use Rattle.cell_session.specs.Ends.{AreFirst}
 use Rattle.cell_session.specs.Operations.{IsCommandAt}
-use Rattle.cell_session.specs.declared.asked.Asked.{Asked}
-use Rattle.cell_session.specs.declared.asked.Asked.TheVariants as asked
+use Rattle.session_cluster.specs.declared.asked.Asked.{Asked}
+use Rattle.session_cluster.specs.declared.asked.Asked.TheVariants as asked
 
 -- ---- a text is refused at one place
 

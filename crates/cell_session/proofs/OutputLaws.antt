@@ -4,27 +4,27 @@ use Rattle.carriers.specs.declared.fate.Fate.{Fate}
 use Rattle.cluster_states.specs.Publishing.{Told}
 use Rattle.messages.specs.declared.outcome.Outcome.{Outcome}
 use Rattle.messages.specs.declared.outcome.Outcome.TheVariants as outcome
-use Rattle.session_lanes.specs.LaneValues.{LaneValue}
+use Rattle.lane_values.specs.LaneValues.{LaneValue}
 use Rattle.lane_journals.specs.KeptJournals.{IsLegal}
 use Rattle.lane_keeping.specs.LaneKeeping.{setting_of}
-use Rattle.session_settings.specs.declared.setting.Setting.{Setting}
-use Rattle.session_lanes.specs.Lives.{outcome_in}
-use Rattle.session_lanes.specs.Serving.{bucket_in}
-use Rattle.session_lanes.proofs.Answered.{found_written}
-use Rattle.session_lanes.proofs.OneLine.{IsLine}
-use Rattle.cell_session.specs.Answering.{IsRoomier}
-use Rattle.cell_session.specs.Cells.{Cell, journals, journals_of}
-use Rattle.cell_session.specs.Deeds.{first_told, told_next, told_by, told_of}
-use Rattle.cell_session.specs.Keeping.{IsKept}
-use Rattle.cell_session.specs.Lanes.{Journal, lane_of_id, journal_in, AreLegal}
-use Rattle.cell_session.specs.Output.{outcome_answer, closed_answer, operation_answer, upkeep_answer, bytes_of, report_in, output_from, output_of}
-use Rattle.cell_session.specs.Spans.{spans_of}
-use Rattle.cell_session.specs.Steps.{without_room, IsAfter}
-use Rattle.cell_session.specs.declared.asked.Asked.{Asked}
-use Rattle.cell_session.specs.declared.asked.Asked.TheVariants as command
-use Rattle.cell_session.proofs.KeptLanes.{kept_legal}
-use Rattle.cell_session.proofs.Moving.{Moves, moves, journals_seen, plans_seen}
-use Rattle.cell_session.proofs.SessionSteps.{LeavesSpans, leaves_spans}
+use Rattle.lane_values.specs.declared.setting.Setting.{Setting}
+use Rattle.lane_lives.specs.Lives.{outcome_in}
+use Rattle.lane_lives.specs.Serving.{bucket_in}
+use Rattle.lane_lives.proofs.Answered.{found_written}
+use Rattle.lane_lives.proofs.OneLine.{IsLine}
+use Rattle.session_cluster.specs.Steps.{IsRoomier}
+use Rattle.session_cluster.specs.Cells.{Cell, journals, journals_of}
+use Rattle.session_cluster.specs.Deeds.{first_told, told_next, told_by, told_of}
+use Rattle.session_cluster.specs.Keeping.{IsKept}
+use Rattle.session_cluster.specs.Lanes.{Journal, lane_of_id, journal_in, AreLegal}
+use Rattle.session_cluster.specs.Output.{outcome_answer, closed_answer, operation_answer, upkeep_answer, bytes_of, report_in, output_from, output_of}
+use Rattle.session_cluster.specs.Spans.{spans_of}
+use Rattle.session_cluster.specs.Steps.{without_room, IsAfter}
+use Rattle.session_cluster.specs.declared.asked.Asked.{Asked}
+use Rattle.session_cluster.specs.declared.asked.Asked.TheVariants as command
+use Rattle.session_cluster.proofs.KeptLanes.{kept_legal}
+use Rattle.session_cluster.proofs.Moving.{Moves, moves, journals_seen, plans_seen}
+use Rattle.session_cluster.proofs.SessionSteps.{LeavesSpans, leaves_spans}
 
 -- an earlier line's answer stays
 closed_same : (s : Setting) (lane k j : ℕ) (J K : Journal) (o : Option Outcome) → IsLegal (setting_of (bucket_in s lane) s.rules) J → IsLine k J K → outcome_in j J ≡ o → closed_answer o K ≡ closed_answer o J

@@ -14,29 +14,29 @@ use Rattle.lane_journals.specs.declared.event.LaneEvent.{LaneEvent}
 use Rattle.distributor_part.specs.declared.rules.Rules.{Rules}
 use Rattle.lane_keeping.specs.LaneKeeping.{setting_of}
 use Rattle.lane_rest.specs.Rest.{IsAtRest}
-use Rattle.session_lanes.specs.LaneValues.{LaneValue, IsLaneValue}
-use Rattle.session_lanes.specs.Upkept.{IsLaneAtRest}
-use Rattle.session_settings.specs.declared.setting.Setting.{Setting}
-use Rattle.session_lanes.specs.Lives.{Deed, Announces, Stops, Starts, Maintains, IsMaintained}
-use Rattle.session_lanes.specs.Serving.{bucket_in}
-use Rattle.session_lanes.specs.Upkeep.{IsSpan, Stands}
-use Rattle.session_lanes.specs.declared.spans.UpkeepSpan.{UpkeepSpan}
-use Rattle.session_lanes.proofs.Before.{Grown, grown_deed, grown_line}
-use Rattle.session_lanes.proofs.Upkept.{pass_made}
-use Rattle.cell_session.specs.Cells.{Cell}
-use Rattle.cell_session.specs.Deeds.{deeds_of_lane}
-use Rattle.cell_session.specs.Keeping.{IsKept}
-use Rattle.cell_session.specs.Lanes.{lane_of_id}
-use Rattle.cell_session.specs.Spans.{spans_of, span_in}
-use Rattle.cell_session.specs.Steps.{with_room, after_state, after_stop, after_start, IsTold, MayHavePassed, MayHaveAllPassed, HasSpans, IsNoted, IsAfter}
+use Rattle.lane_values.specs.LaneValues.{LaneValue, IsLaneValue}
+use Rattle.lane_values.specs.Upkept.{IsLaneAtRest}
+use Rattle.lane_values.specs.declared.setting.Setting.{Setting}
+use Rattle.lane_lives.specs.Lives.{Deed, Announces, Stops, Starts, Maintains, IsMaintained}
+use Rattle.lane_lives.specs.Serving.{bucket_in}
+use Rattle.lane_lives.specs.Upkeep.{IsSpan, SpanStands}
+use Rattle.lane_lives.specs.declared.spans.UpkeepSpan.{UpkeepSpan}
+use Rattle.lane_lives.proofs.Before.{Grown, grown_deed, grown_line}
+use Rattle.lane_lives.proofs.Upkept.{pass_made}
+use Rattle.session_cluster.specs.Cells.{Cell}
+use Rattle.session_cluster.specs.Deeds.{deeds_of_lane}
+use Rattle.session_cluster.specs.Keeping.{IsKept}
+use Rattle.session_cluster.specs.Lanes.{lane_of_id}
+use Rattle.session_cluster.specs.Spans.{spans_of, span_in}
+use Rattle.session_cluster.specs.Steps.{with_room, after_state, after_stop, after_start, IsStateTold, MayHavePassed, MayHaveAllPassed, HasSpans, IsSpanNoted, IsAfter}
 use Rattle.cell_session.specs.Upkeep.{HasStood, WasCut, AsksAt, AreUpkept}
-use Rattle.cell_session.specs.declared.asked.Asked.{Asked}
-use Rattle.cell_session.specs.declared.asked.Asked.TheVariants as command
+use Rattle.session_cluster.specs.declared.asked.Asked.{Asked}
+use Rattle.session_cluster.specs.declared.asked.Asked.TheVariants as command
 use Rattle.cell_session.specs.declared.status.Status.{Status}
 use Rattle.cell_session.specs.declared.status.Status.TheVariants as status
-use Rattle.cell_session.proofs.Elements.{element_set, element_map}
-use Rattle.cell_session.proofs.SessionSteps.{lane_was, passed_legal, noted_after, leaves_spans}
-use Rattle.cell_session.proofs.SpanLists.{spans_own}
+use Rattle.session_cluster.proofs.Elements.{element_set, element_map}
+use Rattle.session_cluster.proofs.SessionSteps.{lane_was, passed_legal, noted_after, leaves_spans}
+use Rattle.session_cluster.proofs.SpanLists.{spans_own}
 
 -- ---- each lane's journal grew
 
@@ -70,7 +70,7 @@ grew_all s vs ws lane w d at =
     let was = lane_was vs ws lane w d.count at in
     (was.0, (was.1, grew_passed s was.0 w (d.each lane was.0 w was.1 at)))
 
-grew_told : (s : Setting) (o : Option PublishFault) (state : ClusterState) (deaf : ℕ) (old new : Cell) (k : ℕ) → IsTold k o state deaf old new → (lane : ℕ) (w : LaneValue) → slice_get new.lanes lane ≡ Some w → GrewFrom old.lanes lane w
+grew_told : (s : Setting) (o : Option PublishFault) (state : ClusterState) (deaf : ℕ) (old new : Cell) (k : ℕ) → IsStateTold k o state deaf old new → (lane : ℕ) (w : LaneValue) → slice_get new.lanes lane ≡ Some w → GrewFrom old.lanes lane w
 grew_told s None state deaf old new k d lane w =
     grew_each (after_state state deaf) (λ v. grown_deed _ s v.lane (Announces state deaf) v.journal (after_state state deaf v).journal refl (grown_itself _)) old.lanes new.lanes lane w (ap (λ (x : Cell). x.lanes) d.now)
 grew_told s (Some why) state deaf old new k d lane w = grew_each with_room (λ v. grown_itself v.journal) old.lanes new.lanes lane w (ap (λ (x : Cell). x.lanes) d)
@@ -95,7 +95,7 @@ grew_after s command.Maintain old new k now lane w = grew_all s old.lanes new.la
 
 -- ---- a span stands on
 
-stands_on : (s : Setting) (lane : Low) (deeds : List Deed) (J K : List LaneEvent) (span : UpkeepSpan) → Stands s lane deeds J span → Grown K J → Stands s lane deeds K span
+stands_on : (s : Setting) (lane : Low) (deeds : List Deed) (J K : List LaneEvent) (span : UpkeepSpan) → SpanStands s lane deeds J span → Grown K J → SpanStands s lane deeds K span
 stands_on s lane deeds J K span h g = record {
   before = h.before;
   after = h.after;
@@ -121,7 +121,7 @@ rest_in b r w lane rules h =
     (subst (λ (l : Low). IsAtRest (setting_of l w.rules) (w.rules).searchable (w.rules).split_at w.journal) lane h)
 
 -- it ends within the journal
-stands_within : (s : Setting) (lane : Low) (deeds : List Deed) (J : List LaneEvent) (span : UpkeepSpan) → Stands s lane deeds J span → span.to ≤ length J
+stands_within : (s : Setting) (lane : Low) (deeds : List Deed) (J : List LaneEvent) (span : UpkeepSpan) → SpanStands s lane deeds J span → span.to ≤ length J
 stands_within s lane deeds J span h = omega (arith, h.to, ap length h.whole, length-append h.later h.after)
 
 some_is : {A : Type 0} {x y : A} → Some x ≡ Some y → x ≡ y
@@ -335,8 +335,8 @@ module _ (s : Setting) (plans : ℕ → List Fate) (cs : List Asked) (c : Asked)
 -- ---- the last line
 
 -- a line that was noted
-pub noted_last : (s : Setting) (c : Asked) (old new : Cell) (k : ℕ) (end : Status) → IsNoted k c old new → c ≡ command.Maintain → HasSpans k old new ⊎ ((end ≡ status.NoMemory) × (new.upkeeps ≡ old.upkeeps))
-noted_last s c old new k end noted own = inl (subst (λ (x : Asked). IsNoted k x old new) own noted)
+pub noted_last : (s : Setting) (c : Asked) (old new : Cell) (k : ℕ) (end : Status) → IsSpanNoted k c old new → c ≡ command.Maintain → HasSpans k old new ⊎ ((end ≡ status.NoMemory) × (new.upkeeps ≡ old.upkeeps))
+noted_last s c old new k end noted own = inl (subst (λ (x : Asked). IsSpanNoted k x old new) own noted)
 
 -- or that want of memory cut
 pub cut_last : (s : Setting) (c : Asked) (old new : Cell) (k : ℕ) → IsAfter s k c old new → c ≡ command.Maintain → HasSpans k old new ⊎ ((status.NoMemory ≡ status.NoMemory) × (new.upkeeps ≡ old.upkeeps))
@@ -388,7 +388,7 @@ upkept_roomier s cs old new same seen so = record {
       count = stood.count;
       stand = λ lane w span here there.
           let v = seen lane w here in
-          subst (λ J. Stands s (bucket_in s lane) (deeds_of_lane s lane (take at cs)) J span) (sym v.1.1) (stood.stand lane v.0 span v.1.0 there);
+          subst (λ J. SpanStands s (bucket_in s lane) (deeds_of_lane s lane (take at cs)) J span) (sym v.1.1) (stood.stand lane v.0 span v.1.0 there);
     })
     | inr cut ↦ inr (record { memory = cut.memory; last = cut.last; none = ap (spans_of (suc at)) same ∙ cut.none })
   ];

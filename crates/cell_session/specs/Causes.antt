@@ -2,14 +2,14 @@
 use Rattle.std.specs.Prelude.{◌≡◌, ℕ, List, Option, Some, slice_get}
 use Rattle.doc_types.specs.SchemaCodes.{Types}
 use Rattle.messages.specs.declared.outcome.Outcome.TheVariants.{TooFew, OwnedElsewhere}
-use Rattle.session_lanes.specs.LaneValues.{LaneValue}
-use Rattle.session_settings.specs.declared.setting.Setting.{Setting}
-use Rattle.session_lanes.specs.Lives.{lines_of, outcome_in}
-use Rattle.session_lanes.specs.Promises.{WasRefused, FellShort}
-use Rattle.session_lanes.specs.Serving.{bucket_in}
-use Rattle.cell_session.specs.Deeds.{deeds_of_lane}
+use Rattle.lane_values.specs.LaneValues.{LaneValue}
+use Rattle.lane_values.specs.declared.setting.Setting.{Setting}
+use Rattle.lane_lives.specs.Lives.{lines_of, outcome_in}
+use Rattle.lane_lives.specs.Promises.{WasRefused, LineFellShort}
+use Rattle.lane_lives.specs.Serving.{bucket_in}
+use Rattle.session_cluster.specs.Deeds.{deeds_of_lane}
 use Rattle.cell_session.specs.Operations.{WereAsked}
-use Rattle.cell_session.specs.declared.asked.Asked.{Asked}
+use Rattle.session_cluster.specs.declared.asked.Asked.{Asked}
 
 pub record HaveCauses (s : Setting) (types : Types) (text : Option (List ℕ)) (dealt : ℕ) (vs : List LaneValue) : Type 0 where
   pub asked : List Asked
@@ -23,4 +23,4 @@ pub record HaveCauses (s : Setting) (types : Types) (text : Option (List ℕ)) (
   -- state; where nothing came back, that is by the fate of the message, or as the node was stopped
   pub short : (lane : ℕ) (v : LaneValue) → slice_get vs lane ≡ Some v → (line answered needed absent : ℕ)
       → outcome_in line v.journal ≡ Some (TooFew answered needed absent)
-      → FellShort v.given (lines_of (deeds_of_lane s lane asked)) v.journal line answered needed absent
+      → LineFellShort v.given (lines_of (deeds_of_lane s lane asked)) v.journal line answered needed absent

@@ -3,11 +3,11 @@ use Rattle.std.specs.Prelude.{◌≡◌, ◌⊎◌, ℕ, List, [], length, Optio
 use Rattle.std.specs.Io.KnownBytes.{Keeps}
 use Rattle.carriers.specs.declared.fate.Fate.{Fate}
 use Rattle.doc_types.specs.SchemaCodes.{Types}
-use Rattle.session_settings.specs.declared.setting.Setting.{Setting}
-use Rattle.cell_session.specs.declared.asked.Asked.{Asked}
-use Rattle.cell_session.specs.Cells.{Cell}
+use Rattle.lane_values.specs.declared.setting.Setting.{Setting}
+use Rattle.session_cluster.specs.declared.asked.Asked.{Asked}
+use Rattle.session_cluster.specs.Cells.{Cell}
 use Rattle.cell_session.specs.Ends.{IfTold, AreFirst, StopsAt, Writes}
-use Rattle.cell_session.specs.Keeping.{IsKept}
+use Rattle.session_cluster.specs.Keeping.{IsKept}
 use Rattle.cell_session.specs.Upkeep.{AreUpkept}
 use Rattle.cell_session.specs.declared.status.Status.{Status}
 use Rattle.cell_session.specs.declared.status.Status.TheVariants as status

@@ -8,17 +8,17 @@ use Rattle.io_ends.specs.declared.next.LimitKind.{LimitKind}
 use Rattle.io_ends.specs.declared.next.LimitKind.TheVariants as limit
 use Rattle.io_ends.specs.declared.sizes.TheConstants.{PIECE}
 use Rattle.doc_types.specs.SchemaCodes.{Types}
-use Rattle.cell_session.specs.Asking.{IsAsked}
+use Rattle.session_cluster.specs.Asking.{IsAsked}
 use Rattle.cell_session.specs.Counting.{is_state, is_maintain, state_lines, maintain_lines}
 use Rattle.cell_session.specs.Operations.{IsCommandAt}
-use Rattle.cell_session.specs.declared.asked.Asked.{Asked}
+use Rattle.session_cluster.specs.declared.asked.Asked.{Asked}
 use Rattle.reports.specs.ReportText.{usage_text}
-use Rattle.cell_session.specs.Cells.{Cell}
-use Rattle.cell_session.specs.Deeds.{told_of}
-use Rattle.cell_session.specs.Output.{report_in, output_of}
-use Rattle.cell_session.specs.Lanes.{Journal}
-use Rattle.session_settings.specs.Settings.{lane_count}
-use Rattle.session_settings.specs.declared.setting.Setting.{Setting}
+use Rattle.session_cluster.specs.Cells.{Cell}
+use Rattle.session_cluster.specs.Deeds.{told_of}
+use Rattle.session_cluster.specs.Output.{report_in, output_of}
+use Rattle.session_cluster.specs.Lanes.{Journal}
+use Rattle.lane_values.specs.Settings.{lane_count}
+use Rattle.lane_values.specs.declared.setting.Setting.{Setting}
 use Rattle.cell_session.specs.declared.limits.TheConstants.{MOST_LINES, MOST_BYTES, MOST_STATES, MOST_MAINTAINS}
 use Rattle.cell_session.specs.declared.status.Status.{Status}
 use Rattle.cell_session.specs.declared.status.Status.TheVariants as status

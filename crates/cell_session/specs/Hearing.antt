@@ -6,14 +6,14 @@ use Rattle.lane_journals.specs.Meanings.{history}
 use Rattle.lane_journals.specs.Readers.{held}
 use Rattle.lane_journals.specs.declared.event.LaneEvent.{LaneEvent}
 use Rattle.lane_journals.specs.declared.event.LaneEvent.TheVariants.{Heard}
-use Rattle.session_lanes.specs.LaneValues.{LaneValue}
-use Rattle.session_settings.specs.declared.setting.Setting.{Setting}
-use Rattle.session_lanes.specs.Hearings.{deaf_in, HeardNewest}
-use Rattle.session_lanes.specs.Lives.{newest_in}
-use Rattle.session_lanes.specs.Serving.{bucket_in}
-use Rattle.cell_session.specs.Deeds.{deeds_of_lane}
+use Rattle.lane_values.specs.LaneValues.{LaneValue}
+use Rattle.lane_values.specs.declared.setting.Setting.{Setting}
+use Rattle.lane_lives.specs.Hearings.{deaf_in, HeardNewest}
+use Rattle.lane_lives.specs.Lives.{newest_in}
+use Rattle.lane_lives.specs.Serving.{bucket_in}
+use Rattle.session_cluster.specs.Deeds.{deeds_of_lane}
 use Rattle.cell_session.specs.Operations.{WereAsked}
-use Rattle.cell_session.specs.declared.asked.Asked.{Asked}
+use Rattle.session_cluster.specs.declared.asked.Asked.{Asked}
 
 pub record HaveHeard (s : Setting) (types : Types) (text : Option (List ℕ)) (dealt : ℕ) (vs : List LaneValue) : Type 0 where
   pub asked : List Asked

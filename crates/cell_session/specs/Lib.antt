@@ -1,21 +1,11 @@
 -- For a reader: Cells, Lanes, Deeds, Operations, Upkeep, Output and Ends. The others serve the calls below the top one.
 pub mod StatusNumbers
-pub mod Cells
-pub mod Lanes
-pub mod Asking
 pub mod Counting
-pub mod Deeds
 pub mod Operations
-pub mod Spans
 pub mod Upkeep
 pub mod Causes
 pub mod Hearing
-pub mod Output
 pub mod Ends
-pub mod Sizes
-pub mod Rows
-pub mod Keeping
-pub mod Steps
 pub mod Answering
 pub mod Reads
 pub mod Dealing

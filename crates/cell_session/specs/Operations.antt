@@ -5,16 +5,16 @@ use Rattle.carriers.specs.declared.fate.Fate.{Fate}
 use Rattle.doc_types.specs.SchemaCodes.{Types}
 use Rattle.lane_journals.specs.Meanings.{history}
 use Rattle.lane_carriage.specs.Carriage.{IsCarried}
-use Rattle.session_lanes.specs.LaneValues.{LaneValue}
-use Rattle.lane_operations.specs.OperationKeeping.{IsFresh}
-use Rattle.session_settings.specs.declared.setting.Setting.{Setting}
-use Rattle.session_lanes.specs.Lives as life
-use Rattle.session_lanes.specs.Lives.{IsLife, IsNone}
-use Rattle.session_lanes.specs.Serving.{bucket_in}
-use Rattle.cell_session.specs.Asking.{IsAsked}
-use Rattle.cell_session.specs.Deeds.{deeds_of_lane, planned_for}
-use Rattle.cell_session.specs.Lanes.{Journal, journal_in}
-use Rattle.cell_session.specs.declared.asked.Asked.{Asked}
+use Rattle.lane_values.specs.LaneValues.{LaneValue}
+use Rattle.operation_keeping.specs.OperationKeeping.{IsFresh}
+use Rattle.lane_values.specs.declared.setting.Setting.{Setting}
+use Rattle.lane_lives.specs.Lives as life
+use Rattle.lane_lives.specs.Lives.{IsLife, IsNone}
+use Rattle.lane_lives.specs.Serving.{bucket_in}
+use Rattle.session_cluster.specs.Asking.{IsAsked}
+use Rattle.session_cluster.specs.Deeds.{deeds_of_lane, planned_for}
+use Rattle.session_cluster.specs.Lanes.{Journal, journal_in}
+use Rattle.session_cluster.specs.declared.asked.Asked.{Asked}
 
 -- ---- what they asked for
 

@@ -4,7 +4,7 @@ use Rattle.io_ends.specs.Causes.{HasRisen}
 use Rattle.io_ends.specs.Lines.{lines_of, NoLineFeed}
 use Rattle.io_ends.specs.Reading.{Reading, Grows, IsLittle, IsWithin, Reaches}
 use Rattle.doc_types.specs.SchemaCodes.{Types}
-use Rattle.cell_session.specs.Asking.{IsAsked, IsOwnAsked}
+use Rattle.session_cluster.specs.Asking.{IsAsked, IsOwnAsked}
 use Rattle.cell_session.specs.declared.next_command.Step.{Step}
 use Rattle.cell_session.specs.declared.next_command.Step.TheVariants as step
 use Rattle.cell_session.specs.declared.status.Status.{Status}

@@ -4,17 +4,17 @@ use Rattle.std.specs.Io.KnownBytes.{Appends}
 use Rattle.carriers.specs.declared.fate.Fate.{Fate}
 use Rattle.io_ends.specs.Reading.{Reading, StandsIn}
 use Rattle.doc_types.specs.SchemaCodes.{Types}
-use Rattle.session_settings.specs.Settings.{IsSetting}
-use Rattle.session_settings.specs.declared.setting.Setting.{Setting}
-use Rattle.cell_session.specs.declared.asked.Asked.{Asked}
+use Rattle.lane_values.specs.Settings.{IsSetting}
+use Rattle.lane_values.specs.declared.setting.Setting.{Setting}
+use Rattle.session_cluster.specs.declared.asked.Asked.{Asked}
 use Rattle.cell_session.specs.declared.limits.TheConstants.{MOST_STATES, MOST_MAINTAINS}
 use Rattle.cell_session.specs.declared.counts.Counts.{Counts}
 use Rattle.cell_session.specs.declared.status.Status.TheVariants as status
 use Rattle.cell_session.specs.Counting.{state_lines, maintain_lines}
-use Rattle.cell_session.specs.Cells.{Cell}
+use Rattle.session_cluster.specs.Cells.{Cell}
 use Rattle.cell_session.specs.Ends.{IfTold, AreFirst}
-use Rattle.cell_session.specs.Keeping.{IsKept}
-use Rattle.cell_session.specs.Output.{output_of}
+use Rattle.session_cluster.specs.Keeping.{IsKept}
+use Rattle.session_cluster.specs.Output.{output_of}
 use Rattle.cell_session.specs.Upkeep.{AreUpkept}
 
 -- the lines are the first ones of the text, and the reader stands behind them

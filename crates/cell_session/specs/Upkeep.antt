@@ -1,18 +1,18 @@
 -- What became of the lines that asked for upkeep.
 use Rattle.std.specs.Prelude.{◌≡◌, ◌<◌, ◌≤◌, ◌⊎◌, ℕ, suc, List, length, take, Option, None, Some, IsSome, slice_get}
 use Rattle.doc_types.specs.SchemaCodes.{Types}
-use Rattle.session_lanes.specs.LaneValues.{LaneValue}
-use Rattle.session_settings.specs.Settings.{lane_count}
-use Rattle.session_settings.specs.declared.setting.Setting.{Setting}
-use Rattle.session_lanes.specs.Serving.{bucket_in}
-use Rattle.session_lanes.specs.Upkeep.{Stands}
-use Rattle.session_lanes.specs.declared.spans.UpkeepSpan.{UpkeepSpan}
-use Rattle.cell_session.specs.Cells.{Cell}
-use Rattle.cell_session.specs.Deeds.{deeds_of_lane}
+use Rattle.lane_values.specs.LaneValues.{LaneValue}
+use Rattle.lane_values.specs.Settings.{lane_count}
+use Rattle.lane_values.specs.declared.setting.Setting.{Setting}
+use Rattle.lane_lives.specs.Serving.{bucket_in}
+use Rattle.lane_lives.specs.Upkeep.{SpanStands}
+use Rattle.lane_lives.specs.declared.spans.UpkeepSpan.{UpkeepSpan}
+use Rattle.session_cluster.specs.Cells.{Cell}
+use Rattle.session_cluster.specs.Deeds.{deeds_of_lane}
 use Rattle.cell_session.specs.Operations.{WereAsked}
-use Rattle.cell_session.specs.Spans.{spans_of, span_in}
-use Rattle.cell_session.specs.declared.asked.Asked.{Asked}
-use Rattle.cell_session.specs.declared.asked.Asked.TheVariants as command
+use Rattle.session_cluster.specs.Spans.{spans_of, span_in}
+use Rattle.session_cluster.specs.declared.asked.Asked.{Asked}
+use Rattle.session_cluster.specs.declared.asked.Asked.TheVariants as command
 use Rattle.cell_session.specs.declared.status.Status.{Status}
 use Rattle.cell_session.specs.declared.status.Status.TheVariants as status
 
@@ -24,7 +24,7 @@ pub record HasStood (s : Setting) (earlier : List Asked) (line : ℕ) (c : Cell)
   pub are : spans_of line c.upkeeps ≡ Some spans
   pub count : length spans ≡ lane_count s
   pub stand : (lane : ℕ) (v : LaneValue) (span : UpkeepSpan) → slice_get c.lanes lane ≡ Some v → slice_get spans lane ≡ Some span
-      → Stands s (bucket_in s lane) (deeds_of_lane s lane earlier) v.journal span
+      → SpanStands s (bucket_in s lane) (deeds_of_lane s lane earlier) v.journal span
 
 -- memory wanted as it was the last line
 pub record WasCut (end : Status) (asked : List Asked) (line : ℕ) (c : Cell) : Type 0 where

@@ -2,18 +2,18 @@ ghost use Rattle.std.specs.Prelude.{◌≡◌, ◌≤◌, IfOk, OnOk, IfErr};
 ghost use Rattle.std.specs.Io.KnownBytes.{Appends};
 ghost use Rattle.io_ends.specs.Causes.{HasRisen};
 ghost use Rattle.cell_session.specs.Answering.{StopsAs};
-ghost use Rattle.cell_session.specs.Asking.{IsOwnAsked};
-ghost use Rattle.cell_session.specs.Output.{bytes_of, report_in};
-ghost use Rattle.cell_session.specs.Keeping.{IsReady};
-ghost use Rattle.cell_session.specs.Steps.{IsAfter, IsNoted};
+ghost use Rattle.session_cluster.specs.Asking.{IsOwnAsked};
+ghost use Rattle.session_cluster.specs.Output.{bytes_of, report_in};
+ghost use Rattle.session_cluster.specs.Keeping.{IsReady};
+ghost use Rattle.session_cluster.specs.Steps.{IsAfter, IsSpanNoted};
 ghost use Rattle.cell_session.specs.declared.answering.Stop.TheVariants as stop;
 
-use crate::asked::Asked;
-use crate::cluster::Cluster;
 use carriers::Carrier;
 use io_ends::{Sink, WriteFault, write_all};
+use lane_values::Setting;
 use reports::{Answer, report};
-use session_settings::Setting;
+use session_cluster::asked::Asked;
+use session_cluster::cluster::Cluster;
 use std::alloc::Global;
 use thiserror::Error;
 use value_lists::NoMemory;
@@ -55,7 +55,7 @@ pub fn answer_line<K: Sink, C: Carrier + Drop>(
     requires ready { IsReady setting.now line cluster.old }
     requires own { IsOwnAsked setting.now.bits command }
     ensures dealt { OnOk result (IsAfter setting.now line command cluster.old cluster.new) }
-    ensures noted { OnOk result (IsNoted line command cluster.old cluster.new) }
+    ensures noted { OnOk result (IsSpanNoted line command cluster.old cluster.new) }
     ensures written { OnOk result (Appends (K.written sink.old) (K.written sink.new)
         (report_in setting.now cluster.old.told line command cluster.new)) }
     ensures stopped { IfErr result (λ why.

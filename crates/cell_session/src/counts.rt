@@ -2,12 +2,12 @@ ghost use Rattle.std.specs.Prelude.{◌≡◌, ◌≤◌};
 ghost use Rattle.cell_session.specs.Counting.{one_more, states_with, maintains_with, counts_with};
 ghost use Rattle.cell_session.specs.declared.limits.TheConstants.{MOST_STATES, MOST_MAINTAINS};
 
-use crate::asked::Asked;
 use crate::limits::{MOST_MAINTAINS, MOST_STATES};
 use io_ends::LimitKind;
+use session_cluster::asked::Asked;
 
 /// How many lines were read as states, and how many as upkeep.
-#[derive(Clone, Copy, Debug, PartialEq, Eq)]
+#[derive(Clone, Copy, PartialEq, Eq)]
 pub struct Counts {
     pub states: u8,
     pub maintains: u8,

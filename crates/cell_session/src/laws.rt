@@ -2,9 +2,9 @@
 
 ghost use Rattle.std.specs.Prelude.{◌≡◌, ℕ, List, length};
 ghost use Rattle.doc_types.specs.SchemaCodes.{Types};
-ghost use Rattle.cell_session.specs.Asking.{IsAsked};
+ghost use Rattle.session_cluster.specs.Asking.{IsAsked};
 ghost use Rattle.cell_session.specs.Ends.{AreFirst};
-ghost use Rattle.cell_session.specs.declared.asked.Asked.{Asked};
+ghost use Rattle.session_cluster.specs.declared.asked.Asked.{Asked};
 
 /// The bytes of a line ask for one thing, so the first so many lines of a text ask for these things and no others.
 pub fn lines_ask_for_one_thing()

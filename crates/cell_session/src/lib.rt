@@ -15,24 +15,15 @@
 #![tactic(auto)]
 
 mod answering;
-pub mod asked;
-pub mod cluster;
 mod counts;
-mod dealing;
-mod every_lane;
 pub mod laws;
 pub mod limits;
 mod next_command;
-pub mod opening;
 pub mod running;
-pub mod spans;
 pub mod status;
-mod upkeep;
 
-pub use asked::Asked;
-pub use cluster::Cluster;
+pub use lane_lives::UpkeepSpan;
 pub use running::run_one;
-pub use session_lanes::UpkeepSpan;
-pub use spans::{LineSpans, SpanList};
+pub use session_cluster::{Asked, Cluster, LineSpans, SpanList};
 pub use status::Status;
-pub use upkeep_answers::Upkeep;
+pub use upkeep_spans::Upkeep;

@@ -2,11 +2,11 @@ ghost use Rattle.std.specs.Prelude.{◌≡◌, ◌<◌, ◌≤◌, ℕ, List};
 ghost use Rattle.io_ends.specs.Reading.{StandsIn};
 ghost use Rattle.cell_session.specs.Reads.{Advances, Shows, CausedBySource, IsOwnStep, IsOfLine};
 
-use crate::asked::{Asked, asked_of};
 use crate::status::Status;
 use doc_types::Schema;
 use io_ends::{LineReader, Next, Source};
 use line_values::ValueReader;
+use session_cluster::asked::{Asked, asked_of};
 use std::alloc::Global;
 
 /// What comes next in a session.

@@ -4,34 +4,35 @@ ghost use Rattle.std.specs.Io.KnownBytes.{Appends};
 ghost use Rattle.io_ends.specs.Causes.{HasRisen};
 ghost use Rattle.reports.specs.ReportText.{usage_text};
 ghost use Rattle.session_settings.specs.Choices.{Chooses, AreWrong};
-ghost use Rattle.session_settings.specs.Settings.{IsSetting};
+ghost use Rattle.lane_values.specs.Settings.{IsSetting};
 ghost use Rattle.session_settings.specs.declared.choice.Choice.{Choice};
 ghost use Rattle.cell_session.specs.Causes.{HaveCauses};
-ghost use Rattle.cell_session.specs.Cells.{is_empty, journals_of};
+ghost use Rattle.session_cluster.specs.Cells.{is_empty, journals_of};
 ghost use Rattle.cell_session.specs.Dealing.{EndsAs};
 ghost use Rattle.cell_session.specs.Ends.{IfTold, OfFirst, HasLanes, DealsWith, PassesLimit, Writes, UsageEnd};
 ghost use Rattle.cell_session.specs.Hearing.{HaveHeard};
-ghost use Rattle.cell_session.specs.Lanes.{AreLegal, AreDurable, AreInOrder, AreTogether, AreComplete};
+ghost use Rattle.session_cluster.specs.Lanes.{AreLegal, AreDurable, AreInOrder, AreTogether, AreComplete};
 ghost use Rattle.cell_session.specs.Operations.{HaveOutcomes, HaveFates};
 ghost use Rattle.cell_session.specs.Upkeep.{HaveUpkeeps};
 
 use crate::answering::{Stop, answer_line};
-use crate::cluster::Cluster;
 use crate::counts::{Counts, counts_with};
 use crate::limits::{MOST_BYTES, MOST_LINES};
 use crate::next_command::{Step, next_command};
-use crate::opening::open_cluster;
 use crate::status::Status;
 use carriers::Carriers;
 use doc_types::Schema;
 use io_ends::{LimitKind, LineReader, Sink, Source, write_all};
-use line_values::ValueReader;
-use reports::usage_report;
-use session_lanes::laws::{
+use lane_lives::laws::{
     hearings_follow_deeds, lanes_are_complete, lanes_are_durable, lines_are_refused_with_cause,
     lines_fall_short_with_cause,
 };
-use session_settings::{Setting, read_choice};
+use lane_values::Setting;
+use line_values::ValueReader;
+use reports::usage_report;
+use session_cluster::cluster::Cluster;
+use session_cluster::opening::open_cluster;
+use session_settings::read_choice;
 use std::alloc::Global;
 use words_line::WordsFault;
 

@@ -4,7 +4,7 @@ ghost use Rattle.cell_session.specs.StatusNumbers.{status_number};
 use io_ends::LimitKind;
 
 /// How a session ended.
-#[derive(Clone, Copy, Debug, PartialEq, Eq)]
+#[derive(Clone, Copy, PartialEq, Eq)]
 pub enum Status {
     /// The source was read to its end, and every line was answered.
     Done,

@@ -14,7 +14,7 @@ use Rattle.cluster_states.specs.declared.places.Number.TheVariants.{Version, Dis
 use Rattle.cluster_states.specs.declared.places.Role.{Role}
 use Rattle.cluster_states.specs.declared.places.Role.TheVariants.{Distributor, Storage}
 use Rattle.cluster_states.specs.StateTexts.{after_counts, marks_text}
-use Rattle.cluster_states.specs.Scanning.{value_from, Continues, can_begin, least_of, end_of, marks_of, role_word, Takes, Numbered, Counting, Signed, IsKnown, IsWithin}
+use Rattle.cluster_states.specs.Scanning.{value_from, Continues, can_begin, least_of, end_of, marks_of, role_word, TakesNumber, Numbered, Counting, Signed, IsKnown, IsWithin}
 use Rattle.cluster_states.proofs.Numerals.{starts, continued, value_from-le}
 
 -- bounds that one more digit can decide
@@ -103,7 +103,7 @@ signed_within role n known more s g =
     omega (arith, g.size, ap length g.marks, length-append (take n (marks_of role known)) (g.mark ∷ g.rest), length-take n (marks_of role known))
 
 -- a number that is taken stands in its bounds
-pub takes_within : (number : Number) (known : State) (n : ℕ) (after : List ℕ) (s : State) → IsState s → Takes number known n after s → IsWithin number known n
+pub takes_within : (number : Number) (known : State) (n : ℕ) (after : List ℕ) (s : State) → IsState s → TakesNumber number known n after s → IsWithin number known n
 takes_within Version known n after s state h = (omega arith, omega (arith, state.version, h.0))
 takes_within Distributors known n after s state h = (omega (arith, state.some_distributors, h.1.0), omega (arith, state.few_distributors, h.1.0))
 takes_within Nodes known n after s state h = (omega (arith, state.some_nodes, h.1.1.0), omega (arith, state.few_nodes, h.1.1.0))
@@ -125,7 +125,7 @@ marks_no_digit Storage n (Retired ∷ ms) tail h = inl (omega arith)
 pub counts_no_digit : (s : State) → NoDigit (after_counts s)
 counts_no_digit s = marks_no_digit Distributor 0 s.distributors _ (subst NoDigit (append-nil _) (marks_no_digit Storage 0 s.nodes [] tt))
 
-pub takes_no_digit : (number : Number) (known : State) (n : ℕ) (after : List ℕ) (s : State) → Takes number known n after s → NoDigit after
+pub takes_no_digit : (number : Number) (known : State) (n : ℕ) (after : List ℕ) (s : State) → TakesNumber number known n after s → NoDigit after
 takes_no_digit Version known n after s h = subst NoDigit (sym h.1) (inl (omega arith))
 takes_no_digit Distributors known n after s h = subst NoDigit (sym h.1.1) (inl (omega arith))
 takes_no_digit Nodes known n after s h = subst NoDigit (sym h.1.1.1) (counts_no_digit s)
@@ -194,21 +194,21 @@ ends_there value letter more (c ∷ cs) after v out h e =
     elim out [ inl below ↦ absurd (omega (arith, same, below, h.digits.0)) | inr past ↦ absurd (omega (arith, same, past, h.digits.1.0)) ]
 
 pub counting_ends : (number : Number) (value letter : ℕ) (known : State) (more : List ℕ) (s : State) → (letter < 48) ⊎ (58 ≤ letter)
-    → Counting number value known (letter ∷ more) s → Takes number known value (letter ∷ more) s
+    → Counting number value known (letter ∷ more) s → TakesNumber number known value (letter ∷ more) s
 counting_ends number value letter known more s out h =
     let g = ends_there value letter more h.digits h.after h.whole out h.continues h.text in
-    subst (λ v. Takes number known v (letter ∷ more) s) g.0 (subst (λ l. Takes number known h.whole l s) (sym g.1) h.takes)
+    subst (λ v. TakesNumber number known v (letter ∷ more) s) g.0 (subst (λ l. TakesNumber number known h.whole l s) (sym g.1) h.takes)
 
 ends_empty : (value : ℕ) (cs after : List ℕ) (v : ℕ) → Continues value cs v → [] ≡ cs ++ after → (v ≡ value) × ([] ≡ after)
 ends_empty value [] after v h e = (h.value, e)
 ends_empty value (c ∷ cs) after v h e = absurd (omega (arith, ap length e))
 
-pub counting_over : (number : Number) (value : ℕ) (known : State) (s : State) → Counting number value known [] s → Takes number known value [] s
+pub counting_over : (number : Number) (value : ℕ) (known : State) (s : State) → Counting number value known [] s → TakesNumber number known value [] s
 counting_over number value known s h =
     let g = ends_empty value h.digits h.after h.whole h.continues h.text in
-    subst (λ v. Takes number known v [] s) g.0 (subst (λ l. Takes number known h.whole l s) (sym g.1) h.takes)
+    subst (λ v. TakesNumber number known v [] s) g.0 (subst (λ l. TakesNumber number known h.whole l s) (sym g.1) h.takes)
 
-pub takes_counting : (number : Number) (value : ℕ) (known : State) (more : List ℕ) (s : State) → Takes number known value more s → Counting number value known more s
+pub takes_counting : (number : Number) (value : ℕ) (known : State) (more : List ℕ) (s : State) → TakesNumber number known value more s → Counting number value known more s
 takes_counting number value known more s h = record {
   whole = value;
   digits = [];

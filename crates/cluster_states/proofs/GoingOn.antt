@@ -13,7 +13,7 @@ use Rattle.cluster_states.specs.declared.places.Number.TheVariants.{Version, Dis
 use Rattle.cluster_states.specs.declared.places.Place.{Place}
 use Rattle.cluster_states.specs.declared.places.Place.TheVariants.{Word, Digits, Sign, Gap, Space}
 use Rattle.cluster_states.specs.StateTexts.{marks_text, after_version, after_distributors, after_counts}
-use Rattle.cluster_states.specs.Scanning.{marks_of, role_word, word_of, tail_of, letter_of, least_of, end_of, with_mark, Others, Signed, Takes, IsKnown, IsPlace, IsWithin, At}
+use Rattle.cluster_states.specs.Scanning.{marks_of, role_word, word_of, tail_of, letter_of, least_of, end_of, with_mark, Others, Signed, TakesNumber, IsKnown, IsPlace, IsWithin, At}
 use Rattle.cluster_states.proofs.Counting.{reached}
 use Rattle.cluster_states.proofs.MarkTexts.{down_is_not_up}
 use Rattle.cluster_states.proofs.MarkMoves.{marks_with, state_with, down_is_not_retired}
@@ -30,7 +30,7 @@ pub record Follower (number : Number) (known : State) (n : ℕ) : Type 0 where
   pub after : List ℕ
   pub state : State
   pub is : IsState state
-  pub takes : Takes number known n after state
+  pub takes : TakesNumber number known n after state
 
 others_itself : (role : Role) (known : State) → Others role known known
 others_itself Distributor known = (refl, refl)

@@ -1,12 +1,14 @@
-pub mod MarkSets
-pub mod Sizes
-pub mod Numerals
-pub mod Counting
-pub mod Moving
-pub mod MarkTexts
-pub mod MarkMoves
-pub mod SpaceMoves
-pub mod GoingOn
-pub mod Reaching
-pub mod TextSizes
+-- Shared: other crates cite these.
 pub mod Telling
+-- Of this crate alone.
+mod MarkSets
+mod Sizes
+mod Numerals
+mod Counting
+mod Moving
+mod MarkTexts
+mod MarkMoves
+mod SpaceMoves
+mod GoingOn
+mod Reaching
+mod TextSizes

@@ -97,18 +97,18 @@ pub record Follows (role : Role) (least : ℕ) (known : State) (more : List ℕ)
   pub text : more ≡ marks_text (role_word role) least rest ++ tail_of role s
 
 -- a number is this one, and so much follows
-abbrev pub Takes : Number → State → ℕ → List ℕ → State → Type 0
-Takes Version known n after s = (s.version ≡ n) × (after ≡ after_version s)
-Takes Distributors known n after s = (s.version ≡ known.version) × ((length s.distributors ≡ n) × (after ≡ after_distributors s))
-Takes Nodes known n after s = (s.version ≡ known.version) × ((length s.distributors ≡ length known.distributors) × ((length s.nodes ≡ n) × (after ≡ after_counts s)))
-Takes (Marked role least) known n after s = (least ≤ n) × ((more : List ℕ) × ((after ≡ codes ".s:" ++ more) × Signed role n known more s))
+abbrev pub TakesNumber : Number → State → ℕ → List ℕ → State → Type 0
+TakesNumber Version known n after s = (s.version ≡ n) × (after ≡ after_version s)
+TakesNumber Distributors known n after s = (s.version ≡ known.version) × ((length s.distributors ≡ n) × (after ≡ after_distributors s))
+TakesNumber Nodes known n after s = (s.version ≡ known.version) × ((length s.distributors ≡ length known.distributors) × ((length s.nodes ≡ n) × (after ≡ after_counts s)))
+TakesNumber (Marked role least) known n after s = (least ≤ n) × ((more : List ℕ) × ((after ≡ codes ".s:" ++ more) × Signed role n known more s))
 
 -- a number and what is behind it follow
 pub record Numbered (number : Number) (known : State) (more : List ℕ) (s : State) : Type 0 where
   pub value : ℕ
   pub after : List ℕ
   pub text : more ≡ decimal value ++ after
-  pub takes : Takes number known value after s
+  pub takes : TakesNumber number known value after s
 
 -- the rest of a number and what is behind it follow
 pub record Counting (number : Number) (value : ℕ) (known : State) (more : List ℕ) (s : State) : Type 0 where
@@ -117,7 +117,7 @@ pub record Counting (number : Number) (value : ℕ) (known : State) (more : List
   pub after : List ℕ
   pub continues : Continues value digits whole
   pub text : more ≡ digits ++ after
-  pub takes : Takes number known whole after s
+  pub takes : TakesNumber number known whole after s
 
 -- what may follow a place, and the state that is said then
 abbrev pub At : Place → State → List ℕ → State → Type 0
@@ -221,7 +221,7 @@ IsOutside x = IsOutsidePlace x.place
 
 -- a scan stands behind a number
 abbrev pub IsBehind : Number → State → ℕ → Scan → Type 0
-IsBehind number known value y = IsOutside y × (IsScan y × ((more : List ℕ) (s : State) → (IsState s × Takes number known value more s) ↔ Rests y more s))
+IsBehind number known value y = IsOutside y × (IsScan y × ((more : List ℕ) (s : State) → (IsState s × TakesNumber number known value more s) ↔ Rests y more s))
 
 -- the place behind the digits of a number so far, where a number may begin so
 abbrev pub digits_of : Number → State → ℕ → Option Scan

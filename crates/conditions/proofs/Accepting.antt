@@ -1,7 +1,7 @@
 -- The machine reads every condition.
 use Rattle.std.proofs.Common.{◌≡◌, ◌<◌, true, false, cond, List, [], ◌∷◌, ◌++◌, length, Option, Some, None, refl, ap, ◌∙◌, option_and_then, option_map, ◌&&◌, is_some}
 use Rattle.doc_types.specs.Tokens.{Token}
-use Rattle.token_readers.specs.Machines.{run}
+use Rattle.conditions.specs.Machines.{run}
 use Rattle.conditions.specs.declared.chains.Joint.TheVariants as joint
 use Rattle.conditions.specs.declared.frames.Bracket.{Bracket}
 use Rattle.conditions.specs.declared.frames.Bracket.TheVariants as bracket
@@ -15,7 +15,9 @@ use Rattle.conditions.specs.Kinds.{kind_of, ends_operand, and_word, or_word, tru
 use Rattle.conditions.specs.Grammar.{Condition, condition, Ors, no_ors, one_or, terms, Ands, no_ands, one_and, Factor, always, never, atom, brackets, negated, not_brackets, condition_tokens, ors_tokens, ands_tokens, factor_tokens, ConditionFits, OrsFit, AndsFit, FactorFits, condition_formula, ors_links, ands_links, factor_formula}
 use Rattle.conditions.specs.Machine.{Frame, level, pending, Gap, want, want_bracket, behind, Moved, Atoms, Place, outside, within, State, in_gap, in_atom, settle, level_formula, behind_step, within_step, outside_step, place_step, step, operand}
 use Rattle.conditions.specs.AtomLaws.{ReadsAtoms, atom_run, atom_next, first_by, next_by}
-use Rattle.conditions.proofs.Basics.{some_same, none_some, false_true, run-one, run-cons, run-append, room, and_kind, or_kind, true_kind, false_kind, opens_kind, closes_kind, not_word_kind, not_sign_kind}
+use Rattle.proof_basics.proofs.Options.{some_same, none_some}
+use Rattle.proof_basics.proofs.Tests.{false_true}
+use Rattle.conditions.proofs.Basics.{run-one, run-cons, run-append, room, and_kind, or_kind, true_kind, false_kind, opens_kind, closes_kind, not_word_kind, not_sign_kind}
 
 -- behind which operand a state stands, with the `not`s that wait for it
 abbrev pub stands : {A S : Type 0} → Atoms A S → State A S → Option (Formula A × List (Frame A))

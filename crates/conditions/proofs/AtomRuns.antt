@@ -1,14 +1,14 @@
 -- What holds of the part of an atom that was read.
 use Rattle.std.proofs.Common.{◌≡◌, Bool, true, false, ◌&&◌, List, [], ◌∷◌, ◌++◌, Option, Some, None, is_some, refl, sym, ap, subst, ◌∙◌, option_and_then, append_assoc, append-nil}
 use Rattle.doc_types.specs.Tokens.{Token}
-use Rattle.token_readers.specs.Machines.{run}
+use Rattle.conditions.specs.Machines.{run}
 use Rattle.conditions.specs.declared.kinds.Kind.{Kind}
 use Rattle.conditions.specs.declared.kinds.Kind.TheVariants as kind
 use Rattle.conditions.specs.declared.kinds.Negation.{Negation}
 use Rattle.conditions.specs.Kinds.{kind_of, ends_operand}
 use Rattle.conditions.specs.Machine.{Atoms}
 use Rattle.conditions.specs.AtomLaws.{atom_run, atom_next, first_by, next_by}
-use Rattle.conditions.proofs.Basics.{some_same, none_some}
+use Rattle.proof_basics.proofs.Options.{some_same, none_some}
 
 first_back : {S : Type 0} (k : Kind) (x : Option S) (s : S) → first_by k x ≡ Some s → (k ≡ kind.Other) × (x ≡ Some s)
 first_back kind.Other x s e = (refl, e)

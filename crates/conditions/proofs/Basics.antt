@@ -1,23 +1,18 @@
 -- Runs, kinds and room.
-use Rattle.std.proofs.Common.{◌≡◌, ℕ, suc, ◌<◌, Bool, true, false, cond, List, [], ◌∷◌, ◌++◌, codes, bytes_eq, nat_lt, Option, Some, None, refl, sym, ap, subst, ◌∙◌, arith, option_and_then}
+use Rattle.std.proofs.Common.{◌≡◌, ℕ, suc, ◌<◌, Bool, true, false, cond, List, [], ◌∷◌, ◌++◌, codes, bytes_eq, nat_lt, Option, Some, None, refl, sym, ap, subst, arith, option_and_then}
 use mathlib.Core.Bool.{true≢false}
 use Rattle.std.specs.Cmp.Lexicographic.{same_text}
 use Rattle.std.proofs.lemmas.Bool.Decides.{nat_tests}
 use Rattle.doc_types.specs.declared.symbols.Symbol.{Symbol}
 use Rattle.doc_types.specs.declared.symbols.Symbol.TheVariants as symbol
 use Rattle.doc_types.specs.Tokens.{Token, word, integer, quoted, signs}
-use Rattle.token_readers.specs.Machines.{run}
+use Rattle.conditions.specs.Machines.{run}
 use Rattle.conditions.specs.declared.kinds.Kind.{Kind}
 use Rattle.conditions.specs.declared.kinds.Kind.TheVariants as kind
 use Rattle.conditions.specs.declared.kinds.Negation.{Negation}
 use Rattle.conditions.specs.declared.kinds.Negation.TheVariants as negation
 use Rattle.conditions.specs.Kinds.{kind_of, word_kind, sign_kind, not_kind, and_word, or_word, true_word, false_word, not_word, not_sign, opens, closes}
-
-pub some_same : {X : Type 0} (a b : X) → Some a ≡ Some b → a ≡ b
-some_same a b e = cc
-
-pub none_some : {X : Type 0} (a : X) → ◌≡◌ {A = Option X} None (Some a) → ⊥
-none_some a e = cc
+use Rattle.proof_basics.proofs.Options.{some_same, none_some}
 
 pub run-one : {X : Type 0} (f : X → Token → Option X) (x : X) (t : Token) (y : X) → f x t ≡ Some y → run f x (t ∷ []) ≡ Some y
 run-one f x t y e = rw e refl
@@ -31,9 +26,6 @@ run-append f x (t ∷ ts) y us z r s = elim (f x t) as (λ o. option_and_then (�
   | None ↦ λ e. absurd (none_some y e)
   | Some w ↦ λ e. run-append f w ts y us z e s
 ] r
-
-pub false_true : false ≡ true → ⊥
-false_true e = true≢false (sym e)
 
 pub room : (k : ℕ) → k < 64 → nat_lt (suc k) 65 ≡ true
 room k h = grind (arith, nat_tests, h)

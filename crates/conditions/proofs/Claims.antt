@@ -1,8 +1,8 @@
 -- The machine reads exactly the conditions.
 use Rattle.std.proofs.Common.{◌≡◌, ◌<◌, List, [], ◌∷◌, ◌++◌, length, Some, None, refl, sym, ap, subst, ◌∙◌, option_and_then, option_map, append_assoc, append-nil}
 use Rattle.doc_types.specs.Tokens.{Token}
-use Rattle.token_readers.specs.Readings.{Begins}
-use Rattle.token_readers.specs.Machines.{run, Reads}
+use Rattle.conditions.specs.Readings.{Begins}
+use Rattle.conditions.specs.Machines.{run, Reads}
 use Rattle.conditions.specs.declared.chains.Joint.TheVariants as joint
 use Rattle.conditions.specs.declared.frames.Bracket.{Bracket}
 use Rattle.conditions.specs.declared.frames.Bracket.TheVariants as bracket
@@ -15,7 +15,7 @@ use Rattle.conditions.specs.Grammar.{condition, Ors, no_ors, terms, Ands, no_and
 use Rattle.conditions.specs.Machine.{Frame, level, Atoms, State, settle, level_formula, outside_formula, whole_formula, step, operand, whole, start}
 use Rattle.conditions.specs.AtomLaws.{ReadsAtoms}
 use Rattle.conditions.proofs.Written.{Around, opened, Spot, wanted, wanted_bracket, read_factor, read_part, Written, stack_seen, spot_seen, seen, bracket_tokens, stack_tokens, spot_tokens, tokens, depth, StackFits, SpotFits, Fits, Settled, settled}
-use Rattle.conditions.proofs.Basics.{some_same, none_some}
+use Rattle.proof_basics.proofs.Options.{some_same, none_some}
 use Rattle.conditions.proofs.Accepting.{Comes, stands, accept_condition, last_formula, last_ors, last_ands, last_is}
 use Rattle.conditions.proofs.Stepping.{Stepped, stepped}
 use Rattle.conditions.proofs.Closing.{Closed, closes_on}

@@ -1,8 +1,11 @@
+-- Shared: other crates cite these.
+pub mod Steps
 pub mod Basics
-pub mod Accepting
-pub mod Written
-pub mod Stepping
-pub mod Closing
 pub mod Claims
-pub mod Meanings
 pub mod AtomRuns
+-- Of this crate alone.
+mod Accepting
+mod Written
+mod Stepping
+mod Closing
+mod Meanings

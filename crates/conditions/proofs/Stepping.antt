@@ -1,7 +1,7 @@
 -- Each step of the machine reads one token more.
 use Rattle.std.proofs.Common.{◌≡◌, ℕ, suc, ◌<◌, true, false, cond, List, [], ◌∷◌, ◌++◌, length, Some, None, refl, sym, ap, subst, ◌∙◌, option_and_then, option_map, ◌&&◌, is_some, append_assoc, append-nil, arith}
 use Rattle.doc_types.specs.Tokens.{Token}
-use Rattle.token_readers.specs.Machines.{run}
+use Rattle.conditions.specs.Machines.{run}
 use Rattle.conditions.specs.declared.chains.Joint.TheVariants as joint
 use Rattle.conditions.specs.declared.frames.Bracket.{Bracket}
 use Rattle.conditions.specs.declared.frames.Bracket.TheVariants as bracket
@@ -15,7 +15,8 @@ use Rattle.conditions.specs.Grammar.{condition, Ors, no_ors, one_or, terms, Ands
 use Rattle.conditions.specs.Machine.{level, pending, want, want_bracket, behind, Atoms, within, State, in_gap, in_atom, settle, has_room, close_step, behind_step, negate, within_step, outside_step, place_step, step, operand}
 use Rattle.conditions.specs.AtomLaws.{ReadsAtoms, atom_run, atom_next, first_by, next_by}
 use Rattle.conditions.proofs.Written.{Around, opened, waiting, Spot, wanted, wanted_bracket, read_factor, read_part, Written, stack_seen, spot_seen, seen, seen_length, bracket_tokens, stack_tokens, spot_tokens, tokens, depth, StackFits, SpotFits, Fits, Settled, settled}
-use Rattle.conditions.proofs.Basics.{some_same, none_some, no_more_room, and_token, or_token, true_token, false_token, open_token, close_token, not_word_token, not_sign_token}
+use Rattle.proof_basics.proofs.Options.{some_same, none_some}
+use Rattle.conditions.proofs.Basics.{no_more_room, and_token, or_token, true_token, false_token, open_token, close_token, not_word_token, not_sign_token}
 
 -- a state that read one token more than some tokens
 pub record Stepped {A S : Type 0} (n : Negation) (m : Atoms A S) (L : List Token → A → Type 0) (ts : List Token) (t : Token) (y : State A S) : Type 0 where

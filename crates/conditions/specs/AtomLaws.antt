@@ -1,7 +1,7 @@
 -- What is asked of a language's reader of atoms.
 use Rattle.std.specs.Prelude.{◌≡◌, ◌&&◌, Bool, true, false, List, [], ◌∷◌, ◌++◌, Option, Some, None, is_some, option_and_then, if◌then◌else◌}
 use Rattle.doc_types.specs.Tokens.{Token}
-use Rattle.token_readers.specs.Machines.{run}
+use Rattle.conditions.specs.Machines.{run}
 use Rattle.conditions.specs.declared.kinds.Kind.{Kind}
 use Rattle.conditions.specs.declared.kinds.Kind.TheVariants as kind
 use Rattle.conditions.specs.declared.kinds.Negation.{Negation}

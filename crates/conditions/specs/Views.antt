@@ -1,7 +1,7 @@
 -- What the code's types stand for.
 use Rattle.std.specs.Prelude.{◌≡◌, ℕ, List, map, reverse, Option, Some, None, Result, Ok, Err}
-use Rattle.token_readers.specs.declared.reader.Stop.{Stop}
-use Rattle.token_readers.specs.declared.reader.Stop.TheVariants as stop
+use Rattle.conditions.specs.declared.reader.Stop.{Stop}
+use Rattle.conditions.specs.declared.reader.Stop.TheVariants as stop
 use Rattle.conditions.specs.declared.tree.Tree as code
 use Rattle.conditions.specs.declared.chains.Link.{Link}
 use Rattle.conditions.specs.declared.chains.Chain.{Chain}

@@ -1,15 +1,17 @@
 ghost use Rattle.std.specs.Prelude.{◌≡◌, [], ◌∷◌, IfOk, Some};
 ghost use Rattle.conditions.specs.declared.frames.Bracket.TheVariants as bracket;
+ghost use Rattle.conditions.specs.declared.chains.Joint.TheVariants as joint;
+ghost use Rattle.conditions.specs.Chains.{added, finished};
 ghost use Rattle.conditions.specs.Formulas.{opposite};
-ghost use Rattle.conditions.specs.Machine.{level, want, settle, has_room, open_frame, negate, want_step, bracket_step, and_step, or_step, level_formula, bracket_formula, close_step, behind_step, gap_step, whole_formula};
+ghost use Rattle.conditions.specs.Machine.{level, want, settle, has_room, open_frame, negate, want_step, bracket_step, and_step, or_step, level_formula, bracket_formula, close_step, behind_step, gap_step, outside_formula, whole_formula};
 ghost use Rattle.conditions.specs.Views.{formula_of, frame_of, stack_of, gap_of, moved_of, settled_of, chain_of, Goes};
 
+use crate::Stop;
 use crate::chains::{Chain, Joint};
 use crate::frames::{Bracket, Level, Open, Place};
 use crate::kinds::{Kind, Negation};
 use crate::tree::Tree;
 use std::alloc::Global;
-use token_readers::Stop;
 use value_lists::NoMemory;
 
 /// A condition that is read so far: what is open, outermost first, and the place.
@@ -136,15 +138,17 @@ fn bracket_step<A: Drop>(
 ) -> Result<Conditions<A>, Stop>
     ensures { Goes moved_of result (bracket_step kind (stack_of frames.items)) }
 {
-    if kind != Kind::Open {
-        return Err(Stop::Refused);
+    match kind {
+        Kind::Open => {
+            let mut frames = frames;
+            frames.push(new_level(alloc, Bracket::Negated))?;
+            Ok(Conditions {
+                frames,
+                place: Place::Want,
+            })
+        }
+        _ => Err(Stop::Refused),
     }
-    let mut frames = frames;
-    frames.push(new_level(alloc, Bracket::Negated))?;
-    Ok(Conditions {
-        frames,
-        place: Place::Want,
-    })
 }
 
 /// The opposite of a tree.
@@ -194,6 +198,19 @@ pub fn behind_step<A: Drop>(
     }
 }
 
+/// A level behind `and`: the operand is one more of its last terms.
+fn and_level<A: Drop>(alloc: Global, around: Level<A>, tree: Tree<A>) -> Result<Open<A>, NoMemory>
+    ensures { IfOk result (λ f. frame_of f ≡ level around.bracket (chain_of around.ors)
+        (added joint.And (formula_of tree) (chain_of around.ands))) }
+{
+    let ands = around.ands.add(alloc, Joint::And, tree)?;
+    Ok(Open::Level(Level {
+        bracket: around.bracket,
+        ors: around.ors,
+        ands,
+    }))
+}
+
 /// `and` behind an operand.
 fn and_step<A: Drop>(
     alloc: Global,
@@ -204,13 +221,8 @@ fn and_step<A: Drop>(
 {
     let mut frames = frames;
     match frames.pop() {
-        Some(Open::Level(level)) => {
-            let ands = level.ands.add(alloc, Joint::And, tree)?;
-            frames.push(Open::Level(Level {
-                bracket: level.bracket,
-                ors: level.ors,
-                ands,
-            }))?;
+        Some(Open::Level(around)) => {
+            frames.push(and_level(alloc, around, tree)?)?;
             Ok(Conditions {
                 frames,
                 place: Place::Want,
@@ -218,6 +230,20 @@ fn and_step<A: Drop>(
         }
         _ => Err(Stop::Refused),
     }
+}
+
+/// A level behind `or`: its last terms and the operand are one more of its chains.
+fn or_level<A: Drop>(alloc: Global, around: Level<A>, tree: Tree<A>) -> Result<Open<A>, NoMemory>
+    ensures { IfOk result (λ f. frame_of f ≡ level around.bracket
+        (added joint.Or (finished joint.And (formula_of tree) (chain_of around.ands)) (chain_of around.ors)) []) }
+{
+    let terms = around.ands.finish(alloc, Joint::And, tree)?;
+    let ors = around.ors.add(alloc, Joint::Or, terms)?;
+    Ok(Open::Level(Level {
+        bracket: around.bracket,
+        ors,
+        ands: Chain::none(alloc),
+    }))
 }
 
 /// `or` behind an operand.
@@ -230,14 +256,8 @@ fn or_step<A: Drop>(
 {
     let mut frames = frames;
     match frames.pop() {
-        Some(Open::Level(level)) => {
-            let terms = level.ands.finish(alloc, Joint::And, tree)?;
-            let ors = level.ors.add(alloc, Joint::Or, terms)?;
-            frames.push(Open::Level(Level {
-                bracket: level.bracket,
-                ors,
-                ands: Chain::none(alloc),
-            }))?;
+        Some(Open::Level(around)) => {
+            frames.push(or_level(alloc, around, tree)?)?;
             Ok(Conditions {
                 frames,
                 place: Place::Want,
@@ -300,6 +320,32 @@ fn close_step<A: Drop>(
     }
 }
 
+/// The tree of a level behind its last operand, where it is the whole text.
+fn text_tree<A: Drop>(alloc: Global, around: Level<A>, last: Tree<A>) -> Result<Tree<A>, Stop>
+    ensures { Goes formula_of result (outside_formula around.bracket
+        (level_formula (formula_of last) (chain_of around.ors) (chain_of around.ands))) }
+{
+    match around.bracket {
+        Bracket::Outside => Ok(level_tree(alloc, around.ors, around.ands, last)?),
+        _ => Err(Stop::Refused),
+    }
+}
+
+/// The same behind an operand for which no `not` waits, where nothing is open.
+fn settled_tree<A: Drop>(
+    alloc: Global,
+    frames: Vec<Open<A>>,
+    last: Tree<A>,
+) -> Result<Tree<A>, Stop>
+    ensures { Goes formula_of result (whole_formula (formula_of last, stack_of frames.items)) }
+{
+    let mut frames = frames;
+    match frames.pop() {
+        Some(Open::Level(around)) => text_tree(alloc, around, last),
+        _ => Err(Stop::Refused),
+    }
+}
+
 /// The tree of the whole text behind its last operand, where nothing is open.
 pub fn whole_tree<A: Drop>(
     alloc: Global,
@@ -309,14 +355,5 @@ pub fn whole_tree<A: Drop>(
     ensures { Goes formula_of result (whole_formula (settle (formula_of last) (stack_of frames.items))) }
 {
     let settled = settle(alloc, frames, last)?;
-    let mut frames = settled.frames;
-    match frames.pop() {
-        Some(Open::Level(level)) => {
-            if level.bracket != Bracket::Outside {
-                return Err(Stop::Refused);
-            }
-            Ok(level_tree(alloc, level.ors, level.ands, settled.tree)?)
-        }
-        _ => Err(Stop::Refused),
-    }
+    settled_tree(alloc, settled.frames, settled.tree)
 }

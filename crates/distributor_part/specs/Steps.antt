@@ -6,7 +6,7 @@ use Rattle.node_sets.specs.Members.{has_node, size_of}
 use Rattle.cluster_states.specs.declared.cluster_state.ClusterState.{ClusterState}
 use Rattle.cluster_states.specs.Publishing.{serves}
 use Rattle.pieces.specs.declared.piece.Piece.{Piece}
-use Rattle.messages.specs.EntryCodes.{Entries}
+use Rattle.entry_maps.specs.EntryCodes.{Entries}
 use Rattle.messages.specs.Noting.{message_of}
 use Rattle.messages.specs.declared.message.Message.{Message}
 use Rattle.messages.specs.declared.body.Body.TheVariants as body

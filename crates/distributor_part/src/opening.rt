@@ -1,4 +1,4 @@
-ghost use Rattle.std.specs.Prelude.{◌≡◌, ◌&&◌, not, ℕ, ◌<◌, ◌≤◌, true, false, ◌++◌, OnOk, OnErr, IfSome, IfNone, IfOk};
+ghost use Rattle.std.specs.Prelude.{◌≡◌, ◌&&◌, not, ℕ, ◌<◌, ◌≤◌, true, false, ◌++◌, ◌∷◌, [], vec_len, vec_capacity, OnOk, OnErr, IfSome, IfNone, IfOk};
 ghost use Rattle.node_sets.specs.Members.{has_node};
 ghost use Rattle.bucket_db.specs.Rows.{buckets_of};
 ghost use Rattle.distributor_part.specs.Steps.{IsLowest, did_show, buckets_shown};
@@ -32,6 +32,17 @@ pub fn to_ask(serving: NodeSet, answered: NodeSet, asked: NodeSet) -> NodeSet
     serving.difference(answered).difference(asked)
 }
 
+/// Adds a bucket where there is room for it; takes no memory.
+fn add_reserved(shown: &mut Vec<Bucket>, bucket: Bucket)
+    requires { vec_len shown.old < vec_capacity shown.old }
+    ensures items { shown.new.items ≡ shown.old.items ++ bucket ∷ [] }
+    ensures room { vec_capacity shown.old ≤ vec_capacity shown.new }
+{
+    let Ok(()) = shown.push(bucket) else {
+        unreachable!();
+    };
+}
+
 /// Adds the buckets of pieces. After want of memory nothing has changed.
 pub fn add_buckets(shown: &mut Vec<Bucket>, pieces: &[Piece]) -> Result<(), NoMemory>
     ensures ok { OnOk result (shown.new.items ≡ shown.old.items ++ buckets_shown pieces.now) }
@@ -39,9 +50,7 @@ pub fn add_buckets(shown: &mut Vec<Bucket>, pieces: &[Piece]) -> Result<(), NoMe
 {
     shown.reserve(pieces.len())?;
     for piece in pieces {
-        let Ok(()) = shown.push(piece.bucket) else {
-            unreachable!();
-        };
+        add_reserved(shown, piece.bucket);
     }
     Ok(())
 }

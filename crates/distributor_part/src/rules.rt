@@ -1,5 +1,5 @@
 /// What a lane is set up with.
-#[derive(Clone, Copy, Debug, PartialEq, Eq)]
+#[derive(Clone, Copy, PartialEq, Eq)]
 pub struct Rules {
     /// How many replicas a document is to have.
     pub redundancy: u8,

@@ -1,7 +1,7 @@
 use node_sets::NodeSet;
 
 /// How far the round of a job is; `at` is the place of its row.
-#[derive(Clone, Copy, Debug, PartialEq, Eq)]
+#[derive(Clone, Copy, PartialEq, Eq)]
 pub enum Stage {
     /// No round was begun in this job.
     Before,

@@ -1,4 +1,4 @@
-pub mod Maps
-pub mod TermReading
-pub mod Reading
-pub mod Saying
+mod Maps
+mod TermReading
+mod Reading
+mod Saying

@@ -9,7 +9,7 @@ use mathlib.Core.Bool.{true≢false}
 use Rattle.doc_types.specs.declared.values.FieldType.{FieldType}
 use Rattle.doc_types.specs.SchemaCodes.{name_cmp, Fields, Types}
 use Rattle.doc_types.specs.Known.{has_fields, some_fields}
-use Rattle.conditions.proofs.Basics.{some_same, none_some}
+use Rattle.proof_basics.proofs.Options.{some_same, none_some}
 use Rattle.doc_selection.specs.Atoms.{field_kind}
 
 no_entry : (m : Fields) (q : List ℕ) → fin.len m ≡ 0 → fin.contains_key m q ≡ false

@@ -3,10 +3,10 @@ use Rattle.std.proofs.Common.{◌≡◌, ◌≢◌, ℕ, zero, suc, ◌+◌, ◌
 use Rattle.doc_types.specs.declared.symbols.Language.TheVariants.{Selection}
 use Rattle.doc_types.specs.SchemaCodes.{Types}
 use Rattle.doc_types.specs.Tokens.{Token, skip_blanks, token_at}
-use Rattle.token_readers.specs.Readings.{IsReadAs, Begins, IsText, IsRefusedAt, CannotGoOn, ends_early, unreadable, no_such}
-use Rattle.token_readers.specs.Machines.{run}
+use Rattle.conditions.specs.Readings.{IsReadAs, Begins, IsText, IsRefusedAt, CannotGoOn, ends_early, unreadable, no_such}
+use Rattle.conditions.specs.Machines.{run}
 use Rattle.doc_types.proofs.TokenLaws.{token_front}
-use Rattle.token_readers.proofs.Steps.{token_shortens, blanks_behind}
+use Rattle.conditions.proofs.Steps.{token_shortens, blanks_behind}
 use Rattle.conditions.specs.Formulas.{Formula}
 use Rattle.conditions.specs.Machine.{start, whole}
 use Rattle.doc_selection.specs.declared.selection.SelectionFault.{SelectionFault}

@@ -10,12 +10,13 @@ use Rattle.doc_types.specs.declared.values.FieldType.TheVariants as kind
 use Rattle.doc_types.specs.Known.{has_fields}
 use Rattle.doc_types.specs.SchemaCodes.{Types}
 use Rattle.doc_types.specs.Tokens.{Token, word, integer, quoted, signs}
-use Rattle.token_readers.specs.Machines.{run}
+use Rattle.conditions.specs.Machines.{run}
 use Rattle.conditions.specs.declared.kinds.Kind.TheVariants as part_of
 use Rattle.conditions.specs.declared.kinds.Negation.TheVariants as negation
 use Rattle.conditions.specs.Kinds.{kind_of, sign_kind}
 use Rattle.conditions.specs.AtomLaws.{ReadsAtoms, atom_run, atom_next, first_by, next_by}
-use Rattle.conditions.proofs.Basics.{some_same, none_some, run-one, run-cons}
+use Rattle.proof_basics.proofs.Options.{some_same, none_some}
+use Rattle.conditions.proofs.Basics.{run-one, run-cons}
 use Rattle.conditions.proofs.AtomRuns.{part_goes_on, atom_reaches}
 use Rattle.doc_selection.specs.declared.parts.Part.{Part}
 use Rattle.doc_selection.specs.declared.parts.Part.TheVariants as part

@@ -3,7 +3,7 @@ use Rattle.std.specs.Prelude.{ℕ, List, Result, Ok, Err}
 use Rattle.doc_types.specs.declared.symbols.Language.TheVariants.{Selection}
 use Rattle.doc_types.specs.SchemaCodes.{Types}
 use Rattle.doc_types.specs.Tokens.{Token}
-use Rattle.token_readers.specs.Readings.{IsText, IsRefusedAt}
+use Rattle.conditions.specs.Readings.{IsText, IsRefusedAt}
 use Rattle.conditions.specs.declared.kinds.Negation.TheVariants as negation
 use Rattle.conditions.specs.Formulas.{Formula}
 use Rattle.conditions.specs.Grammar.{IsCondition}

@@ -5,5 +5,3 @@ pub mod Grammar
 pub mod Parts
 pub mod Saying
 pub mod Truth
--- Passed on, so that the crates above need not list those below.
-pub use Rattle.conditions.specs.Formulas

@@ -3,7 +3,7 @@ use Rattle.std.specs.Prelude.{◌≡◌, ℕ, zero, suc, List, [], ◌∷◌, le
 use Rattle.doc_types.specs.declared.symbols.Language.TheVariants.{Selection}
 use Rattle.doc_types.specs.SchemaCodes.{Types}
 use Rattle.doc_types.specs.Tokens.{Token, skip_blanks, token_at}
-use Rattle.token_readers.specs.Machines.{run}
+use Rattle.conditions.specs.Machines.{run}
 use Rattle.conditions.specs.Formulas.{Formula}
 use Rattle.conditions.specs.Machine.{start, whole}
 use Rattle.doc_selection.specs.declared.selection.SelectionFault.{SelectionFault}

@@ -7,7 +7,7 @@ use Rattle.std.specs.Cmp.Lexicographic.{slice_cmp}
 use Rattle.std.specs.declared.cmp.Ordering.{Ordering}
 use Rattle.doc_types.specs.declared.values.FieldValue.{FieldValue}
 use Rattle.doc_types.specs.declared.values.FieldValue.TheVariants as value
-use Rattle.documents.specs.Parts.{type_of}
+use Rattle.document_ids.specs.Parts.{type_of}
 use Rattle.documents.specs.Fields.{Contents}
 use Rattle.conditions.specs.Formulas.{Formula, holds}
 use Rattle.doc_selection.specs.declared.terms.Comparison.{Comparison}

@@ -3,7 +3,7 @@
 ghost use Rattle.std.specs.Prelude.{◌≡◌, ◌↔◌, ℕ, List, Some, None};
 ghost use Rattle.doc_types.specs.SchemaCodes.{Types};
 ghost use Rattle.doc_types.specs.declared.symbols.Language.TheVariants as language;
-ghost use Rattle.token_readers.specs.Readings.{IsText, IsRefusedAt};
+ghost use Rattle.conditions.specs.Readings.{IsText, IsRefusedAt};
 ghost use Rattle.conditions.specs.Formulas.{Formula};
 ghost use Rattle.doc_selection.specs.Grammar.{IsSelection};
 ghost use Rattle.doc_selection.specs.Saying.{selection_in};

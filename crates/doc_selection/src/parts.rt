@@ -5,9 +5,9 @@ ghost use Rattle.doc_selection.specs.Atoms.{is_equality, is_int, is_text, takes}
 ghost use Rattle.doc_selection.specs.Parts.{comparison_of, literal_of, has_order, may_follow, first, dot_sign, type_next, dot_next, sign_if, field_next, whole_if, sign_next, next, says};
 
 use crate::terms::{Comparison, Literal, Term};
+use conditions::Stop;
 use doc_types::{FieldType, Lexeme, Schema, Symbol};
 use std::alloc::Global;
-use token_readers::Stop;
 use value_lists::{Listed, NoMemory, TextValue};
 
 /// What was read of a term.

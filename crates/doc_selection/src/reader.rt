@@ -1,10 +1,10 @@
 ghost use Rattle.std.specs.Prelude.{◌≡◌, ◌&&◌, [], ◌∷◌, IfOk, Some, is_some, option_map, option_and_then};
 ghost use Rattle.doc_types.specs.Reading.{token_of};
-ghost use Rattle.token_readers.specs.Machines.{run};
+ghost use Rattle.conditions.specs.Machines.{run};
 ghost use Rattle.conditions.specs.declared.kinds.Negation.TheVariants as negation;
 ghost use Rattle.conditions.specs.Formulas.{claim};
 ghost use Rattle.conditions.specs.Kinds.{ends_operand};
-ghost use Rattle.conditions.specs.Machine.{start, in_gap, in_atom, gap_step, behind_step, settle, other_step, outside_step, within_step, operand, whole};
+ghost use Rattle.conditions.specs.Machine.{start, in_gap, in_atom, gap_step, behind_step, settle, other_step, outside, outside_step, within_step, operand, whole};
 ghost use Rattle.conditions.specs.Views.{Goes, formula_of, gap_of, stack_of};
 ghost use Rattle.doc_selection.specs.Grammar.{IsSelection};
 ghost use Rattle.doc_selection.specs.Parts.{says, terms, endings, place_of, selection_step, state_of};
@@ -12,13 +12,13 @@ ghost use Rattle.doc_selection.specs.Parts.{says, terms, endings, place_of, sele
 use crate::parts::{Part, first, is_whole, next, says};
 use crate::selection::Selection;
 use crate::terms::Term;
+use conditions::frames::Open;
 use conditions::{
-    Conditions, Kind, Negation, Place, Tree, behind_step, ends_operand, is_other, kind_of,
-    whole_tree,
+    Conditions, Kind, Negation, Place, Stop, TokenReader, Tree, behind_step, ends_operand,
+    is_other, kind_of, whole_tree,
 };
 use doc_types::{Lexeme, Schema};
 use std::alloc::Global;
-use token_readers::{Stop, TokenReader};
 use value_lists::NoMemory;
 
 /// A selection that is read so far, within a term where there is a part of one.
@@ -87,6 +87,26 @@ fn outside(
     })
 }
 
+/// The first token of a term.
+fn first_part(
+    alloc: Global,
+    schema: &Schema,
+    frames: Vec<Open<Term>>,
+    token: Lexeme<'_>,
+) -> Result<Reader, Stop>
+    ensures { Goes state_of result (option_map (in_atom (stack_of frames.items))
+        ((terms schema.now).first (token_of token.entry))) }
+{
+    let part = first(alloc, schema, token)?;
+    Ok(Reader {
+        conditions: Conditions {
+            frames,
+            place: Place::Want,
+        },
+        part: Some(part),
+    })
+}
+
 /// A term begins, where an operand is wanted.
 fn begin(
     alloc: Global,
@@ -99,16 +119,7 @@ fn begin(
 {
     let Conditions { frames, place } = conditions;
     match place {
-        Place::Want => {
-            let part = first(alloc, schema, token)?;
-            Ok(Reader {
-                conditions: Conditions {
-                    frames,
-                    place: Place::Want,
-                },
-                part: Some(part),
-            })
-        }
+        Place::Want => first_part(alloc, schema, frames, token),
         _ => Err(Stop::Refused),
     }
 }
@@ -118,6 +129,24 @@ fn ends_here(kind: Kind, part: &Part) -> bool
     ensures { result ≡ (ends_operand kind && is_some (says part.now)) }
 {
     ends_operand(kind) && is_whole(part)
+}
+
+/// A term goes on with one token more.
+fn next_part(
+    alloc: Global,
+    schema: &Schema,
+    conditions: Conditions<Term>,
+    part: Part,
+    token: Lexeme<'_>,
+) -> Result<Reader, Stop>
+    ensures { Goes state_of result (option_map (in_atom (stack_of conditions.frames.items))
+        ((terms schema.now).next part (token_of token.entry))) }
+{
+    let part = next(alloc, schema, part, token)?;
+    Ok(Reader {
+        conditions,
+        part: Some(part),
+    })
 }
 
 /// A token behind a part of a term.
@@ -132,36 +161,57 @@ fn within(
     ensures { Goes state_of result (within_step (terms schema.now) kind (token_of token.entry) part
         (stack_of conditions.frames.items)) }
 {
-    let Conditions { frames, place } = conditions;
     if ends_here(kind, &part) {
-        return behind(alloc, Conditions { frames, place }, part, kind);
+        return behind(alloc, conditions.frames, part, kind);
     }
-    let part = next(alloc, schema, part, token)?;
+    next_part(alloc, schema, conditions, part, token)
+}
+
+/// What ends a term behind it.
+fn behind_term(
+    alloc: Global,
+    frames: Vec<Open<Term>>,
+    term: Term,
+    kind: Kind,
+) -> Result<Reader, Stop>
+    ensures { Goes state_of result (option_map in_gap
+        (behind_step kind (settle (claim term) (stack_of frames.items)))) }
+{
+    let conditions = behind_step(alloc, frames, kind, Tree::Atom(term))?;
     Ok(Reader {
-        conditions: Conditions { frames, place },
-        part: Some(part),
+        conditions,
+        part: None,
     })
 }
 
 /// What ends a term behind a part.
-fn behind(
-    alloc: Global,
-    conditions: Conditions<Term>,
-    part: Part,
-    kind: Kind,
-) -> Result<Reader, Stop>
+fn behind(alloc: Global, frames: Vec<Open<Term>>, part: Part, kind: Kind) -> Result<Reader, Stop>
     ensures { Goes state_of result (option_map in_gap
-        (option_and_then (λ a. behind_step kind (settle (claim a) (stack_of conditions.frames.items))) (says part))) }
+        (option_and_then (λ a. behind_step kind (settle (claim a) (stack_of frames.items))) (says part))) }
 {
     match says(part) {
-        Some(term) => {
-            let conditions = behind_step(alloc, conditions.frames, kind, Tree::Atom(term))?;
-            Ok(Reader {
-                conditions,
-                part: None,
-            })
-        }
+        Some(term) => behind_term(alloc, frames, term, kind),
         None => Err(Stop::Refused),
+    }
+}
+
+/// The tree of a part that is a whole term.
+fn part_tree(part: Part) -> Option<Tree<Term>>
+    ensures { option_map formula_of result ≡ option_map claim (says part) }
+{
+    match says(part) {
+        Some(term) => Some(Tree::Atom(term)),
+        None => None,
+    }
+}
+
+/// The tree behind which a place outside of terms is.
+fn place_tree(place: Place<Term>) -> Option<Tree<Term>>
+    ensures { option_map formula_of result ≡ operand endings (outside (gap_of place)) }
+{
+    match place {
+        Place::Behind(tree) => Some(tree),
+        _ => None,
     }
 }
 
@@ -170,14 +220,8 @@ fn operand(part: Option<Part>, place: Place<Term>) -> Option<Tree<Term>>
     ensures { option_map formula_of result ≡ operand endings (place_of part (gap_of place)) }
 {
     match part {
-        Some(part) => match says(part) {
-            Some(term) => Some(Tree::Atom(term)),
-            None => None,
-        },
-        None => match place {
-            Place::Behind(tree) => Some(tree),
-            _ => None,
-        },
+        Some(part) => part_tree(part),
+        None => place_tree(place),
     }
 }
 

@@ -7,7 +7,7 @@ ghost use Rattle.doc_selection.specs.Truth.{selects};
 use crate::reader::start;
 use crate::terms::Term;
 use crate::truth::tree_holds;
-use conditions::Tree;
+use conditions::{ReadFault, Tree, read};
 use doc_types::{Language, Schema};
 use documents::Document;
 use std::alloc::Global;
@@ -15,7 +15,6 @@ use std::fmt;
 use std::marker::Model;
 use std::sync::Arc;
 use thiserror::Error;
-use token_readers::{ReadFault, read};
 use value_lists::{NoMemory, TryCopy};
 
 /// Why a text is no selection.

@@ -1,7 +1,7 @@
 use value_lists::{Listed, TextValue};
 
 /// How a field is compared.
-#[derive(Clone, Copy, Debug, PartialEq, Eq)]
+#[derive(Clone, Copy, PartialEq, Eq)]
 pub enum Comparison {
     Equal,
     NotEqual,
@@ -12,7 +12,7 @@ pub enum Comparison {
 }
 
 /// What a field is compared with.
-#[derive(Debug, Drop)]
+#[derive(Drop)]
 pub enum Literal {
     Integer(i64),
     /// The bytes of a text.
@@ -22,7 +22,7 @@ pub enum Literal {
 }
 
 /// What a selection asks of a document.
-#[derive(Debug, Drop)]
+#[derive(Drop)]
 pub enum Term {
     /// It is of this type.
     OfType(TextValue),

@@ -1,6 +1,6 @@
 ghost use Rattle.std.specs.Prelude.{◌≡◌, option_map};
 ghost use Rattle.std.specs.Str.{bytes_eq};
-ghost use Rattle.documents.specs.Parts.{type_of};
+ghost use Rattle.document_ids.specs.Parts.{type_of};
 ghost use Rattle.conditions.specs.Views.{formula_of};
 ghost use Rattle.doc_selection.specs.Truth.{ordered, null_compared, integer_compared, text_compared, compared, value_in, term_holds, selects};
 

@@ -1,5 +1,5 @@
 -- Maps with and without entries.
-use Rattle.std.proofs.Common.{◌≡◌, ◌==◌, ℕ, ◌+◌, zero, suc, ◌<◌, Bool, true, false, not, cond, List, [], ◌∷◌, map, length, nat_lt, refl, sym, ap, ◌∙◌, arith, Option, Some, None, is_some}
+use Rattle.std.proofs.Common.{◌≡◌, ◌==◌, ℕ, ◌+◌, zero, suc, ◌<◌, Bool, true, false, not, cond, List, [], ◌∷◌, length, nat_lt, refl, sym, ap, ◌∙◌, arith, is_some}
 use Rattle.std.specs.FinMap as fin
 use Rattle.std.proofs.lemmas.Bool.Decides.{nat_tests}
 use Rattle.std.specs.Cmp.Lexicographic.{nat_list_cmp_total}

@@ -1,10 +1,12 @@
+-- Shared: other crates cite these.
 pub mod Runs
-pub mod BodyReading
-pub mod TokenReading
-pub mod Finding
 pub mod TokenLaws
-pub mod ValueLaws
-pub mod LiteralLaws
-pub mod IntegerLaws
-pub mod SchemaLaws
-pub mod Known
+-- Of this crate alone.
+mod BodyReading
+mod TokenReading
+mod NumberReading
+mod Finding
+mod ValueLaws
+mod LiteralLaws
+mod IntegerLaws
+mod Known

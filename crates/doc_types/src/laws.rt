@@ -9,9 +9,6 @@ ghost use Rattle.std.specs.Char.{is_ascii_digit};
 ghost use Rattle.doc_types.specs.Tokens.{Token, word, integer, quoted, is_name, is_quote, token_at};
 ghost use Rattle.doc_types.specs.Spelling.{IsSpelled, SaysInteger, escaped};
 ghost use Rattle.doc_types.specs.Fronts.{IsFront, BeginsNot};
-ghost use Rattle.serde_json.specs.Data.{Data};
-ghost use Rattle.doc_types.specs.Schemas.{schema_fault};
-ghost use Rattle.doc_types.specs.SchemaTexts.{IsSchema};
 ghost use Rattle.doc_types.specs.Values.{value_order};
 
 /// A token is a front of its text that isn't empty, so reading goes on; a word ends where no name byte
@@ -40,12 +37,6 @@ pub fn integers_are_decimal()
     ensures { (language : Language) (text rest : List ℕ) (z : ℤ)
         → (token_at language text ≡ Some (integer z, rest))
         ↔ (SaysInteger text z rest × BeginsNot is_ascii_digit rest) }
-{}
-
-/// A JSON value is a schema exactly where it is an object of at most 16 types, each of which has a name and is
-/// an object of at most 32 fields, each of which has a name and the word of a kind.
-pub fn schemas_are_spelled()
-    ensures { (d : Data) → (schema_fault (Some d) ≡ None) ↔ IsSchema d }
 {}
 
 /// Numbers and texts have one order: what is alike is one value, turned round the order turns round,

@@ -6,26 +6,24 @@
 //! at the front of a text and of what is behind it (`token_at` in `specs/Tokens.antt`).
 //!
 //! ```text
-//! let schema = Schema::from_json(alloc, DEFAULT_SCHEMA)?;
+//! let schema = Schema::of(types);                   // `json_documents` reads one from JSON
 //! schema.field("music", "year")                     // Some(FieldType::Int)
 //! read_token(alloc, Language::Query, "12abc")?      // the integer 12, and "abc" behind it
 //! ```
 #![tactic(auto)]
 
-mod cuts;
+pub mod cuts;
 mod integers;
 pub mod laws;
 mod literals;
 pub mod outputs;
 pub mod schema;
-pub mod schema_faults;
 pub mod symbols;
 pub mod tokens;
 pub mod values;
 
 pub use outputs::{OutputKind, OutputKinds};
 pub use schema::{DEFAULT_SCHEMA, Schema};
-pub use schema_faults::SchemaFault;
 pub use symbols::{Language, Symbol};
 pub use tokens::{Lexeme, read_token, skip_blanks};
 pub use value_lists::TextValue;

@@ -6,7 +6,7 @@ pub type OutputKinds = Listed<OutputKind>;
 
 /// What a search says of a group: how many documents it has, or of a field of theirs the sum, the least
 /// value or the greatest.
-#[derive(Debug, Drop)]
+#[derive(Drop)]
 pub enum OutputKind {
     Count,
     Sum(TextValue),

@@ -21,7 +21,7 @@ pub enum FieldType {
 }
 
 /// A value of a field.
-#[derive(Debug, Drop)]
+#[derive(Drop)]
 pub enum FieldValue {
     Int(i64),
     Text(TextValue),

@@ -2,7 +2,7 @@
 use Rattle.std.specs.Prelude.{◌==◌, ◌++◌, ℕ, ℤ, pos, negsuc, ◌+ℤ◌, ◌-ℤ◌, ◌*ℤ◌, int_div, ◌^◌, Bool, false, List, [], length, Option, Some, None, Result, Ok, Err, nat_lt, if◌then◌else◌}
 use Rattle.doc_types.specs.declared.values.FieldValue.{FieldValue}
 use Rattle.doc_types.specs.declared.values.FieldValue.TheVariants.{Int, Text, Ints, Texts}
-use Rattle.documents.specs.Json.{most_items}
+use Rattle.documents.specs.Kinds.{most_items}
 use Rattle.doc_updates.specs.declared.change.Change.{Change}
 use Rattle.doc_updates.specs.declared.change.Change.TheVariants.{Assign, Clear, Increment, Decrement, Multiply, Divide, AddNumbers, AddTexts}
 use Rattle.doc_updates.specs.declared.fault.Reason.{Reason}

@@ -1,19 +1,12 @@
--- What an update is, which objects say one, and what it makes of a document's fields.
-use Rattle.std.specs.Prelude.{ℕ, Bool, not, List, [], ◌∷◌, map, Option, Some, None, Result, Ok, Err, is_some, nat_lt, if◌then◌else◌}
+-- What an update is, and what it makes of a document's fields.
+use Rattle.std.specs.Prelude.{ℕ, List, [], ◌∷◌, map, Option, Some, None, Result, Ok, Err, nat_lt, if◌then◌else◌}
 use Rattle.std.specs.Coded.{Coded, coded_ℕ, coded_list}
 use Rattle.std.specs.FinMap as fin
-use Rattle.serde_json.specs.Data.{Data, Members}
-use Rattle.doc_types.specs.SchemaCodes.{name_cmp, Types}
-use Rattle.doc_types.specs.declared.values.FieldType.{FieldType}
+use Rattle.doc_types.specs.SchemaCodes.{name_cmp}
 use Rattle.doc_types.specs.declared.values.FieldValue.{FieldValue}
-use Rattle.documents.specs.Faults.{name_fault}
 use Rattle.documents.specs.Fields.{FieldMap}
-use Rattle.documents.specs.Json.{Kinds, kinds_of, said}
 use Rattle.documents.specs.Sizes.{largest, size_of}
-use Rattle.documents.specs.declared.fault.DocumentFault.{DocumentFault}
-use Rattle.documents.specs.declared.fault.DocumentFault.TheVariants.{UnknownType}
 use Rattle.doc_updates.specs.Effects.{changed}
-use Rattle.doc_updates.specs.Words.{change_for, change_in}
 use Rattle.doc_updates.specs.declared.change.Change.{Change}
 use Rattle.doc_updates.specs.declared.change.Named.{Named}
 use Rattle.doc_updates.specs.declared.fault.Reason.{Reason}
@@ -33,21 +26,7 @@ changes_code = fin.code (coded_list coded_ℕ) change.the_row.coded
 abbrev pub pairs : List Named → List (List ℕ × Change)
 pairs changes = map (λ c. (c.name, c.change)) changes
 
--- no word of the field with a right value
-abbrev pub is_no_change : Option FieldType → Data → Bool
-is_no_change k d = not (is_some (change_for k d))
-
-abbrev pub is_wrong : Kinds → List ℕ → Data → Bool
-is_wrong kinds name d = is_no_change (kinds name) d
-
--- why an object says no update of a type
-abbrev pub update_fault : Types → List ℕ → Members → Option DocumentFault
-update_fault types type_name ms = if is_some (fin.get types type_name) then name_fault (is_wrong (kinds_of types type_name)) (kinds_of types type_name) ms else Some UnknownType
-
--- the changes that an object says
-abbrev pub changes_in : Kinds → Members → Changes
-changes_in kinds ms = fin.from_entries (said (change_in kinds) ms)
-
+-- a fault of a field, with its name
 abbrev pub named : List ℕ → Reason → UpdateFault
 named name reason.ZeroDivisor = ZeroDivisor name
 named name reason.Overflow = Overflow name

@@ -2,7 +2,7 @@ use doc_types::{FieldValue, IntList, TextList};
 use value_lists::TextValue;
 
 /// What an update does to one field.
-#[derive(Debug, Drop)]
+#[derive(Drop)]
 pub enum Change {
     /// The field has this value.
     Assign { value: FieldValue },
@@ -23,7 +23,7 @@ pub enum Change {
 }
 
 /// A change of the field of a name.
-#[derive(Debug, Drop)]
+#[derive(Drop)]
 pub struct Named {
     pub name: TextValue,
     pub change: Change,

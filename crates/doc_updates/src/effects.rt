@@ -5,7 +5,7 @@ ghost use Rattle.doc_updates.specs.declared.fault.Reason.TheVariants as reason;
 use crate::change::Change;
 use crate::fault::Reason;
 use doc_types::{FieldValue, IntList, TextList};
-use documents::values::MOST_ITEMS;
+use documents::document::MOST_ITEMS;
 use std::alloc::Global;
 use value_lists::{NoMemory, TextValue, TryCopy, copy_all};
 

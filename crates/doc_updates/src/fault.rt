@@ -53,7 +53,7 @@ impl TryCopy for UpdateFault {
 }
 
 /// Why one value can't be changed.
-#[derive(Clone, Copy, Debug, PartialEq, Eq)]
+#[derive(Clone, Copy, PartialEq, Eq)]
 pub enum Reason {
     ZeroDivisor,
     Overflow,

@@ -1,32 +1,22 @@
 ghost use Rattle.std.specs.Prelude.{◌≡◌, ◌≢◌, T, true, Some, None, Ok, Err, IfOk, IfErr, OnOk};
 ghost use Rattle.std.specs.FinMap as fin;
-ghost use Rattle.serde_json.specs.Find.{as_object};
-ghost use Rattle.serde_json.specs.View.{view};
 ghost use Rattle.doc_types.specs.SchemaCodes.{name_cmp};
-ghost use Rattle.doc_types.specs.Schemas.{is_object, members_in};
-ghost use Rattle.document_ids.specs.Parts.{type_of};
-ghost use Rattle.documents.specs.Json.{kinds_of};
-ghost use Rattle.documents.specs.declared.fault.DocumentFault.TheVariants as reason;
-ghost use Rattle.doc_updates.specs.Updates.{pairs, named, update_fault, changes_in, one_changed, all_changed, and_then, sized, updated};
+ghost use Rattle.doc_updates.specs.Updates.{pairs, named, one_changed, all_changed, and_then, sized, updated};
 ghost use Rattle.doc_updates.specs.declared.fault.UpdateFault.TheVariants as update_reason;
 
 use crate::change::Named;
 use crate::effects::changed;
 use crate::fault::{Reason, UpdateFault};
-use crate::words::changes_in;
-use doc_types::Schema;
-use document_ids::DocId;
+use documents::Document;
 use documents::document::LARGEST;
-use documents::members::name_of;
-use documents::{Document, DocumentFault};
-use serde_json::Value;
+use documents::field::name_of;
 use std::alloc::Global;
 use std::marker::Model;
 use std::sync::Arc;
 use value_lists::{NoMemory, TryCopy};
 
 /// What a line changes of a document; copies share it.
-#[derive(Debug, Drop)]
+#[derive(Drop)]
 pub struct Update {
     list: Arc<Vec<Named>>,
 }
@@ -126,39 +116,10 @@ fn changed_by(
 }
 
 impl Update {
-    /// The update that an object says of a document of this id, by a schema: for each field an object
-    /// with exactly one word. The fault is the first that holds, in the order of `DocumentFault`, with
-    /// the least name; an update is never too large.
-    pub fn from_json(
-        alloc: Global,
-        id: &DocId,
-        fields: &Value,
-        schema: &Schema,
-    ) -> Result<Update, DocumentFault>
-        requires object { is_object (view fields.now) ≡ true }
-        ensures read { IfOk result (λ update.
-            (update_fault schema.now (type_of id.now) (members_in (as_object (view fields.now))) ≡ None)
-            × (update ≡ changes_in (kinds_of schema.now (type_of id.now))
-            (members_in (as_object (view fields.now))))) }
-        ensures refused { IfErr result (λ fault. (fault ≢ reason.NoMemory)
-            → (update_fault schema.now (type_of id.now) (members_in (as_object (view fields.now)))
-            ≡ Some fault)) }
-    {
-        if !schema.has_type(id.type_name()) {
-            return Err(DocumentFault::UnknownType);
-        }
-        let Some(members) = fields.as_object() else {
-            unreachable!()
-        };
-        let list = changes_in(alloc, members, id.type_name(), schema)?;
-        Update::of(alloc, list)
-    }
-
-    /// The update of these changes, in the order of their names.
-    fn of(alloc: Global, list: Vec<Named>) -> Result<Update, DocumentFault>
+    /// The update of these changes, in the order of their names. The only error is want of memory.
+    pub fn of(alloc: Global, list: Vec<Named>) -> Result<Update, NoMemory>
         requires sorted { T (fin.is_sorted name_cmp (pairs list.items)) }
-        ensures read { IfOk result (λ update. update ≡ fin.from_entries (pairs list.items)) }
-        ensures refused { IfErr result (λ fault. fault ≡ reason.NoMemory) }
+        ensures { IfOk result (λ update. update ≡ fin.from_entries (pairs list.items)) }
     {
         Ok(Update {
             list: Arc::new(alloc, list)?,

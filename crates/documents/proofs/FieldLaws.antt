@@ -5,7 +5,7 @@ use mathlib.Core.Bool.{true≢false}
 use denote.Ref.{Bor}
 use Rattle.std.specs.List.{find, filter}
 use Rattle.std.specs.FinMap as fin
-use Rattle.std.specs.FinMap.{same_entries_map, entries-from_sorted, entries-insert, empty_of_len, len-entries, same_map, get-remove, get-from_sorted, slice_cmp-IsAntisymmetric, nat_cmp-IsAntisymmetric}
+use Rattle.std.specs.FinMap.{same_entries_map, entries-from_sorted, entries-insert, empty_of_len, len-entries, same_map, get-remove, get-from_sorted, get-from_entries, slice_cmp-IsAntisymmetric, nat_cmp-IsAntisymmetric}
 use Rattle.std.specs.FinMap.Entries.{is_sorted-put, is_sorted-where_key, find-where_key}
 use Rattle.std.specs.Cmp.{eq_by_cmp_equiv}
 use Rattle.std.specs.Cmp.Lexicographic.{nat_list_cmp_total}
@@ -120,3 +120,8 @@ map_cleared es q sorted = same_map nat_list_cmp_total (slice_cmp-IsAntisymmetric
     turned : (b : Bool) (o : Option FieldValue) → cond (not b) o None ≡ cond b None o
     turned true o = refl
     turned false o = refl
+
+-- a list in order is the map of its entries
+pub of_sorted : {X : Type 0} (es : List (List ℕ × X)) → T (fin.is_sorted name_cmp es) → fin.from_sorted {R = name_cmp} es ≡ fin.from_entries es
+of_sorted es sorted = same_map nat_list_cmp_total (slice_cmp-IsAntisymmetric nat_cmp-IsAntisymmetric) _ _
+    (λ q. get-from_sorted name_cmp es q sorted ∙ sym (get-from_entries nat_list_cmp_total es q))

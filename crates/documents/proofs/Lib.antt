@@ -1,4 +1,3 @@
+-- Shared: other crates cite these.
 pub mod FieldLaws
-pub mod JsonLaws
 pub mod SizeLaws
-pub mod BackLaws

@@ -4,7 +4,7 @@ use Rattle.std.specs.List.{AllByRecursion}
 use Rattle.doc_types.specs.Values.{kind_of}
 use Rattle.doc_types.specs.declared.values.FieldValue.{FieldValue}
 use Rattle.doc_types.specs.declared.values.FieldValue.TheVariants.{Int, Text, Ints, Texts}
-use Rattle.documents.specs.Json.{Kinds, most_items}
+use Rattle.documents.specs.Kinds.{Kinds, most_items}
 
 -- a number below 2^63, as each number of 64 bits with its sign is
 abbrev pub IsSmall : ℤ → Type 0

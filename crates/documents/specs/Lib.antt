@@ -1,9 +1,8 @@
--- A reader needs Fields, Sizes, Json, Faults and Fitting; Places is for proofs.
+-- A reader needs Fields, Sizes, Kinds, Faults and Fitting; Places is for proofs.
 pub mod Fields
 pub mod Sizes
-pub mod Json
+pub mod Kinds
 pub mod Faults
 pub mod Fitting
 pub mod Places
--- Passed on, so that the crates above need not list those below.
-pub use Rattle.document_ids.specs.Parts
+pub mod EntryCodes

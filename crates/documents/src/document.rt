@@ -1,25 +1,16 @@
-ghost use Rattle.std.specs.Prelude.{◌≡◌, ◌≢◌, T, true, Some, None, IfOk, IfErr, OnOk, OnErr, option_map};
+ghost use Rattle.std.specs.Prelude.{◌≡◌, T, Some, None, IfOk, IfErr, OnOk, OnErr, option_map};
 ghost use Rattle.std.specs.FinMap as fin;
-ghost use Rattle.serde_json.specs.Data.{object};
-ghost use Rattle.serde_json.specs.Find.{as_object};
-ghost use Rattle.serde_json.specs.View.{view};
 ghost use Rattle.doc_types.specs.SchemaCodes.{name_cmp};
-ghost use Rattle.doc_types.specs.Schemas.{is_object, members_in};
-ghost use Rattle.document_ids.specs.Parts.{type_of};
-ghost use Rattle.documents.specs.Faults.{document_fault, size_fault};
+ghost use Rattle.documents.specs.Faults.{size_fault};
 ghost use Rattle.documents.specs.Fields.{pairs};
-ghost use Rattle.documents.specs.Json.{kinds_of, fields_in, fields_json};
 ghost use Rattle.documents.specs.Sizes.{size_of};
-ghost use Rattle.documents.specs.declared.fault.DocumentFault.TheVariants as reason;
 
 use crate::fault::DocumentFault;
 use crate::field::SharedField;
 use crate::field_lists::{clear_in, field_of, put_in};
-use crate::members::{fields_in, members_json};
 use crate::sizes::fields_size;
-use doc_types::{FieldValue, Schema};
+use doc_types::FieldValue;
 use document_ids::DocId;
-use serde_json::Value;
 use std::alloc::Global;
 use std::marker::Model;
 use value_lists::{NoMemory, TryCopy, copy_all};
@@ -27,8 +18,11 @@ use value_lists::{NoMemory, TryCopy, copy_all};
 /// The largest size that a put or an update may leave.
 pub const LARGEST: u64 = 65_536;
 
+/// The most items of a list.
+pub const MOST_ITEMS: usize = 256;
+
 /// A document: its id, and what its fields have.
-#[derive(Debug, Drop)]
+#[derive(Drop)]
 pub struct Document {
     id: DocId,
     fields: Vec<SharedField>,
@@ -61,39 +55,8 @@ impl Document {
         }
     }
 
-    /// The document that an object says, by a schema: of each field what the member of its name has,
-    /// `null` for none. The fault is the first that holds, in the order of `DocumentFault`, with the
-    /// least name.
-    pub fn from_json(
-        alloc: Global,
-        id: DocId,
-        fields: &Value,
-        schema: &Schema,
-    ) -> Result<Document, DocumentFault>
-        requires object { is_object (view fields.now) ≡ true }
-        ensures read { IfOk result (λ document.
-            (document_fault schema.now (type_of id) (members_in (as_object (view fields.now))) ≡ None)
-            × (document ≡ record {
-              id = id;
-              fields = fields_in (kinds_of schema.now (type_of id))
-                  (members_in (as_object (view fields.now)));
-            })) }
-        ensures refused { IfErr result (λ fault. (fault ≢ reason.NoMemory)
-            → (document_fault schema.now (type_of id) (members_in (as_object (view fields.now)))
-            ≡ Some fault)) }
-    {
-        if !schema.has_type(id.type_name()) {
-            return Err(DocumentFault::UnknownType);
-        }
-        let Some(members) = fields.as_object() else {
-            unreachable!()
-        };
-        let list = fields_in(alloc, members, id.type_name(), schema)?;
-        Document::of(id, list)
-    }
-
-    /// The document of these fields, if it isn't too large.
-    fn of(id: DocId, fields: Vec<SharedField>) -> Result<Document, DocumentFault>
+    /// The document of these fields, in the order of their names, if it isn't too large; takes no memory.
+    pub fn of(id: DocId, fields: Vec<SharedField>) -> Result<Document, DocumentFault>
         requires sorted { T (fin.is_sorted name_cmp (pairs fields.items)) }
         ensures read { IfOk result (λ document. (size_fault (fin.from_entries (pairs fields.items)) ≡ None)
             × (document ≡ record { id = id; fields = fin.from_entries (pairs fields.items) })) }
@@ -113,13 +76,6 @@ impl Document {
         ensures { pairs result.now ≡ fin.entries self.now.fields }
     {
         &self.fields
-    }
-
-    /// All fields in JSON, in the order of their names. The only error is want of memory.
-    pub fn fields_json(&self, alloc: Global) -> Result<Value, NoMemory>
-        ensures { IfOk result (λ json. view json ≡ object (fields_json self.now.fields)) }
-    {
-        Ok(Value::Object(members_json(alloc, &self.fields)?))
     }
 
     /// Its id; takes no memory.

@@ -7,14 +7,14 @@ use std::sync::Arc;
 use value_lists::{NoMemory, TextValue, TryCopy};
 
 /// A field's name and its value.
-#[derive(Debug, Drop)]
+#[derive(Drop)]
 pub struct Field {
     pub name: TextValue,
     pub value: FieldValue,
 }
 
 /// A field that copies share, seen by contracts as the field.
-#[derive(Debug, Drop)]
+#[derive(Drop)]
 pub struct SharedField {
     field: Arc<Field>,
 }
@@ -33,7 +33,7 @@ impl SharedField {
     pub fn of(alloc: Global, name: &str, value: FieldValue) -> Result<SharedField, NoMemory>
         ensures { IfOk result (λ field. (field.name ≡ name.now) × (field.value ≡ value)) }
     {
-        let name = TextValue::of(String::from_str(alloc, name)?);
+        let name = name_of(alloc, name)?;
         Ok(SharedField {
             field: Arc::new(alloc, Field { name, value })?,
         })
@@ -60,4 +60,11 @@ impl TryCopy for SharedField {
             field: Arc::try_clone(&self.field)?,
         })
     }
+}
+
+/// A name of its own, where there is memory.
+pub fn name_of(alloc: Global, name: &str) -> Result<TextValue, NoMemory>
+    ensures { IfOk result (λ text. text ≡ name.now) }
+{
+    Ok(TextValue::of(String::from_str(alloc, name)?))
 }

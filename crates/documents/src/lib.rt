@@ -1,26 +1,27 @@
-//! Documents: an id and values by the names of fields, their size and their JSON.
+//! Documents: an id and values by the names of fields, and their size.
 //!
 //! A contract sees a `Document` as a record of its id and of a finite map from field names to values
 //! (`Contents` in `specs/Fields.antt`). Each field is shared by the copies of a document, so a copy
 //! holds no bytes of its own.
 //!
 //! ```text
-//! let document = Document::from_json(alloc, id, &fields, &schema)?;
+//! let mut document = Document::empty(alloc, id);
+//! document.set(alloc, "year", FieldValue::Int(1990))?;
 //! document.get("year")                 // Some(FieldValue::Int(1990))
-//! document.size()                      // 4 + 8, and so on
-//! document.fields_json(alloc)?         // {"year":1990}
+//! document.size()                      // 4 + 8
 //! ```
 #![tactic(auto)]
 
 pub mod document;
+pub mod entry;
 pub mod fault;
 pub mod field;
 mod field_lists;
-pub mod laws;
-pub mod members;
+pub mod shared_entry;
 mod sizes;
-pub mod values;
 
 pub use document::Document;
+pub use entry::Entry;
 pub use fault::DocumentFault;
 pub use field::{Field, SharedField};
+pub use shared_entry::SharedEntry;

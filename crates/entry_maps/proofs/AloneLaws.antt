@@ -4,15 +4,17 @@ use Rattle.std.specs.FinMap as fin
 use Rattle.std.specs.FinMap.{get-empty, get-insert}
 use Rattle.std.specs.Cmp.Lexicographic.{nat_list_cmp_total}
 use Rattle.std.proofs.lemmas.List.Sums.{sum_by-cons}
-use Rattle.entry_maps.specs.declared.entry.Entry.{Entry}
-use Rattle.entry_maps.specs.declared.slots.Slot.{Slot}
-use Rattle.entry_maps.specs.EntryCodes.{Entries, id_cmp}
+use Rattle.documents.specs.declared.entry.Entry.{Entry}
+use Rattle.entry_rows.specs.declared.slots.Slot.{Slot}
+use Rattle.documents.specs.EntryCodes.{id_cmp}
+use Rattle.entry_maps.specs.EntryCodes.{Entries}
 use Rattle.entry_maps.specs.Entries.{is_newer, with_entry, newer_of, alone, documents_of}
-use Rattle.entry_maps.specs.Slots.{entries_of, has_document, Apart}
+use Rattle.entry_rows.specs.Slots.{has_document}
+use Rattle.entry_maps.specs.Slots.{entries_of, Apart}
 use Rattle.entry_maps.specs.Stamps.{stamp_cmp, stamps_of}
 use Rattle.entry_maps.proofs.SlotLists.{same_id, same_id-refl, same_id-is, not_same, get-entries_of}
 use Rattle.entry_maps.proofs.StoredLaws.{with_newer}
-use Rattle.entry_maps.proofs.OrderLaws.{rising_one}
+use Rattle.entry_rows.proofs.OrderLaws.{rising_one}
 use Rattle.entry_maps.proofs.CountLaws.{len_all, documents_all}
 use Rattle.entry_maps.proofs.StampLaws.{stamps_total, stamps_same, keys-sorted, stamps-slots}
 use Rattle.entry_maps.proofs.RunLaws.{filtered_entries}

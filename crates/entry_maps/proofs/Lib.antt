@@ -1,11 +1,12 @@
+-- Shared: other crates cite these.
 pub mod SlotLists
-pub mod OrderLaws
-pub mod ChunkLists
-pub mod ChunkLaws
-pub mod StoredLaws
-pub mod RunLaws
-pub mod MergeLaws
-pub mod RowLaws
-pub mod CountLaws
 pub mod StampLaws
-pub mod AloneLaws
+pub mod JoinLaws
+-- Of this crate alone.
+mod KeptLaws
+mod StoredLaws
+mod RunLaws
+mod MergeLaws
+mod MergedRows
+mod CountLaws
+mod AloneLaws

@@ -11,18 +11,19 @@ use Rattle.std.proofs.lemmas.List.Filters.{sum_by-filter_both}
 use Rattle.bucket_ids.specs.Buckets.{Low, IsBucket, IsIn}
 use Rattle.bucket_ids.specs.Paths.{path, first_path, last_path}
 use Rattle.global_ids.specs.Keys.{key_of}
-use Rattle.entry_maps.specs.declared.entry.Entry.{Entry}
-use Rattle.entry_maps.specs.declared.slots.Slot.{Slot}
-use Rattle.entry_maps.specs.declared.chunks.Chunks.{Chunks}
+use Rattle.documents.specs.declared.entry.Entry.{Entry}
+use Rattle.entry_rows.specs.declared.slots.Slot.{Slot}
+use Rattle.entry_rows.specs.declared.chunks.Chunks.{Chunks}
 use Rattle.entry_maps.specs.declared.runs.Run.{Run}
-use Rattle.entry_maps.specs.Chunks.{flat, place}
+use Rattle.entry_rows.specs.Chunks.{flat, place}
 use Rattle.entry_maps.specs.Entries.{in_bucket}
-use Rattle.entry_maps.specs.Order.{slot_cmp}
+use Rattle.entry_rows.specs.Order.{slot_cmp}
 use Rattle.entry_maps.specs.Runs.{IsRun}
-use Rattle.entry_maps.specs.Slots.{entries_of, entry_in, IsPlaced, IsKept, has_document, lies_in, path_by}
+use Rattle.entry_rows.specs.Slots.{has_document}
+use Rattle.entry_maps.specs.Slots.{entries_of, entry_in, IsPlaced, IsKept, lies_in, path_by}
 use Rattle.entry_maps.proofs.SlotLists.{same_id, same_id-is, get-entries_of}
 use Rattle.entry_maps.proofs.StoredLaws.{same_entries}
-use Rattle.entry_maps.proofs.ChunkLaws.{fails}
+use Rattle.entry_rows.proofs.ChunkLaws.{fails}
 
 -- what the order of paths says of a bucket
 abbrev pub RunLaw : Type 0

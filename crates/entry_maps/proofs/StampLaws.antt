@@ -18,11 +18,13 @@ use Rattle.std.proofs.lemmas.Map.Keys.{sorted_tail}
 use Rattle.std.proofs.lemmas.Map.Views.{All-after_first, Contains-from_any, list_any-from_Contains}
 use Rattle.stamps.specs.declared.stamp.Stamp.{Stamp}
 use Rattle.stamps.specs.Order.{IsBefore}
-use Rattle.entry_maps.specs.declared.entry.Entry.{Entry}
-use Rattle.entry_maps.specs.declared.slots.Slot.{Slot}
-use Rattle.entry_maps.specs.EntryCodes.{Entries, id_cmp}
+use Rattle.documents.specs.declared.entry.Entry.{Entry}
+use Rattle.entry_rows.specs.declared.slots.Slot.{Slot}
+use Rattle.documents.specs.EntryCodes.{id_cmp}
+use Rattle.entry_maps.specs.EntryCodes.{Entries}
 use Rattle.entry_maps.specs.Slots.{entries_of, Apart}
-use Rattle.entry_maps.specs.Stamps.{stamp_cmp, set_of, rising_of, stamp_in, stamps_of, IsRising}
+use Rattle.entry_maps.specs.Stamps.{stamp_cmp, set_of, rising_of, stamp_in, stamps_of}
+use Rattle.stamps.specs.Rising.{IsRising}
 use Rattle.entry_maps.proofs.SlotLists.{get-entries_of}
 
 -- ---- the keys of a set, in any order

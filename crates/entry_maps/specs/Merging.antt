@@ -3,9 +3,9 @@ use Rattle.std.specs.Prelude.{◌≡◌, Bool, true, false, List, [], ◌∷◌,
 use Rattle.std.specs.Ordering.{match_ordering}
 use Rattle.std.specs.declared.cmp.Ordering.TheVariants.{Equal}
 use Rattle.stamps.specs.Order.{is_before}
-use Rattle.entry_maps.specs.declared.slots.Slot.{Slot}
+use Rattle.entry_rows.specs.declared.slots.Slot.{Slot}
 use Rattle.entry_maps.specs.Entries.{is_newer}
-use Rattle.entry_maps.specs.Order.{slot_cmp}
+use Rattle.entry_rows.specs.Order.{slot_cmp}
 use Rattle.entry_maps.specs.Slots.{entry_in}
 
 -- the newer of two slots of a document; of equal stamps the first

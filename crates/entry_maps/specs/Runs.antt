@@ -2,9 +2,9 @@
 use Rattle.std.specs.Prelude.{◌≡◌, ℕ, ◌+◌, ◌<◌, ◌≤◌, length, take, drop}
 use Rattle.std.specs.List.{AllWithin, count_by}
 use Rattle.entry_maps.specs.declared.runs.Run.{Run}
-use Rattle.entry_maps.specs.declared.chunks.Chunks.{Chunks}
-use Rattle.entry_maps.specs.Chunks.{flat, place, IsSeat}
-use Rattle.entry_maps.specs.Slots.{has_document}
+use Rattle.entry_rows.specs.declared.chunks.Chunks.{Chunks}
+use Rattle.entry_rows.specs.Chunks.{flat, place, IsSeat}
+use Rattle.entry_rows.specs.Slots.{has_document}
 
 -- the run begins at a seat, and its slots are there
 pub record IsWhole (c : Chunks) (run : Run) : Type 0 where

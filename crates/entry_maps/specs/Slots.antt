@@ -1,18 +1,20 @@
 -- Slots: entries in the order of the paths of their documents' keys, and of their ids where paths are one.
-use Rattle.std.specs.Prelude.{◌≡◌, ℕ, ◌<◌, ◌≤◌, ◌^◌, Bool, List, [], ◌∷◌, map, Option, None, is_some, length, slice_index_or}
+use Rattle.std.specs.Prelude.{◌≡◌, ℕ, ◌<◌, ◌≤◌, ◌^◌, Bool, List, [], ◌∷◌, map, Option, None, length, slice_index_or}
 use Rattle.std.specs.List.{All, count_by}
 use Rattle.std.specs.List.Sorted.{IsStrictlySortedBy}
 use Rattle.std.specs.FinMap as fin
 use Rattle.bucket_ids.specs.Buckets.{Low}
 use Rattle.bucket_ids.specs.Paths.{path}
 use Rattle.global_ids.specs.Keys.{key_of}
-use Rattle.entry_maps.specs.declared.entry.Entry.{Entry}
-use Rattle.entry_maps.specs.declared.slots.Slot.{Slot}
+use Rattle.documents.specs.declared.entry.Entry.{Entry}
+use Rattle.entry_rows.specs.declared.slots.Slot.{Slot}
 use Rattle.entry_maps.specs.declared.stored.Stored.{Stored}
 use Rattle.entry_maps.specs.Entries.{in_bucket}
-use Rattle.entry_maps.specs.EntryCodes.{Entries, id_cmp}
-use Rattle.entry_maps.specs.Order.{slot_cmp}
-use Rattle.entry_maps.specs.Chunks.{flat, AreSome}
+use Rattle.documents.specs.EntryCodes.{id_cmp}
+use Rattle.entry_maps.specs.EntryCodes.{Entries}
+use Rattle.entry_rows.specs.Order.{slot_cmp}
+use Rattle.entry_rows.specs.Chunks.{flat, AreSome}
+use Rattle.entry_rows.specs.Slots.{has_document}
 
 -- each slot's id with its entry
 abbrev pub pairs : List Slot → List (List ℕ × Entry)
@@ -43,10 +45,6 @@ IsPlaced s = s.path ≡ path_by s.entry.id
 pub record IsKept (slots : List Slot) : Type 0 where
   pub placed : All IsPlaced slots
   pub rising : IsStrictlySortedBy slot_cmp slots
-
--- the slot holds a document, not a remove
-abbrev pub has_document : Slot → Bool
-has_document s = is_some s.entry.body
 
 -- the key of the slot's document lies in a bucket
 abbrev pub lies_in : Low → Slot → Bool

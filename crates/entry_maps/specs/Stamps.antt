@@ -4,8 +4,7 @@ use Rattle.std.specs.Ordering.{nat_cmp, on, then_cmp}
 use Rattle.std.specs.declared.cmp.Ordering.{Ordering}
 use Rattle.std.specs.FinMap as fin
 use Rattle.stamps.specs.declared.stamp.Stamp.{Stamp}
-use Rattle.stamps.specs.Order.{IsBefore}
-use Rattle.entry_maps.specs.declared.entry.Entry.{Entry}
+use Rattle.documents.specs.declared.entry.Entry.{Entry}
 use Rattle.entry_maps.specs.EntryCodes.{Entries}
 
 -- stamps by their versions, and by their counts where these are equal
@@ -26,9 +25,3 @@ stamp_in e = e.stamp
 -- the stamps of a map's entries, each once, in rising order
 abbrev pub stamps_of : Entries → List Stamp
 stamps_of m = rising_of (map stamp_in (fin.values m))
-
--- each stamp is before the next
-abbrev pub IsRising : List Stamp → Type 0
-IsRising [] = Unit {0}
-IsRising (s ∷ []) = Unit {0}
-IsRising (s ∷ t ∷ ss) = IsBefore s t × IsRising (t ∷ ss)

@@ -1,38 +1,16 @@
 ghost use Rattle.std.specs.Prelude.{◌≡◌, ◌++◌, ◌+◌, ◌≤◌, length, take, drop, IfOk, OnOk};
-ghost use Rattle.std.specs.List.{count_by};
-ghost use Rattle.entry_maps.specs.Chunks.{place, flat_of, AreRows};
+ghost use Rattle.entry_rows.specs.Chunks.{place, flat_of, AreRows};
 ghost use Rattle.entry_maps.specs.Runs.{IsWhole};
-ghost use Rattle.entry_maps.specs.Slots.{has_document, IsCounted, IsStored, slots_in};
+ghost use Rattle.entry_maps.specs.Slots.{IsCounted, IsStored, slots_in};
 
-use crate::chunks::Spot;
-use crate::rows::Rows;
 use crate::runs::Run;
-use crate::slots::Slot;
 use crate::stored::Stored;
+use entry_rows::chunks::Spot;
+use entry_rows::copies::{documents_in, slots_copied};
+use entry_rows::rows::Rows;
+use entry_rows::slots::Slot;
 use std::alloc::Global;
-use value_lists::{NoMemory, TryCopy};
-
-/// Copies of slots. The only error is want of memory.
-fn slots_copied(alloc: Global, slots: &[Slot]) -> Result<Vec<Slot>, NoMemory>
-    ensures { IfOk result (λ copies. copies.items ≡ slots.now) }
-{
-    let mut copies = Vec::with_capacity(alloc, slots.len())?;
-    for slot in slots {
-        copies.push(slot.copy(alloc)?)?;
-    }
-    Ok(copies)
-}
-
-/// How many of the slots hold documents.
-fn documents_in(slots: &[Slot]) -> usize
-    ensures { result ≡ count_by has_document slots.now }
-{
-    let mut documents = 0;
-    for slot in slots {
-        documents += usize::from(slot.entry.has_document());
-    }
-    documents
-}
+use value_lists::NoMemory;
 
 impl Stored {
     /// Adds copies of slots behind all, as a row of their own. The only error is want of memory.

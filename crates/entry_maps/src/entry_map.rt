@@ -5,11 +5,10 @@ ghost use Rattle.global_ids.specs.Keys.{key_of};
 ghost use Rattle.entry_maps.specs.Entries.{is_newer, with_entry, newer_of, alone, in_bucket, documents_of};
 ghost use Rattle.entry_maps.specs.Stamps.{stamps_of};
 
-use crate::entry::Entry;
 use crate::kept::Kept;
-use crate::shared_entry::SharedEntry;
 use bucket_ids::{Bucket, path_of};
 use document_ids::DocId;
+use documents::{Entry, SharedEntry};
 use global_ids::key_of;
 use stamps::Stamp;
 use std::alloc::Global;

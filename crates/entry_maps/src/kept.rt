@@ -6,10 +6,10 @@ ghost use Rattle.entry_maps.specs.Kept.{kept_entries, IsWell};
 ghost use Rattle.entry_maps.specs.Slots.{IsStored, slots_in, entries_of, path_by};
 ghost use Rattle.entry_maps.specs.Stamps.{stamps_of};
 
-use crate::shared_entry::SharedEntry;
 use crate::stored::Stored;
 use bucket_ids::{Bucket, path_of};
 use document_ids::DocId;
+use documents::SharedEntry;
 use global_ids::key_of;
 use stamps::Stamp;
 use std::alloc::Global;
@@ -23,40 +23,38 @@ pub enum Kept {
     Rows(Stored),
 }
 
-impl SharedEntry {
-    /// The entry, where it is a document's.
-    fn if_of(&self, id: &DocId) -> Option<&SharedEntry>
-        ensures { option_copied result ≡ fin.get (alone self.now) id.now }
-    {
-        if self.is_of(id) { Some(self) } else { None }
-    }
+/// The entry, where it is a document's.
+fn if_of<'a>(entry: &'a SharedEntry, id: &DocId) -> Option<&'a SharedEntry>
+    ensures { option_copied result ≡ fin.get (alone entry.now) id.now }
+{
+    if entry.is_of(id) { Some(entry) } else { None }
+}
 
-    /// Its stamp, in a list. The only error is want of memory.
-    fn stamps(&self, alloc: Global) -> Result<Vec<Stamp>, NoMemory>
-        ensures { IfOk result (λ stamps. stamps.items ≡ stamps_of (alone self.now)) }
-    {
-        let mut stamps = Vec::with_capacity(alloc, 1)?;
-        stamps.push(self.entry().stamp)?;
-        Ok(stamps)
-    }
+/// Its stamp, in a list. The only error is want of memory.
+fn stamps(entry: &SharedEntry, alloc: Global) -> Result<Vec<Stamp>, NoMemory>
+    ensures { IfOk result (λ stamps. stamps.items ≡ stamps_of (alone entry.now)) }
+{
+    let mut stamps = Vec::with_capacity(alloc, 1)?;
+    stamps.push(entry.entry().stamp)?;
+    Ok(stamps)
+}
 
-    /// The entry in a row. The only error is want of memory.
-    fn laid(&self, alloc: Global) -> Result<Stored, NoMemory>
-        ensures entries { IfOk result (λ stored. entries_of (slots_in stored) ≡ alone self.now) }
-        ensures stored { IfOk result IsStored }
-    {
-        let mut stored = Stored::new(alloc);
-        let path = path_of(key_of(&self.entry().id));
-        stored.put(alloc, path, self.copy(alloc)?)?;
-        Ok(stored)
-    }
+/// The entry in a row. The only error is want of memory.
+fn laid(entry: &SharedEntry, alloc: Global) -> Result<Stored, NoMemory>
+    ensures entries { IfOk result (λ stored. entries_of (slots_in stored) ≡ alone entry.now) }
+    ensures stored { IfOk result IsStored }
+{
+    let mut stored = Stored::new(alloc);
+    let path = path_of(key_of(&entry.entry().id));
+    stored.put(alloc, path, entry.copy(alloc)?)?;
+    Ok(stored)
+}
 
-    /// Whether the key of its document lies in a bucket.
-    fn lies_in(&self, bucket: Bucket) -> bool
-        ensures { result ≡ in_bucket bucket self.now.id }
-    {
-        bucket.contains(key_of(&self.entry().id))
-    }
+/// Whether the key of its document lies in a bucket.
+fn lies_in(entry: &SharedEntry, bucket: Bucket) -> bool
+    ensures { result ≡ in_bucket bucket entry.now.id }
+{
+    bucket.contains(key_of(&entry.entry().id))
 }
 
 impl Kept {
@@ -74,7 +72,7 @@ impl Kept {
         ensures { option_copied result ≡ fin.get (kept_entries self.now) id.now }
     {
         match self {
-            Kept::One(entry) => entry.if_of(id),
+            Kept::One(entry) => if_of(entry, id),
             Kept::Rows(stored) => {
                 if stored.entries <= 1 {
                     stored.only(id)
@@ -92,7 +90,7 @@ impl Kept {
         ensures { option_copied result ≡ fin.get (kept_entries self.now) id.now }
     {
         match self {
-            Kept::One(entry) => entry.if_of(id),
+            Kept::One(entry) => if_of(entry, id),
             Kept::Rows(stored) => stored.get(path, id),
         }
     }
@@ -125,7 +123,7 @@ impl Kept {
         ensures { IfOk result (λ stamps. stamps.items ≡ stamps_of (kept_entries self.now)) }
     {
         match self {
-            Kept::One(entry) => entry.stamps(alloc),
+            Kept::One(entry) => stamps(entry, alloc),
             Kept::Rows(stored) => stored.stamps(alloc),
         }
     }
@@ -143,7 +141,7 @@ impl Kept {
         match self {
             Kept::Rows(stored) => stored.put(alloc, path, entry),
             Kept::One(one) => {
-                let mut stored = one.laid(alloc)?;
+                let mut stored = laid(one, alloc)?;
                 let taken = stored.put(alloc, path, entry)?;
                 *self = Kept::Rows(stored);
                 Ok(taken)
@@ -163,7 +161,7 @@ impl Kept {
         match self {
             Kept::Rows(stored) => stored.merge(alloc, others),
             Kept::One(one) => {
-                let mut stored = one.laid(alloc)?;
+                let mut stored = laid(one, alloc)?;
                 stored.merge(alloc, others)?;
                 *self = Kept::Rows(stored);
                 Ok(())
@@ -208,7 +206,7 @@ impl Kept {
     {
         match self {
             Kept::One(entry) => {
-                if entry.lies_in(bucket) {
+                if lies_in(entry, bucket) {
                     Ok(Kept::One(entry.copy(alloc)?))
                 } else {
                     Ok(Kept::none(alloc))
@@ -228,7 +226,7 @@ impl Kept {
         match self {
             Kept::Rows(stored) => stored.remove_within(bucket),
             Kept::One(entry) => {
-                if entry.lies_in(bucket) {
+                if lies_in(entry, bucket) {
                     *self = Kept::none(alloc);
                 }
             }

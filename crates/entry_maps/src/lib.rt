@@ -1,11 +1,11 @@
-//! Entries of documents, and maps in which the newest entry of a document wins.
+//! Maps in which the newest entry of a document wins.
 //!
-//! An `Entry` is a stamp with a document or with a remove; a `SharedEntry` is one that copies share. A contract
-//! sees an `EntryMap` as the finite map of std's from the text of an id to its entry (`Entries`). Inside, entries
-//! are shared and lie in the order of their keys' bits turned round, so that each bucket is one run
-//! (`specs/Slots.antt`), in rows of about a hundred (`specs/Chunks.antt`); a map that is made of one entry keeps
-//! that alone, without a row, until it takes another one. A merge makes new rows only of those among which the other
-//! map's entries lie; the rows before and behind them stay, and all where no entry of the other map is newer.
+//! A contract sees an `EntryMap` as the finite map of std's from the text of an id to its entry (`Entries`). Inside,
+//! entries are shared and lie in the order of their keys' bits turned round, so that each bucket is one run
+//! (`specs/Slots.antt`), in the rows of `entry_rows`; a map that is made of one entry keeps that alone, without a row,
+//! until it takes another one. A merge makes new rows only of those among which the other map's entries lie; the rows
+//! before and behind them stay, and all where no entry of the other map is newer. Where maps are folded, one wants the
+//! map itself: `joined` in `specs/Joins.antt` is that map, and `join` makes it.
 //!
 //! ```text
 //! let mut map = EntryMap::new(alloc);
@@ -14,30 +14,23 @@
 //! map.get_at(key, &id)                // the same, where the id's key is at hand
 //! map.within(Bucket::new(4, 0))?      // the entries of one bucket
 //! map.merge(&other)?;                 // of each document the newer entry
+//! join(&mut union, &answer)?;         // union is now the join of both
 //! map.stamps()?                       // the stamps of all entries, the smallest first
 //! map.copy(alloc)?                    // the same entries, shared
 //! EntryMap::of_one(alloc, entry)      // the map of one entry; takes no memory
 //! ```
 #![tactic(auto)]
 
-mod chunks;
 mod copies;
-mod cuts;
-mod edits;
-pub mod entry;
 pub mod entry_map;
+pub mod joins;
 mod kept;
 pub mod laws;
 mod listing;
 mod merging;
-mod rows;
 mod runs;
 mod seeks;
-pub mod shared_entry;
-mod slots;
 mod stored;
 
-pub use documents::Document;
-pub use entry::Entry;
 pub use entry_map::EntryMap;
-pub use shared_entry::SharedEntry;
+pub use joins::{join, joins_are_by_document};

@@ -3,8 +3,8 @@ ghost use Rattle.std.specs.List.{flat_map};
 ghost use Rattle.entry_maps.specs.Slots.{IsStored, slots_in, entries_of};
 ghost use Rattle.entry_maps.specs.Stamps.{rising_of, stamps_of};
 
-use crate::slots::Slot;
 use crate::stored::Stored;
+use entry_rows::slots::Slot;
 use stamps::Stamp;
 use std::alloc::Global;
 use value_lists::NoMemory;

@@ -1,14 +1,14 @@
 ghost use Rattle.std.specs.Prelude.{◌≡◌, ◌++◌, ◌≤◌, ◌^◌, ℕ, List, IfOk, OnOk, OnErr, IfSome, Some, true, option_map};
 ghost use Rattle.std.specs.List.{All};
 ghost use Rattle.std.specs.FinMap as fin;
-ghost use Rattle.entry_maps.specs.Chunks.{AreRows, flat_of, flat_before, flat_behind};
+ghost use Rattle.entry_rows.specs.Chunks.{AreRows, flat_of, flat_before, flat_behind};
 ghost use Rattle.entry_maps.specs.Entries.{newer_of};
 ghost use Rattle.entry_maps.specs.Merging.{newer_slot, merged, next_of, IsAsNew, HasAsNew};
 ghost use Rattle.entry_maps.specs.Slots.{IsCounted, IsStored, slots_in, entries_of};
 
-use crate::rows::Rows;
-use crate::slots::Slot;
 use crate::stored::Stored;
+use entry_rows::rows::Rows;
+use entry_rows::slots::Slot;
 use std::alloc::Global;
 use std::cmp::Ordering;
 use value_lists::{NoMemory, TryCopy};

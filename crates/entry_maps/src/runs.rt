@@ -4,10 +4,10 @@ ghost use Rattle.entry_maps.specs.Entries.{in_bucket};
 ghost use Rattle.entry_maps.specs.Runs.{IsRun};
 ghost use Rattle.entry_maps.specs.Slots.{IsStored, slots_in, entries_of};
 
-use crate::chunks::Spot;
 use crate::stored::Stored;
 use bucket_ids::Bucket;
 use bucket_ids::laws::buckets_are_runs;
+use entry_rows::chunks::Spot;
 use global_ids::laws::keys_locate;
 use std::alloc::Global;
 use value_lists::NoMemory;

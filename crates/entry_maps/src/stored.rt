@@ -1,14 +1,15 @@
 ghost use Rattle.std.specs.Prelude.{◌≡◌, ◌+◌, ◌<◌, ◌≤◌, ◌^◌, ◌++◌, ◌∷◌, [], if◌then◌else◌, IfOk, OnOk, OnErr, None};
 ghost use Rattle.std.specs.FinMap as fin;
 ghost use Rattle.std.specs.Option.{option_copied};
-ghost use Rattle.entry_maps.specs.Chunks.{place, IsSeat, IsPlaceFor};
+ghost use Rattle.entry_rows.specs.Chunks.{place, IsSeat, IsPlaceFor};
 ghost use Rattle.entry_maps.specs.Entries.{is_newer, with_entry};
 ghost use Rattle.entry_maps.specs.Slots.{IsCounted, IsStored, IsPlaced, IsSlotOf, slots_in, entries_of, entry_in, path_by};
 
-use crate::chunks::{Chunks, Spot};
-use crate::shared_entry::SharedEntry;
-use crate::slots::Slot;
+use crate::seeks::seek;
 use document_ids::DocId;
+use documents::SharedEntry;
+use entry_rows::chunks::{Chunks, Spot};
+use entry_rows::slots::Slot;
 use std::alloc::Global;
 use value_lists::NoMemory;
 
@@ -54,7 +55,7 @@ impl Stored {
         requires path { path ≡ path_by id.now }
         ensures { option_copied result ≡ fin.get (entries_of (slots_in self.now)) id.now }
     {
-        match self.list.seek(path, id) {
+        match seek(&self.list, path, id) {
             Ok(seat) => Some(&self.list.at(seat).entry),
             Err(_) => None,
         }
@@ -171,7 +172,7 @@ impl Stored {
         ensures err { OnErr result (entries_of (slots_in self.new) ≡ entries_of (slots_in self.old)) }
         ensures stored { IsStored self.new }
     {
-        match self.list.seek(path, &entry.entry().id) {
+        match seek(&self.list, path, &entry.entry().id) {
             Ok(seat) => Ok(self.renew(seat, path, entry)),
             Err(spot) => {
                 self.add(alloc, spot, Slot { path, entry })?;

@@ -1,9 +1,9 @@
-pub mod SetLaws
-pub mod TextLaws
-pub mod LineTests
-pub mod LineLaws
-pub mod SettingLaws
-pub mod UpkeepLaws
-pub mod CauseOrder
-pub mod BareLines
-pub mod RangeLaws
+mod SetLaws
+mod TextLaws
+mod LineTests
+mod LineLaws
+mod SettingLaws
+mod UpkeepLaws
+mod CauseOrder
+mod BareLines
+mod RangeLaws

@@ -3,11 +3,12 @@ use Rattle.std.proofs.Common.{◌≡◌, ℕ, ◌≤◌, ◌&&◌, Bool, true, f
 use Rattle.std.proofs.lemmas.Bool.Decides.{nat_tests}
 use Rattle.serde_json.specs.Data.{Data, object}
 use Rattle.doc_types.specs.SchemaCodes.{Types}
-use Rattle.documents.specs.Faults.{first_name, is_unknown, is_wrong}
+use Rattle.json_documents.specs.DocumentFaults.{first_name, is_unknown, is_wrong}
 use Rattle.documents.specs.Fields.{Contents}
-use Rattle.documents.specs.Json.{fields_in}
+use Rattle.json_documents.specs.Json.{fields_in}
 use Rattle.documents.specs.Sizes.{largest, size_of}
-use Rattle.doc_updates.specs.Updates as update
+use Rattle.doc_updates.specs.Updates.{Changes}
+use Rattle.json_documents.specs.Updates as update
 use Rattle.conditions.specs.Formulas.{Formula}
 use Rattle.doc_selection.specs.declared.terms.Term.{Term}
 use Rattle.messages.specs.declared.operation.Operation.{Operation}
@@ -69,7 +70,7 @@ means_put types bits d id document c e via p =
       size = ap not (not_more _ p.small);
     }) refl refl refl (ap kind.Put (sym p.content))
 
-pub means_update : (types : Types) (bits : ℕ) (d : Data) (id : List ℕ) (changes : update.Changes) (c : Option (Formula Term)) (e : Bool) (via : Option ℕ) → IsUpdate types d id changes c e via
+pub means_update : (types : Types) (bits : ℕ) (d : Data) (id : List ℕ) (changes : Changes) (c : Option (Formula Term)) (e : Bool) (via : Option ℕ) → IsUpdate types d id changes c e via
     → data_said types bits d ≡ Ok (command.Feed (record { id = id; kind = kind.Update changes; condition = c; create = e }) via)
 means_update types bits d id changes c e via p =
     says types bits verb.Update d id (with_fields d (Some (object p.said))) (kind.Update changes) c e via p.line (record {
@@ -108,7 +109,7 @@ put_from types d i b document m k =
     content : (a b : Contents) → kind.Put b ≡ kind.Put a → a ≡ b
     content a b e = cc
 
-update_from : (types : Types) (d : Data) (i : List ℕ) (b : Beside) (changes : update.Changes) → Meets types verb.Update d i b → kind_in types verb.Update i b.fields ≡ kind.Update changes
+update_from : (types : Types) (d : Data) (i : List ℕ) (b : Beside) (changes : Changes) → Meets types verb.Update d i b → kind_in types verb.Update i b.fields ≡ kind.Update changes
     → IsUpdate types d i changes (condition_in types b.condition) (create_in b.create) (via_in b.via)
 update_from types d i b changes m k =
     let found = object_from b.fields (left _ _ m.values) in
@@ -121,7 +122,7 @@ update_from types d i b changes m k =
       content = content changes _ k ∙ ap (λ f. update.changes_in (kinds_for types i) (said_in f)) found.1;
     }
   where
-    content : (a b : update.Changes) → kind.Update b ≡ kind.Update a → a ≡ b
+    content : (a b : Changes) → kind.Update b ≡ kind.Update a → a ≡ b
     content a b e = cc
 
 put_by : (types : Types) (d : Data) (v : Verb) (i : List ℕ) (b : Beside) (document : Contents) → Meets types v d i b → kind_in types v i b.fields ≡ kind.Put document
@@ -131,7 +132,7 @@ put_by types d verb.Update i b document m k = cc
 put_by types d verb.Remove i b document m k = cc
 put_by types d verb.Get i b document m k = cc
 
-update_by : (types : Types) (d : Data) (v : Verb) (i : List ℕ) (b : Beside) (changes : update.Changes) → Meets types v d i b → kind_in types v i b.fields ≡ kind.Update changes
+update_by : (types : Types) (d : Data) (v : Verb) (i : List ℕ) (b : Beside) (changes : Changes) → Meets types v d i b → kind_in types v i b.fields ≡ kind.Update changes
     → IsUpdate types d i changes (condition_in types b.condition) (create_in b.create) (via_in b.via)
 update_by types d verb.Put i b changes m k = cc
 update_by types d verb.Update i b changes m k = update_from types d i b changes m k
@@ -160,7 +161,7 @@ put_means types bits d id document c e via h =
     subst (λ o. IsPut types d o.id document o.condition o.create via) same.0
     (subst (λ w. IsPut types d s.id document (condition_in types s.beside.condition) (create_in s.beside.create) w) same.1 (put_by types d s.v s.id s.beside document s.holds (ap (λ o. o.kind) same.0)))
 
-pub update_means : (types : Types) (bits : ℕ) (d : Data) (id : List ℕ) (changes : update.Changes) (c : Option (Formula Term)) (e : Bool) (via : Option ℕ)
+pub update_means : (types : Types) (bits : ℕ) (d : Data) (id : List ℕ) (changes : Changes) (c : Option (Formula Term)) (e : Bool) (via : Option ℕ)
     → data_said types bits d ≡ Ok (command.Feed (record { id = id; kind = kind.Update changes; condition = c; create = e }) via) → IsUpdate types d id changes c e via
 update_means types bits d id changes c e via h =
     let s = fed types bits d _ _ h in

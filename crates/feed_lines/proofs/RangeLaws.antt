@@ -8,9 +8,9 @@ use Rattle.serde_json.specs.Events.{items_len, members_len}
 use Rattle.serde_json.specs.Find.{get, as_array, as_object, as_str}
 use Rattle.serde_json.specs.Read.{read}
 use Rattle.doc_types.specs.SchemaCodes.{Types}
-use Rattle.doc_types.specs.Schemas.{members_in}
+use Rattle.json_documents.specs.Schemas.{members_in}
 use Rattle.documents.specs.Fields.{Contents}
-use Rattle.documents.specs.Json.{whole, onto, each}
+use Rattle.json_documents.specs.Json.{whole, onto, each}
 use Rattle.messages.specs.declared.operation.Operation.{Operation}
 use Rattle.messages.specs.declared.operation.OpKind.{OpKind}
 use Rattle.messages.specs.declared.operation.OpKind.TheVariants as kind

@@ -4,11 +4,12 @@ use Rattle.serde_json.specs.Data.{Data, Members, boolean, string, object}
 use Rattle.serde_json.specs.Find.{get}
 use Rattle.doc_types.specs.SchemaCodes.{Types}
 use Rattle.document_ids.specs.Parts.{parts_of}
-use Rattle.documents.specs.Faults.{first_name, is_unknown, is_wrong}
+use Rattle.json_documents.specs.DocumentFaults.{first_name, is_unknown, is_wrong}
 use Rattle.documents.specs.Fields.{Contents}
-use Rattle.documents.specs.Json.{fields_in}
+use Rattle.json_documents.specs.Json.{fields_in}
 use Rattle.documents.specs.Sizes.{largest, size_of}
-use Rattle.doc_updates.specs.Updates as update
+use Rattle.doc_updates.specs.Updates.{Changes}
+use Rattle.json_documents.specs.Updates as update
 use Rattle.conditions.specs.Formulas.{Formula}
 use Rattle.doc_selection.specs.Saying.{selection_in}
 use Rattle.doc_selection.specs.declared.terms.Term.{Term}
@@ -70,7 +71,7 @@ pub record IsPut (types : Types) (d : Data) (id : List ℕ) (document : Contents
   pub content : document ≡ record { id = id; fields = fields_in (kinds_for types id) said }
 
 -- such a line with changes of fields, each known and right
-pub record IsUpdate (types : Types) (d : Data) (id : List ℕ) (changes : update.Changes) (condition : Option (Formula Term)) (create : Bool) (via : Option ℕ) : Type 0 where
+pub record IsUpdate (types : Types) (d : Data) (id : List ℕ) (changes : Changes) (condition : Option (Formula Term)) (create : Bool) (via : Option ℕ) : Type 0 where
   pub line : IsLine types verb.Update d id condition create via
   pub said : Members
   pub fields : get (codes "fields") d ≡ Some (object said)

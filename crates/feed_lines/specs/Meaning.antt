@@ -6,10 +6,10 @@ use Rattle.serde_json.specs.Data.{Data}
 use Rattle.serde_json.specs.Find.{as_str, as_bool}
 use Rattle.serde_json.specs.Read.{read}
 use Rattle.doc_types.specs.SchemaCodes.{Types}
-use Rattle.documents.specs.Json.{fields_in}
+use Rattle.json_documents.specs.Json.{fields_in}
 use Rattle.documents.specs.declared.fault.DocumentFault.{DocumentFault}
 use Rattle.documents.specs.declared.fault.DocumentFault.TheVariants as reason
-use Rattle.doc_updates.specs.Updates.{changes_in}
+use Rattle.json_documents.specs.Updates.{changes_in}
 use Rattle.conditions.specs.Formulas.{Formula}
 use Rattle.doc_selection.specs.Saying.{selection_in}
 use Rattle.doc_selection.specs.declared.terms.Term.{Term}

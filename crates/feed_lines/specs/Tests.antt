@@ -4,12 +4,13 @@ use Rattle.std.specs.FinMap as fin
 use Rattle.serde_json.specs.Data.{Data, Members, no_members}
 use Rattle.serde_json.specs.Find.{get, as_object, as_str, as_bool}
 use Rattle.doc_types.specs.SchemaCodes.{Types}
-use Rattle.doc_types.specs.Schemas.{members_in}
+use Rattle.json_documents.specs.Schemas.{members_in}
 use Rattle.document_ids.specs.Parts.{parts_of, type_of}
-use Rattle.documents.specs.Faults.{first_name, is_unknown, is_wrong}
-use Rattle.documents.specs.Json.{Kinds, kinds_of, fields_in}
+use Rattle.json_documents.specs.DocumentFaults.{first_name, is_unknown, is_wrong}
+use Rattle.documents.specs.Kinds.{Kinds, kinds_of}
+use Rattle.json_documents.specs.Json.{fields_in}
 use Rattle.documents.specs.Sizes.{largest, size_of}
-use Rattle.doc_updates.specs.Updates as update
+use Rattle.json_documents.specs.Updates as update
 use Rattle.conditions.specs.Formulas.{Formula}
 use Rattle.doc_selection.specs.Saying.{selection_in}
 use Rattle.doc_selection.specs.declared.terms.Term.{Term}

@@ -5,8 +5,8 @@ use Rattle.std.specs.Str.{bytes_eq}
 use Rattle.serde_json.specs.Data.{Data, Items}
 use Rattle.serde_json.specs.Events.{items_len, members_len}
 use Rattle.serde_json.specs.Find.{get, as_array, as_object, as_str}
-use Rattle.doc_types.specs.Schemas.{members_in}
-use Rattle.documents.specs.Json.{whole, each}
+use Rattle.json_documents.specs.Schemas.{members_in}
+use Rattle.json_documents.specs.Json.{whole, each}
 use Rattle.carriers.specs.declared.fate.Fate.{Fate}
 use Rattle.carriers.specs.declared.fate.Fate.TheVariants as fate
 

@@ -9,7 +9,7 @@ use thiserror::Error;
 use value_lists::{NoMemory, TextValue};
 
 /// What a line asks for.
-#[derive(Debug, Drop)]
+#[derive(Drop)]
 pub enum Command {
     /// Nothing: it has at most 65,536 bytes, which are spaces, tabs and CR alone.
     Blank,

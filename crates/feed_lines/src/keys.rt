@@ -5,7 +5,7 @@ ghost use Rattle.feed_lines.specs.Keys.{is_later_verb, other_verb, verb_named, o
 use serde_json::{Map, Value};
 
 /// What is done with a document.
-#[derive(Clone, Copy, Debug, PartialEq, Eq)]
+#[derive(Clone, Copy, PartialEq, Eq)]
 pub enum Verb {
     Put,
     Update,
@@ -14,7 +14,7 @@ pub enum Verb {
 }
 
 /// What a line does; `Later` are the verbs that aren't built yet.
-#[derive(Clone, Copy, Debug, PartialEq, Eq)]
+#[derive(Clone, Copy, PartialEq, Eq)]
 pub enum LineVerb {
     Feed(Verb),
     State,

@@ -1,6 +1,6 @@
 ghost use Rattle.std.specs.Prelude.{◌≡◌, true, Ok, Err, Some, option_map, if◌then◌else◌};
 ghost use Rattle.serde_json.specs.View.{view};
-ghost use Rattle.doc_types.specs.Schemas.{is_object};
+ghost use Rattle.json_documents.specs.Schemas.{is_object};
 ghost use Rattle.feed_lines.specs.Meaning.{kind_said, id_said, feed_said, Gives, cause_of};
 ghost use Rattle.feed_lines.specs.Tests.{has_type, beside_of};
 ghost use Rattle.feed_lines.specs.declared.command.Cause.TheVariants as cause;
@@ -11,9 +11,9 @@ use crate::keys::Verb;
 use crate::options::{are_options, bad, condition_said, create_in, fault_by, via_in};
 use crate::shape::id_in;
 use doc_types::Schema;
-use doc_updates::Update;
 use document_ids::DocId;
-use documents::{Document, DocumentFault};
+use documents::DocumentFault;
+use json_documents::{document_from_json, update_from_json};
 use messages::{OpKind, Operation};
 use serde_json::Value;
 use std::alloc::Global;
@@ -54,7 +54,7 @@ fn put_object(
     requires { is_object (view fields.now) ≡ true }
     ensures { Gives result (kind_said schema.now verb.Put id.now (Some (view fields.now))) }
 {
-    match Document::from_json(alloc, id.copy(alloc)?, fields, schema) {
+    match document_from_json(alloc, id.copy(alloc)?, fields, schema) {
         Ok(document) => Ok(OpKind::Put(document)),
         Err(fault) => Err(cause_of(fault)),
     }
@@ -70,7 +70,7 @@ fn update_object(
     requires { is_object (view fields.now) ≡ true }
     ensures { Gives result (kind_said schema.now verb.Update id.now (Some (view fields.now))) }
 {
-    match Update::from_json(alloc, id, fields, schema) {
+    match update_from_json(alloc, id, fields, schema) {
         Ok(update) => Ok(OpKind::Update(update)),
         Err(fault) => Err(cause_of(fault)),
     }

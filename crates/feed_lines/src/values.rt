@@ -2,8 +2,8 @@ ghost use Rattle.std.specs.Prelude.{◌≡◌, ◌==◌, ◌<◌, ◌≤◌, ◌
 ghost use Rattle.serde_json.specs.Events.{items_len, members_len};
 ghost use Rattle.serde_json.specs.Find.{as_array, as_object, get};
 ghost use Rattle.serde_json.specs.View.{view, items_view, members_view};
-ghost use Rattle.doc_types.specs.Schemas.{members_in};
-ghost use Rattle.documents.specs.Json.{each};
+ghost use Rattle.json_documents.specs.Schemas.{members_in};
+ghost use Rattle.json_documents.specs.Json.{each};
 ghost use Rattle.feed_lines.specs.Values.{below, number_below, node_of, lane_end, lane_of, set_with, set_of, nodes_of, set_said, late_by, late_of, fate_named, fate_of, few_fates, fates_of};
 
 use carriers::{Fate, FateList};

@@ -1,3 +1,4 @@
+-- Shared: other crates cite these.
 pub mod Firsts
 pub mod Picks
 pub mod Unique

@@ -1,6 +1,8 @@
-pub mod FaultLaws
+-- Shared: other crates cite these.
 pub mod FeedPlaces
-pub mod LineLaws
-pub mod ReaderLaws
 pub mod ReaderStarts
-pub mod Seeking
+-- Of this crate alone.
+mod FaultLaws
+mod LineLaws
+mod ReaderLaws
+mod Seeking

@@ -7,8 +7,8 @@ abbrev pub HasRisen : Option ℕ → ℕ → ℕ → Type 0
 HasRisen last old new = (old < new) ⊎ ((last ≡ Some old) × (new ≡ old))
 
 -- at least one byte of a non-empty piece is taken
-abbrev pub Takes : {E : Type 0} → List ℕ → Result ℕ E → Type 0
-Takes piece r = IfOk r (λ n. 0 < length piece → 0 < n)
+abbrev pub TakesSome : {E : Type 0} → List ℕ → Result ℕ E → Type 0
+TakesSome piece r = IfOk r (λ n. 0 < length piece → 0 < n)
 
 -- known bytes grew by a front of these bytes
 abbrev pub AppendsFront : Option (List ℕ) → Option (List ℕ) → List ℕ → Type 0

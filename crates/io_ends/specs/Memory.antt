@@ -25,5 +25,5 @@ abbrev pub one_more : ℕ → ℕ
 one_more calls = min (calls + 1) last_count
 
 -- the call of this number was told to fail; calls from the last number on are not
-abbrev pub IsTold : List ℕ → ℕ → Type 0
-IsTold failing call = (call < last_count) × Contains failing call
+abbrev pub IsToFail : List ℕ → ℕ → Type 0
+IsToFail failing call = (call < last_count) × Contains failing call

@@ -1,7 +1,7 @@
 ghost use Rattle.std.specs.Prelude.{◌≤◌, List, ℕ, Option, OnErr};
 ghost use Rattle.std.specs.Io.{ReadsAtMost, WritesAtMost};
 ghost use Rattle.std.specs.Io.KnownBytes.{ReadConsumes, WriteAppends};
-ghost use Rattle.io_ends.specs.Causes.{HasRisen, Takes};
+ghost use Rattle.io_ends.specs.Causes.{HasRisen, TakesSome};
 
 use thiserror::Error;
 
@@ -41,11 +41,11 @@ pub trait Sink {
     /// The number of faults that is counted last, where there is one.
     ghost last: { Option ℕ };
 
-    /// Takes the first bytes of a non-empty piece, at least one, and answers how many. A failed
+    /// TakesSome the first bytes of a non-empty piece, at least one, and answers how many. A failed
     /// call takes none.
     fn write(&mut self, from: &[u8]) -> Result<usize, Failed>
         ensures bound { WritesAtMost result from.now }
-        ensures some { Takes from.now result }
+        ensures some { TakesSome from.now result }
         ensures bytes { WriteAppends (written self.old) (written self.new) result from.now }
         ensures count { faults self.old ≤ faults self.new }
         ensures fault { OnErr result (HasRisen last (faults self.old) (faults self.new)) };

@@ -8,7 +8,7 @@ use crate::sizes::LONGEST;
 use crate::window::Window;
 
 /// What ended the search for the end of a line.
-#[derive(Clone, Copy, Debug, PartialEq, Eq)]
+#[derive(Clone, Copy, PartialEq, Eq)]
 pub enum LineEnd {
     /// A line feed, this far ahead.
     Feed { at: usize },

@@ -15,7 +15,7 @@ use std::marker::Model;
 use value_lists::NoMemory;
 
 /// Reads the lines of a source one after the other.
-#[derive(Debug, Drop)]
+#[derive(Drop)]
 pub struct LineReader {
     window: Window,
     lines: u32,

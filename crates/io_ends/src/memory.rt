@@ -1,8 +1,8 @@
 ghost use Rattle.std.specs.Prelude.{◌≡◌, ◌↔◌, ◌⊎◌, ◌+◌, ◌<◌, ◌≤◌, List, ℕ, [], true, false, Some, None, IsErr, OnErr, IsTrue, Contains};
 ghost use Rattle.std.specs.Io.{ReadsAtMost, WritesAtMost};
 ghost use Rattle.std.specs.Io.KnownBytes.{ReadConsumes, WriteAppends};
-ghost use Rattle.io_ends.specs.Causes.{HasRisen, Takes};
-ghost use Rattle.io_ends.specs.Memory.{MemorySourceView, MemorySinkView, IsTold, last_count, one_more};
+ghost use Rattle.io_ends.specs.Causes.{HasRisen, TakesSome};
+ghost use Rattle.io_ends.specs.Memory.{MemorySourceView, MemorySinkView, IsToFail, last_count, one_more};
 
 use crate::ends::{Failed, Sink, Source};
 use std::alloc::Global;
@@ -10,13 +10,13 @@ use std::marker::Model;
 
 /// Whether the call of this number was told to fail.
 fn is_told(failing: &[u64], call: u64) -> bool
-    ensures { IsTrue result ↔ IsTold failing.now call }
+    ensures { IsTrue result ↔ IsToFail failing.now call }
 {
     call < u64::MAX && failing.contains(&call)
 }
 
 /// A source over bytes in memory, some of whose calls fail.
-#[derive(Debug, Drop)]
+#[derive(Drop)]
 pub struct MemorySource {
     bytes: Vec<u8>,
     at: usize,
@@ -69,7 +69,7 @@ impl Source for MemorySource {
         ensures bytes { ReadConsumes (Some self.old.left) (Some self.new.left) result into.new }
         ensures count { self.old.faults ≤ self.new.faults }
         ensures fault { OnErr result (HasRisen None self.old.faults self.new.faults) }
-        ensures fails { IsErr result ↔ IsTold self.old.failing self.old.calls }
+        ensures fails { IsErr result ↔ IsToFail self.old.failing self.old.calls }
         ensures calls { self.new.calls ≡ one_more self.old.calls }
         ensures failing { self.new.failing ≡ self.old.failing }
     {
@@ -90,7 +90,7 @@ impl Source for MemorySource {
 }
 
 /// A sink into memory, some of whose calls fail.
-#[derive(Debug, Drop)]
+#[derive(Drop)]
 pub struct MemorySink {
     bytes: Vec<u8>,
     failing: Vec<u64>,
@@ -118,7 +118,7 @@ impl Model for MemorySink {
 
 impl MemorySink {
     /// An empty sink whose calls of these numbers, from 0, fail; so does a call that wants memory.
-    /// Takes no memory.
+    /// TakesSome no memory.
     pub fn new(alloc: Global, failing: Vec<u64>) -> MemorySink
         ensures { result
             ≡ record { written = []; failing = failing.items; calls = 0; faults = 0; wants = false } }
@@ -158,11 +158,11 @@ impl Sink for MemorySink {
 
     fn write(&mut self, from: &[u8]) -> Result<usize, Failed>
         ensures bound { WritesAtMost result from.now }
-        ensures some { Takes from.now result }
+        ensures some { TakesSome from.now result }
         ensures bytes { WriteAppends (Some self.old.written) (Some self.new.written) result from.now }
         ensures count { self.old.faults ≤ self.new.faults }
         ensures fault { OnErr result (HasRisen (Some last_count) self.old.faults self.new.faults) }
-        ensures fails { IsErr result ↔ (IsTold self.old.failing self.old.calls ⊎ (self.new.wants ≡ true)) }
+        ensures fails { IsErr result ↔ (IsToFail self.old.failing self.old.calls ⊎ (self.new.wants ≡ true)) }
         ensures rises { self.old.calls < last_count → OnErr result (self.new.faults ≡ self.old.faults + 1) }
         ensures calls { self.new.calls ≡ one_more self.old.calls }
         ensures failing { self.new.failing ≡ self.old.failing }

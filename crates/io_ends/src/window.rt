@@ -13,7 +13,7 @@ use std::marker::Model;
 use value_lists::NoMemory;
 
 /// The bytes that were read and not yet given.
-#[derive(Debug, Drop)]
+#[derive(Drop)]
 pub struct Window {
     buffer: Vec<u8>,
     start: usize,

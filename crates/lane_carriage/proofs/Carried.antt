@@ -4,7 +4,7 @@ use Rattle.std.specs.Option.{is_some}
 use Rattle.std.proofs.lemmas.Bool.Decides.{nat_tests}
 use Rattle.carriers.specs.declared.fate.Fate.{Fate}
 use Rattle.carriers.specs.declared.fate.Fate.TheVariants.{Deliver, LoseRequest, LoseReply, Twice, Late}
-use Rattle.late_messages.specs.NotedBody.{NotedBody}
+use Rattle.messages.specs.declared.noted.NotedBody.{NotedBody}
 use Rattle.lane_journals.specs.Readers.{Message as Sending, or_else, only_if, round_in, sent, stopped, first_reply, returned}
 use Rattle.lane_journals.specs.Meanings.{history, meaning_body}
 use Rattle.lane_journals.specs.declared.event.LaneEvent.{LaneEvent}

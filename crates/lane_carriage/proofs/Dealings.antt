@@ -3,7 +3,7 @@ use Rattle.std.proofs.Common.{◌≡◌, ◌==◌, ℕ, Bool, true, false, List,
 use Rattle.std.proofs.lemmas.Bool.Decides.{nat_tests}
 use Rattle.carriers.specs.declared.fate.Fate.{Fate}
 use Rattle.carriers.specs.declared.fate.Fate.TheVariants.{Deliver, LoseRequest, LoseReply, Twice, Late}
-use Rattle.late_messages.specs.NotedReply.{NotedReply}
+use Rattle.messages.specs.declared.noted.NotedReply.{NotedReply}
 use Rattle.lane_journals.specs.Events as plain
 use Rattle.lane_journals.specs.Readers.{Journal, Message as Sending, sent, returned}
 use Rattle.lane_journals.specs.Meanings.{history, meaning_reply}

@@ -1,7 +1,9 @@
+-- Shared: other crates cite these.
 pub mod Fates
 pub mod Dues
 pub mod Dealings
 pub mod Carried
 pub mod Messages
 pub mod Waitings
-pub mod Wrong
+pub mod GivenOut
+pub mod Staying

@@ -5,16 +5,16 @@ use Rattle.std.proofs.lemmas.Bool.Decides.{nat_tests}
 use Rattle.std.proofs.lemmas.List.{append-nil}
 use Rattle.carriers.specs.declared.fate.Fate.{Fate}
 use Rattle.carriers.specs.declared.fate.Fate.TheVariants as fate
-use Rattle.late_messages.specs.Message.{Message}
-use Rattle.late_messages.specs.NotedBody.{NotedBody}
-use Rattle.late_messages.specs.NotedReply.{NotedReply}
+use Rattle.messages.specs.declared.message.Message.{Message}
+use Rattle.messages.specs.declared.noted.NotedBody.{NotedBody}
+use Rattle.messages.specs.declared.noted.NotedReply.{NotedReply}
 use Rattle.lane_journals.specs.Readers.{stopped}
 use Rattle.lane_journals.specs.Meanings.{history}
 use Rattle.lane_journals.specs.declared.event.LaneEvent.{LaneEvent}
 use Rattle.lane_journals.specs.declared.event.LaneEvent.TheVariants.{Sent, Delivered}
-use Rattle.late_messages.specs.Waiting.{Each, IsBefore, AreRising, kept, AreSentBefore, NoneIsDue, IsTaken}
-use Rattle.late_messages.specs.declared.late.Late.{Late}
-use Rattle.late_messages.proofs.Eaches.{each-append, each-first}
+use Rattle.messages.specs.Waiting.{Each, IsBefore, AreRising, kept, AreSentBefore, NoneIsDue, IsTaken}
+use Rattle.messages.specs.declared.late.Late.{Late}
+use Rattle.messages.proofs.Eaches.{each-append, each-first}
 use Rattle.lane_carriage.specs.Carriage.{met, IsDealt, is_cut_off, IsGivenOut, AreDelivered, is_due, due_from, due, IsCarried, Message as OneMore}
 use Rattle.lane_carriage.specs.Waits.{numbers, due_at, IsWaiting, kept_by, AreTaken}
 use Rattle.lane_carriage.proofs.Fates.{due-append}

@@ -1,10 +1,10 @@
 -- What the laws say.
 use Rattle.std.specs.Prelude.{ℕ, ◌+◌, List}
 use Rattle.carriers.specs.declared.fate.Fate.{Fate}
-use Rattle.late_messages.specs.Message.{Message}
+use Rattle.messages.specs.declared.message.Message.{Message}
 use Rattle.lane_journals.specs.declared.event.LaneEvent.{LaneEvent}
-use Rattle.late_messages.specs.declared.late.Late.{Late}
-use Rattle.late_messages.specs.Waiting.{NoneIsDue}
+use Rattle.messages.specs.declared.late.Late.{Late}
+use Rattle.messages.specs.Waiting.{NoneIsDue}
 use Rattle.lane_carriage.specs.Carriage.{IsCarried}
 use Rattle.lane_carriage.specs.Waits.{IsWaiting, kept_by, AreTaken}
 

@@ -2,9 +2,9 @@
 use Rattle.std.specs.Prelude.{◌≡◌, ◌==◌, ◌<◌, ◌≤◌, ℕ, ◌+◌, List, [], ◌∷◌, ◌++◌, length, map, if◌then◌else◌}
 use Rattle.carriers.specs.declared.fate.Fate as carried
 use Rattle.carriers.specs.declared.fate.Fate.TheVariants as fate
-use Rattle.late_messages.specs.Message.{Message}
-use Rattle.late_messages.specs.Waiting.{Each, AreRising, kept}
-use Rattle.late_messages.specs.declared.late.Late.{Late}
+use Rattle.messages.specs.declared.message.Message.{Message}
+use Rattle.messages.specs.Waiting.{Each, AreRising, kept}
+use Rattle.messages.specs.declared.late.Late.{Late}
 use Rattle.lane_carriage.specs.Carriage.{due}
 
 abbrev pub numbers : List Late → List ℕ

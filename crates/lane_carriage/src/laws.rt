@@ -4,19 +4,18 @@ ghost use Rattle.std.specs.Prelude.{◌≡◌, ◌<◌, ◌≤◌, ◌+◌, ◌+
 ghost use Rattle.std.specs.List.Sorted.{IsStrictlyIncreasing};
 ghost use Rattle.carriers.specs.declared.fate.Fate.{Fate};
 ghost use Rattle.carriers.specs.declared.fate.Fate.TheVariants as fate;
-ghost use Rattle.late_messages.specs.NotedReply.{NotedReply};
-ghost use Rattle.late_messages.specs.NotedBody.{NotedBody};
+ghost use Rattle.messages.specs.declared.noted.NotedReply.{NotedReply};
+ghost use Rattle.messages.specs.declared.noted.NotedBody.{NotedBody};
 ghost use Rattle.lane_journals.specs.Readers.{sent, stopped, first_reply, returned};
 ghost use Rattle.lane_journals.specs.Meanings.{history};
 ghost use Rattle.lane_journals.specs.declared.event.LaneEvent.{LaneEvent};
 ghost use Rattle.lane_journals.specs.declared.event.LaneEvent.TheVariants.{Sent, Delivered};
-ghost use Rattle.late_messages.specs.Waiting.{AreSentBefore, IsTaken};
-ghost use Rattle.late_messages.specs.declared.late.Late.{Late};
+ghost use Rattle.messages.specs.Waiting.{AreSentBefore, IsTaken};
+ghost use Rattle.messages.specs.declared.late.Late.{Late};
 ghost use Rattle.lane_carriage.specs.Carriage.{met, IsDealt, is_cut_off, AreDelivered, due, IsCarried};
 ghost use Rattle.lane_carriage.specs.Readers.{sendings, last_sent, arrivals, receives, fate_of, times_sent, is_returned, IsPrompt, IsLate, arrivals_of};
 ghost use Rattle.lane_carriage.specs.Waits.{numbers, IsWaiting, AreTaken};
 ghost use Rattle.lane_carriage.specs.Laws.{OfCarried, OfTaken};
-ghost use Rattle.lane_carriage.specs.WrongCarriage.{IsRefused, in_time, early, once, twice, numbered, skipped, unanswered, answered, cut_off, reaching_stopped, late_cut_off, late_reaching_stopped, started_again, lost_at_started, late_started_again, late_lost_at_started};
 
 /// Each number from 1 to the count of fates was sent once, and no other; a message arrived just where its
 /// fate says, a late one behind the message so many numbers on, and only where its receiver ran then; and
@@ -80,19 +79,4 @@ pub fn late_messages_wait()
         → IsDealt (met (stopped receiver (history J)) f) (last + 1)
         (Sent (last + 1) version sender receiver body ∷ J) after
         → AreDelivered (numbers taken) after K → IsCarried (given ++ f ∷ []) K) }
-{}
-
-/// Wrong journals, each beside the right one: a late message is delivered early, one is delivered twice, a
-/// number is skipped, the reply is returned that its fate loses; a message is delivered to a stopped node, at
-/// once or late; one isn't delivered, at once or late, though its receiver was started again.
-pub fn wrong_carriage_is_refused()
-    ensures delivered_early { IsRefused (fate.Late 1 ∷ fate.Deliver ∷ []) in_time early }
-    ensures delivered_twice { IsRefused (fate.Deliver ∷ []) once twice }
-    ensures number_skipped { IsRefused (fate.LoseRequest ∷ fate.LoseRequest ∷ []) numbered skipped }
-    ensures lost_reply_returned { IsRefused (fate.LoseReply ∷ []) unanswered answered }
-    ensures delivered_to_stopped { IsRefused (fate.Deliver ∷ []) cut_off reaching_stopped }
-    ensures late_to_stopped { IsRefused (fate.Late 1 ∷ fate.Deliver ∷ []) late_cut_off late_reaching_stopped }
-    ensures lost_though_started { IsRefused (fate.Deliver ∷ []) started_again lost_at_started }
-    ensures late_lost_though_started { IsRefused (fate.Late 1 ∷ fate.LoseRequest ∷ []) late_started_again
-        late_lost_at_started }
 {}

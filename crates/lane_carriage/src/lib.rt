@@ -10,7 +10,6 @@
 //! messages_are_carried();           // what was sent, delivered and returned, message by message
 //! late_messages_fall_due();         // which messages are due with another
 //! late_messages_wait();             // what waits after one message more, and what is delivered with it
-//! wrong_carriage_is_refused();      // journals that aren't carried so
 //! ```
 #![tactic(auto)]
 

@@ -4,7 +4,7 @@ use Rattle.std.proofs.Common.{◌≡◌, ℕ, List, Option, Some, None, inl, inr
 use Rattle.bucket_ids.specs.Buckets.{Low}
 use Rattle.stamps.specs.declared.stamp.Stamp.{Stamp}
 use Rattle.cluster_states.specs.declared.cluster_state.ClusterState.{ClusterState}
-use Rattle.entry_maps.specs.declared.entry.Entry.{Entry}
+use Rattle.documents.specs.declared.entry.Entry.{Entry}
 use Rattle.messages.specs.declared.message.Message.{Message}
 use Rattle.messages.specs.declared.body.Body.{Body}
 use Rattle.messages.specs.declared.body.Body.TheVariants as body
@@ -22,11 +22,11 @@ use Rattle.lane_journals.specs.Places.{state_in}
 use Rattle.lane_journals.specs.Buckets.{key_of}
 use Rattle.lane_journals.specs.declared.event.LaneEvent.{LaneEvent}
 use Rattle.lane_journals.specs.declared.event.LaneEvent.TheVariants as event
-use Rattle.lane_wants.specs.Replaying.{sending}
-use Rattle.lane_wants.specs.Acting.{IsActing}
-use Rattle.lane_wants.specs.RoundKeeping.{KnowsRound}
-use Rattle.lane_wants.specs.OperationKeeping.{beginning_of, IsUnderWay}
-use Rattle.lane_wants.specs.Wants.{Adds, Wants, OpeningGives, RoundGives, BodyGives, NextGives, UnpreparedWants}
+use Rattle.node_journals.specs.Replaying.{sending}
+use Rattle.lane_keeping.specs.Acting.{IsActing}
+use Rattle.round_keeping.specs.RoundKeeping.{KnowsRound}
+use Rattle.operation_keeping.specs.OperationKeeping.{beginning_of, IsUnderWay}
+use Rattle.line_wants.specs.Wants.{Adds, Wants, OpeningGives, RoundGives, BodyGives, NextGives, UnpreparedWants}
 
 -- the round ends for the owner under the state of the line, once nothing is left to send
 pub record Ending (lane : Low) (L : List LaneEvent) (line : ℕ) (o : Operation) (s : ClusterState) (r : RoundState) : Type 0 where

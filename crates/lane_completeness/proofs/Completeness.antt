@@ -16,15 +16,16 @@ use Rattle.lane_journals.specs.Buckets.{key_of}
 use Rattle.lane_journals.specs.Readers.{Journal, Beginning, prepared}
 use Rattle.lane_journals.specs.Meanings.{history}
 use Rattle.lane_journals.specs.declared.event.LaneEvent.{LaneEvent}
-use Rattle.lane_wants.specs.LaneKeeping.{setting_of}
-use Rattle.lane_wants.specs.Acting.{IsActing}
-use Rattle.lane_wants.specs.OperationKeeping.{beginning_of}
-use Rattle.lane_wants.specs.Wants.{Adds, Ends, RoundGives, UnpreparedWants}
-use Rattle.lane_completeness.specs.Completeness.{AreRules, with_begun, IsUndisturbedLine, WantedMemory, IsDecided, EndsWell}
+use Rattle.lane_keeping.specs.LaneKeeping.{setting_of}
+use Rattle.lane_keeping.specs.Acting.{IsActing}
+use Rattle.operation_keeping.specs.OperationKeeping.{beginning_of}
+use Rattle.line_wants.specs.Wants.{Adds, Ends, RoundGives, UnpreparedWants}
+use Rattle.line_wants.specs.RuleBounds.{AreRules}
+use Rattle.lane_completeness.specs.Completeness.{with_begun, IsUndisturbedLine, WantedMemory, IsDecided, EndsWell}
 use Rattle.lane_completeness.specs.Causes.{IsMissing, IsRunLine}
 use Rattle.lane_completeness.proofs.Turns.{undisturbed-turn}
 use Rattle.lane_completeness.proofs.Runs.{At, at}
-use Rattle.lane_completeness.proofs.Hearing.{none-missing}
+use Rattle.lane_completeness.proofs.Missing.{none-missing}
 use Rattle.lane_completeness.proofs.Opening.{FallsShort, opening-ends}
 use Rattle.lane_completeness.proofs.Since.{since}
 use Rattle.lane_completeness.proofs.Short.{short-ends}

@@ -1,17 +1,14 @@
-pub mod Replies
-pub mod Additions
-pub mod Runs
-pub mod Turns
-pub mod Hearing
-pub mod Opening
-pub mod Sizes
-pub mod Ideal
-pub mod Receivers
-pub mod Spent
-pub mod Since
-pub mod Short
-pub mod Stores
-pub mod Operations
-pub mod Completeness
-pub mod Carried
-pub mod Returning
+mod LineReplies
+mod Additions
+mod Runs
+mod Turns
+mod Missing
+mod Opening
+mod Spent
+mod Since
+mod Short
+mod Stores
+mod Operations
+mod Completeness
+mod Carried
+mod Returning

@@ -29,15 +29,16 @@ use Rattle.lane_journals.specs.States.{state_of}
 use Rattle.lane_journals.specs.Meanings.{history}
 use Rattle.lane_journals.specs.Places.{state_in}
 use Rattle.lane_journals.specs.declared.event.LaneEvent.{LaneEvent}
-use Rattle.lane_wants.specs.LaneKeeping.{KnowsOpening, Holds, PartKeeps}
-use Rattle.lane_wants.specs.OperationKeeping.{WasShort}
-use Rattle.lane_wants.specs.Counting.{not_answered}
-use Rattle.lane_wants.specs.Wants.{Ends, EndsUnless, WasAskedIn, is_ask, OpeningGives, OpeningWants}
+use Rattle.lane_keeping.specs.LaneKeeping.{KnowsOpening, Holds, PartKeeps}
+use Rattle.operation_keeping.specs.OperationKeeping.{WasShort}
+use Rattle.proof_basics.proofs.Tests.{not_answered}
+use Rattle.line_wants.specs.Wants.{Ends, EndsUnless, WasAskedIn, is_ask, OpeningGives, OpeningWants}
 use Rattle.lane_completeness.specs.Completeness.{WantedMemory}
 use Rattle.lane_completeness.specs.Causes.{OfOpening, IsMissing}
-use Rattle.lane_completeness.proofs.Replies.{IsOwed}
+use Rattle.lane_journals.proofs.Replies.{IsOwed}
 use Rattle.lane_completeness.proofs.Runs.{At}
-use Rattle.lane_completeness.proofs.Hearing.{ask-counts, owed-came, missing, any-short}
+use Rattle.lane_journals.proofs.Hearing.{ask-counts}
+use Rattle.lane_completeness.proofs.Missing.{owed-came, missing, any-short}
 
 -- ---- too few
 

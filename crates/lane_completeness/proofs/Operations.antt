@@ -9,7 +9,7 @@ use Rattle.stamps.specs.declared.stamp.Stamp.{Stamp}
 use Rattle.cluster_states.specs.declared.cluster_state.ClusterState.{ClusterState}
 use Rattle.documents.specs.Fields.{Contents}
 use Rattle.doc_updates.specs.declared.fault.UpdateFault.{UpdateFault}
-use Rattle.entry_maps.specs.declared.entry.Entry.{Entry}
+use Rattle.documents.specs.declared.entry.Entry.{Entry}
 use Rattle.messages.specs.Meaning.{decide, effect}
 use Rattle.messages.specs.declared.operation.Decided.{Decided}
 use Rattle.messages.specs.declared.operation.Decided.TheVariants.{GoesAhead, ConditionFails, DoesNothing}
@@ -32,16 +32,16 @@ use Rattle.lane_journals.specs.States.{state_of}
 use Rattle.lane_journals.specs.Meanings.{history}
 use Rattle.lane_journals.specs.KeptJournals.{IsLegal}
 use Rattle.lane_journals.specs.declared.event.LaneEvent.{LaneEvent}
-use Rattle.lane_wants.specs.LaneKeeping.{setting_of}
-use Rattle.lane_wants.specs.OperationKeeping.{beginning_of, WasRead, WasShort, IsReadOf, IsStoreOf}
-use Rattle.lane_wants.specs.Counting.{few-count, absent-lacks, active-absent, lacks-parts}
-use Rattle.lane_wants.specs.Judged.{NextEnd, ByReads, ByStores, next-end, due-by, verdict-writes, ends-looks}
-use Rattle.lane_wants.specs.Messages.{own-wrote}
-use Rattle.lane_wants.specs.Ending.{unwritten-yet}
-use Rattle.lane_wants.specs.Wants.{Ends, NextGives, OperationWants}
+use Rattle.lane_keeping.specs.LaneKeeping.{setting_of}
+use Rattle.operation_keeping.specs.OperationKeeping.{beginning_of, WasRead, WasShort, IsReadOf, IsStoreOf}
+use Rattle.operation_keeping.proofs.Counting.{few-count, absent-lacks, active-absent, lacks-parts}
+use Rattle.operation_keeping.proofs.Judged.{NextEnd, ByReads, ByStores, next-end, due-by, verdict-writes, ends-looks}
+use Rattle.operation_keeping.proofs.Messages.{own-wrote}
+use Rattle.operation_keeping.proofs.Ending.{unwritten-yet}
+use Rattle.line_wants.specs.Wants.{Ends, NextGives, OperationWants}
 use Rattle.lane_completeness.specs.Causes.{OfLooking, OfStoring, IsMissing}
 use Rattle.lane_completeness.proofs.Runs.{At}
-use Rattle.lane_completeness.proofs.Hearing.{Back, missing, any-short}
+use Rattle.lane_completeness.proofs.Missing.{Back, missing, any-short}
 use Rattle.lane_completeness.proofs.Opening.{FallsShort}
 use Rattle.lane_completeness.proofs.Stores.{store-counts, store-later, store-came, read-came}
 

@@ -14,10 +14,11 @@ use Rattle.lane_journals.specs.States.{state_of}
 use Rattle.lane_journals.specs.Meanings.{history}
 use Rattle.lane_journals.specs.declared.event.LaneEvent.{LaneEvent}
 use Rattle.lane_journals.proofs.Ids.{same_id-refl}
-use Rattle.lane_durability.proofs.Kept.{store-line, stamp-line}
-use Rattle.lane_completeness.proofs.Replies.{known-store, known-read}
+use Rattle.lane_journals.proofs.Kept.{store-line, stamp-line}
+use Rattle.lane_completeness.proofs.LineReplies.{known-store, known-read}
 use Rattle.lane_completeness.proofs.Runs.{At, first, sent-since}
-use Rattle.lane_completeness.proofs.Hearing.{counts, Came, came}
+use Rattle.lane_journals.proofs.Hearing.{counts}
+use Rattle.lane_completeness.proofs.Missing.{Came, came}
 
 -- ---- the answer to a Store counts
 

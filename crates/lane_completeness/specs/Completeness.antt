@@ -14,9 +14,9 @@ use Rattle.lane_journals.specs.KeptJournals.{IsLegal}
 use Rattle.lane_journals.specs.declared.event.LaneEvent.{LaneEvent}
 use Rattle.lane_journals.specs.declared.event.LaneEvent.TheVariants.{Begun, Stopped, Started}
 use Rattle.lane_carriage.specs.Readers.{receives, fate_of, is_returned}
-use Rattle.lane_wants.specs.LaneKeeping.{setting_of}
-use Rattle.lane_wants.specs.OperationKeeping.{WasShort}
-use Rattle.lane_wants.specs.Wants.{IsCarriage, IsRun, IsEnd}
+use Rattle.lane_keeping.specs.LaneKeeping.{setting_of}
+use Rattle.operation_keeping.specs.OperationKeeping.{WasShort}
+use Rattle.line_wants.specs.Wants.{IsCarriage, IsRun, IsEnd}
 
 -- ---- no message is lost
 
@@ -47,13 +47,6 @@ NoneStops (_ ∷ K) = NoneStops K
 -- from a number on each fate delivers its message and brings back the reply before the next is sent
 abbrev pub AreAnswered : ℕ → List Fate → Type 0
 AreAnswered last given = (number : ℕ) → last < number → number ≤ length given → is_returned (fate_of number given) ≡ true
-
--- ---- the line
-
--- a write needs a copy at least, and no more than there are to be
-pub record AreRules (rules : Rules) : Type 0 where
-  pub some : 1 ≤ rules.acks
-  pub enough : rules.acks ≤ rules.redundancy
 
 -- the journal once the line was begun
 abbrev pub with_begun : ℕ → ℕ → ℕ → Operation → Option Stamp → List LaneEvent → List LaneEvent

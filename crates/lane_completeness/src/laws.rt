@@ -2,7 +2,6 @@
 
 ghost use Rattle.std.specs.Prelude.{◌≡◌, ◌≤◌, ◌++◌, ℕ, false, not, List, [], Option, Some, None, length};
 ghost use Rattle.bucket_ids.specs.Buckets.{Low};
-ghost use Rattle.node_sets.specs.Members.{size_of, Within};
 ghost use Rattle.stamps.specs.declared.stamp.Stamp.{Stamp};
 ghost use Rattle.carriers.specs.Fates.{delivered};
 ghost use Rattle.carriers.specs.declared.fate.Fate.{Fate};
@@ -13,13 +12,13 @@ ghost use Rattle.op_machine.specs.Judging.{looks};
 ghost use Rattle.distributor_part.specs.declared.rules.Rules.{Rules};
 ghost use Rattle.lane_journals.specs.Readers.{Message, sent, returned, stopped};
 ghost use Rattle.lane_journals.specs.Meanings.{history};
-ghost use Rattle.lane_journals.specs.Places.{receivers_of};
 ghost use Rattle.lane_journals.specs.KeptJournals.{IsLegal};
 ghost use Rattle.lane_journals.specs.declared.event.LaneEvent.{LaneEvent};
 ghost use Rattle.lane_carriage.specs.Carriage.{IsCarried};
 ghost use Rattle.lane_carriage.specs.Readers.{receives};
-ghost use Rattle.lane_wants.specs.LaneKeeping.{setting_of};
-ghost use Rattle.lane_completeness.specs.Completeness.{AreAnswered, RunSince, NoneStops, IsUndisturbed, AreRules, IsUndisturbedLine, IsDecided, EndsWell};
+ghost use Rattle.lane_keeping.specs.LaneKeeping.{setting_of};
+ghost use Rattle.lane_completeness.specs.Completeness.{AreAnswered, RunSince, NoneStops, IsUndisturbed, IsUndisturbedLine, IsDecided, EndsWell};
+ghost use Rattle.line_wants.specs.RuleBounds.{AreRules};
 ghost use Rattle.lane_completeness.specs.Causes.{IsMissing, IsLost, ReturnInTurn, IsRunLine};
 
 /// An operation that was begun under the newest state, and of which no message is lost, doesn't end for want
@@ -53,14 +52,6 @@ pub fn answered_lines_are_undisturbed()
     ensures running { (J K : List LaneEvent) → NoneStops K → (number : ℕ) (m : Message)
         → sent number (history (K ++ J)) ≡ Some m → sent number (history J) ≡ None
         → receives number number (K ++ J) ≡ not (stopped m.receiver (history (K ++ J))) }
-{}
-
-/// A round goes to as many nodes as a write needs copies, since a state has enough nodes up. So a row of which all
-/// receivers are complete members has enough of them.
-pub fn rounds_reach_enough()
-    ensures { (lane : Low) (rules : Rules) → AreRules rules → (J : List LaneEvent) → IsLegal (setting_of lane rules) J
-        → (v : ℕ) (b : Low) (receivers complete : ℕ) → receivers_of v b J ≡ Some receivers
-        → Within receivers complete → rules.acks ≤ size_of complete }
 {}
 
 /// An operation that ends with too few answers asked the absent node: since it began a message of the phase that ended

@@ -12,21 +12,21 @@ use Rattle.op_machine.specs.Standings.{IsBegun}
 use Rattle.lane_journals.specs.Buckets.{contains, key_of}
 use Rattle.lane_journals.specs.Meanings.{history}
 use Rattle.lane_journals.specs.declared.event.LaneEvent.TheVariants.{Prepared}
-use Rattle.lane_durability.specs.Laws.{ActiveIsComplete}
+use Rattle.lane_journals.specs.ActiveCopies.{ActiveIsComplete}
 use Rattle.lane_keeping.specs.Acting.{IsKnownRow}
-use Rattle.lane_operations.specs.OperationKeeping.{IsUnderWay, KnowsPreparing, KnowsOperation}
-use Rattle.lane_operations.specs.Left.{messages_left}
-use Rattle.lane_states.specs.Wants.{Wants, Adds}
+use Rattle.operation_keeping.specs.OperationKeeping.{IsUnderWay, KnowsPreparing, KnowsOperation}
+use Rattle.operation_keeping.specs.Left.{messages_left}
+use Rattle.line_wants.specs.Wants.{Wants, Adds}
 use Rattle.lane_core.specs.declared.job.Job.{Job}
 use Rattle.lane_core.specs.declared.job.Phase.TheVariants as phase
 use Rattle.lane_states.specs.declared.lane_state.LaneState.{LaneState}
 use Rattle.lane_core.specs.declared.work.Work.{Work}
 use Rattle.lane_states.specs.LaneStates.{journal_of, part_of, IsKept}
 use Rattle.lane_core.specs.Works.{IsWork, IsJob, one_if}
-use Rattle.lane_states.specs.Readying.{HasRowWith}
+use Rattle.lane_lines.specs.Readying.{HasRowWith}
 use Rattle.lane_core.specs.Preparations.{IsReadyFor}
-use Rattle.stamp_places.specs.Places.{place_of}
-use Rattle.lane_states.proofs.Entries.{finds-noted}
+use Rattle.stamps.specs.Places.{place_of}
+use Rattle.lane_lines.proofs.Entries.{finds-noted}
 use Rattle.lane_core.proofs.Working.{same-key, work-by}
 use Rattle.lane_states.proofs.SameStates.{same-state}
 

@@ -15,11 +15,12 @@ use Rattle.lane_journals.specs.declared.event.LaneEvent.{LaneEvent}
 use Rattle.lane_journals.specs.declared.event.LaneEvent.TheVariants.{Published, Heard, Stopped, Started}
 use Rattle.lane_journals.proofs.Basics.{held-published}
 use Rattle.lane_keeping.specs.LaneKeeping.{IsIdle}
-use Rattle.lane_operations.specs.OperationKeeping.{AllClosed, IsFresh}
+use Rattle.operation_keeping.specs.OperationKeeping.{IsFresh}
+use Rattle.lane_journals.specs.Facts.{AllClosed}
 use Rattle.lane_carriage.specs.Carriage.{IsCarried, Other}
-use Rattle.lane_states.specs.Growing.{is_older, heard_next, announced, stopped_next, started_next}
+use Rattle.lane_keeping.specs.Tidings.{is_older, heard_next, announced, stopped_next, started_next}
 use Rattle.lane_states.specs.Written.{FindsEntries, writes_entry}
-use Rattle.lane_states.proofs.Entries.{past-past, finds-pushed}
+use Rattle.lane_lines.proofs.Entries.{past-past, finds-pushed}
 use Rattle.lane_core.proofs.Working.{KeepsLines}
 use Rattle.lane_states.proofs.Hearings.{older-by, stays-heard}
 

@@ -12,12 +12,12 @@ use Rattle.lane_journals.specs.declared.event.LaneEvent.TheVariants.{Closed}
 use Rattle.lane_keeping.specs.LaneKeeping.{setting_of}
 use Rattle.lane_states.specs.declared.lane_state.LaneState.{LaneState}
 use Rattle.lane_states.specs.LaneStates.{journal_of}
-use Rattle.lane_states.specs.Closing.{MayEndWith}
+use Rattle.lane_lines.specs.Closing.{MayEndWith}
 use Rattle.lane_core.specs.declared.job.Job.{Job}
 use Rattle.lane_core.specs.declared.job.Phase.{Phase}
 use Rattle.lane_core.specs.declared.job.Phase.TheVariants.{Begun, Prepared, Over, Short}
-use Rattle.lane_states.specs.Wants.{IsEnd}
-use Rattle.lane_core.specs.LaneValues.{EndsAs}
+use Rattle.line_wants.specs.Wants.{IsEnd}
+use Rattle.lane_core.specs.Advancing.{EndsAs}
 use Rattle.lane_core.specs.Works.{progress_of, IsJob, PhaseKeeps, PhaseEnds, MayMark, IsEndedBy}
 use Rattle.lane_core.proofs.Working.{same-key}
 

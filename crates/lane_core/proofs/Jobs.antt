@@ -1,6 +1,6 @@
 -- The operation under way after a call, and the work of its lane.
 use Rattle.std.proofs.Common.{◌≡◌, ◌≤◌, ◌<◌, ◌+◌, ◌-◌, ℕ, Bool, List, Option, Some, refl, sym, ap, ◌∙◌, subst, arith, is_some, vec_len, inl, inr}
-use Rattle.stamp_places.specs.declared.places.StampPlaces.{StampPlaces}
+use Rattle.stamps.specs.declared.places.StampPlaces.{StampPlaces}
 use Rattle.bucket_ids.specs.Buckets.{Low, IsIn}
 use Rattle.global_ids.specs.Keys as keys
 use Rattle.lane_journals.specs.Buckets.{key_of}
@@ -23,23 +23,24 @@ use Rattle.lane_journals.specs.declared.event.LaneEvent.{LaneEvent}
 use Rattle.lane_journals.specs.declared.event.LaneEvent.TheVariants.{Closed}
 use Rattle.lane_keeping.specs.LaneKeeping.{setting_of}
 use Rattle.lane_keeping.specs.Acting.{IsActing}
-use Rattle.lane_operations.specs.OperationKeeping.{IsUnderWay, KnowsOperation}
-use Rattle.lane_operations.specs.Laws.{OfOperation, IsAckedAs}
-use Rattle.lane_operations.specs.Left.{messages_left}
-use Rattle.lane_states.specs.Wants.{Ends, IsRun, IsEnd, NextGives}
+use Rattle.operation_keeping.specs.OperationKeeping.{IsUnderWay, KnowsOperation}
+use Rattle.operation_keeping.specs.Laws.{OfOperation, IsAckedAs}
+use Rattle.operation_keeping.specs.Left.{messages_left}
+use Rattle.line_wants.specs.Wants.{Ends, IsRun, IsEnd, NextGives}
 use Rattle.lane_states.specs.declared.lane_state.LaneState.{LaneState}
 use Rattle.lane_core.specs.declared.job.Job.{Job}
 use Rattle.lane_core.specs.declared.job.Phase.{Phase}
 use Rattle.lane_core.specs.declared.job.Phase.TheVariants as phase
-use Rattle.lane_core.specs.declared.answers.Advance.{Advance}
-use Rattle.lane_core.specs.declared.answers.Advance.TheVariants as advance
+use Rattle.lane_values.specs.declared.answers.Advance.{Advance}
+use Rattle.lane_values.specs.declared.answers.Advance.TheVariants as advance
 use Rattle.lane_core.specs.declared.work.Work.{Work}
 use Rattle.lane_states.specs.LaneStates.{journal_of, IsKept, HasRoom, AreResting}
-use Rattle.lane_core.specs.LaneValues.{with_run, under_way_of, WentOn, IsAdvance}
-use Rattle.stamp_places.specs.Places.{place_of}
+use Rattle.lane_values.specs.LaneValues.{with_run, under_way_of}
+use Rattle.lane_core.specs.Advancing.{WentOn, IsAdvance}
+use Rattle.stamps.specs.Places.{place_of}
 use Rattle.lane_states.specs.Written.{FindsEntries}
 use Rattle.lane_core.specs.Works.{value_of, under_way_in, progress_of, one_if, room_for, IsAnswered, MayMark, IsPrepared, PhaseKeeps, IsJob, JobKeeps, PhaseLasts, JobLasts, IsWork}
-use Rattle.lane_states.specs.Steps.{sender_of, GoesIn, IsQuiet}
+use Rattle.lane_lines.specs.Steps.{sender_of, GoesIn, IsUneventful}
 use Rattle.lane_core.specs.Phases.{WantsMore, WantsEnd, ComesTo}
 
 -- ---- whose it is
@@ -178,9 +179,9 @@ pub record IsOnward (x y : LaneState) : Type 0 where
   pub spare : y.spare ≡ x.spare
   pub parted : vec_len y.parts ≡ vec_len x.parts
   pub resting : AreResting x → AreResting y
-  pub quiet : IsQuiet (journal_of x) (journal_of y)
+  pub quiet : IsUneventful (journal_of x) (journal_of y)
 
-pub onward : (x y : LaneState) → y ≡ record x { journal = y.journal; last = y.last; nodes = y.nodes; late = y.late } → IsQuiet (journal_of x) (journal_of y) → IsOnward x y
+pub onward : (x y : LaneState) → y ≡ record x { journal = y.journal; last = y.last; nodes = y.nodes; late = y.late } → IsUneventful (journal_of x) (journal_of y) → IsOnward x y
 onward x y e q = record {
   lane = ap (λ (z : LaneState). z.lane) e;
   rules = ap (λ (z : LaneState). z.rules) e;
@@ -260,7 +261,7 @@ lasts-by c line row t left (phase.Prepared m r w) advance.NoMemory le h = absurd
 -- ---- one call
 
 module _ (x : Work) (y : LaneState) (j : Job) (t : Standing) (row : Low) (written : Bool) (w : IsWork x) (is : x.job ≡ Some j) (stage : j.phase ≡ phase.Prepared t row written) (kept : IsKept y)
-    (after : y ≡ record x.state { journal = y.journal; last = y.last; nodes = y.nodes; late = y.late }) (quiet : IsQuiet (journal_of x.state) (journal_of y))
+    (after : y ≡ record x.state { journal = y.journal; last = y.last; nodes = y.nodes; late = y.late }) (quiet : IsUneventful (journal_of x.state) (journal_of y))
     (ends : OfOperation (λ lane rules J last d s line row written t. (o : Outcome) → next_at t ≡ Finishes o → IsLegalStep (setting_of lane rules) J (Closed line o)))
     (acked : OfOperation (λ lane rules J last d s line row written t. (stamp : Stamp) → next_at t ≡ Finishes (outcome.Acked stamp) → IsAckedAs (history J) d s line t stamp))
     (p : Phase) (a : Advance) (comes : ComesTo y j.line row t p a) (going : GoesIn y j.line t.plan) where

@@ -1,13 +1,19 @@
-pub mod JobEnds
-pub mod Stamps
-pub mod Working
-pub mod Fitting
-pub mod Shortfalls
-pub mod Stepping
-pub mod Jobs
-pub mod Searching
-pub mod Idling
-pub mod Upkeeping
-pub mod Told
-pub mod Newest
-pub mod Undisturbed
+-- Shared: other crates cite these.
+pub mod Served
+-- Of this crate alone.
+mod JobEnds
+mod Stamps
+mod Working
+mod Fitting
+mod Shortfalls
+mod Stepping
+mod Jobs
+mod Searching
+mod Idling
+mod Upkeeping
+mod Told
+mod Newest
+mod Undisturbed
+mod Running
+mod LineRuns
+mod UpkeepSpans

@@ -12,7 +12,7 @@ use Rattle.lane_journals.specs.KeptJournals.{IsLegal}
 use Rattle.lane_journals.specs.declared.event.LaneEvent.{LaneEvent}
 use Rattle.lane_journals.specs.declared.event.LaneEvent.TheVariants as event
 use Rattle.lane_journals.proofs.Meant.{state-published}
-use Rattle.lane_states.specs.Growing.{last_state}
+use Rattle.lane_keeping.specs.Tidings.{last_state}
 
 -- no state that was published has a greater version, and it is the one of its version
 abbrev pub IsNewest : List LaneEvent → ClusterState → Type 0

@@ -16,29 +16,30 @@ use Rattle.lane_journals.specs.declared.event.LaneEvent.{LaneEvent}
 use Rattle.lane_journals.specs.declared.event.LaneEvent.TheVariants.{Prepared}
 use Rattle.lane_keeping.specs.Asking.{OthersStay}
 use Rattle.lane_keeping.specs.LaneKeeping.{part_in}
-use Rattle.lane_states.specs.Wants.{More, IsEnd}
+use Rattle.line_wants.specs.Wants.{More, IsEnd}
 use Rattle.lane_states.specs.declared.lane_state.LaneState.{LaneState}
 use Rattle.lane_core.specs.declared.job.Job.{Job}
 use Rattle.lane_core.specs.declared.job.Phase.{Phase}
 use Rattle.lane_core.specs.declared.job.Phase.TheVariants as phase
-use Rattle.lane_core.specs.declared.job.Progress.TheVariants as progress
-use Rattle.lane_core.specs.declared.job.UnderWay.{UnderWay}
-use Rattle.lane_core.specs.declared.answers.Advance.TheVariants as advance
-use Rattle.lane_states.specs.declared.readying.Shortage.{Shortage}
-use Rattle.lane_states.specs.declared.readying.Shortage.TheVariants as shortage
+use Rattle.lane_values.specs.declared.progress.Progress.TheVariants as progress
+use Rattle.lane_values.specs.declared.progress.UnderWay.{UnderWay}
+use Rattle.lane_values.specs.declared.answers.Advance.TheVariants as advance
+use Rattle.lane_lines.specs.declared.readying.Shortage.{Shortage}
+use Rattle.lane_lines.specs.declared.readying.Shortage.TheVariants as shortage
 use Rattle.lane_core.specs.declared.work.Work.{Work}
 use Rattle.lane_states.specs.LaneStates.{journal_of, IsKept, HasRoom, part_of, IsResting, AreResting}
-use Rattle.lane_core.specs.LaneValues.{LaneValue, IsAt, with_run, under_way_of, WentOn, WasCut, IsAdvance}
+use Rattle.lane_values.specs.LaneValues.{LaneValue, IsAt, with_run, under_way_of}
+use Rattle.lane_core.specs.Advancing.{WentOn, WasCut, IsAdvance}
 use Rattle.lane_core.specs.Works.{value_of, under_way_in, progress_of, IsUntouched, PhaseKeeps, PhaseLasts, IsJob, JobKeeps, JobLasts, IsWork}
-use Rattle.lane_states.specs.Steps.{IsQuiet}
+use Rattle.lane_lines.specs.Steps.{IsUneventful}
 use Rattle.lane_core.specs.Phases.{IsAtMessages, IsToStep}
 use Rattle.lane_core.specs.Preparations.{PreparesOf, PreparesBy, PreparesNext, MayFallShort, is_over}
-use Rattle.lane_states.specs.Readying.{outcome_of, IsToPrepare, AskedNobody, BeganNoRound, IsForNewLine, OfUnprepared, GoesOnWith, IsCutOffWith, FindsOr}
+use Rattle.lane_lines.specs.Readying.{outcome_of, IsToPrepare, AskedNobody, BeganNoRound, IsForNewLine, OfUnprepared, GoesOnWith, IsCutOffWith, FindsOr}
 use Rattle.lane_core.specs.Searching.{is_begun, just_begun, HasCall, spent, WentAs, ComesToRow, EndsIn}
 use Rattle.lane_core.proofs.Working.{same-key}
-use Rattle.stamp_places.specs.Places.{place_of}
+use Rattle.stamps.specs.Places.{place_of}
 use Rattle.lane_states.specs.Written.{AddsNoEntry}
-use Rattle.lane_states.proofs.Entries.{finds-grown}
+use Rattle.lane_lines.proofs.Entries.{finds-grown}
 use Rattle.lane_core.proofs.Jobs.{IsOnward, work-on}
 
 begun-so : (p : Phase) → is_begun p ≡ true → p ≡ phase.Begun
@@ -65,7 +66,7 @@ unacked (shortage.TooFew a b c) = refl
 -- ---- the lane
 
 -- a call of one distributor's part, which rests again
-pub onward-rested : (x y : LaneState) (d : ℕ) → y ≡ record x { journal = y.journal; last = y.last; nodes = y.nodes; parts = y.parts; late = y.late } → IsQuiet (journal_of x) (journal_of y)
+pub onward-rested : (x y : LaneState) (d : ℕ) → y ≡ record x { journal = y.journal; last = y.last; nodes = y.nodes; parts = y.parts; late = y.late } → IsUneventful (journal_of x) (journal_of y)
     → IsResting (part_of y d) → OthersStay x.lane x.rules x.parts.items y.parts.items d → vec_len y.parts ≡ vec_len x.parts → IsOnward x y
 onward-rested x y d e q rests others parted = record {
   lane = lane_is;

@@ -11,8 +11,8 @@ use Rattle.lane_core.specs.declared.work.Work.{Work}
 use Rattle.lane_states.specs.LaneStates.{journal_of}
 use Rattle.lane_core.specs.Works.{IsWork, JobKeeps, MayMark, under_way_in, one_if}
 use Rattle.lane_core.specs.Preparations.{MayFallShort, with_phase, is_over}
-use Rattle.stamp_places.specs.Places.{place_of}
-use Rattle.lane_states.proofs.Entries.{finds-still}
+use Rattle.stamps.specs.Places.{place_of}
+use Rattle.lane_lines.proofs.Entries.{finds-still}
 use Rattle.lane_core.proofs.Working.{work-by}
 
 no-marks : (H : Journal) (j : Job) (s : ClusterState) (n : ℕ) (o : Outcome) → is_acked o ≡ false → MayMark H j s n o

@@ -7,13 +7,13 @@ use Rattle.messages.specs.declared.reply.Reply.{Reply}
 use Rattle.op_machine.specs.declared.machine.Standing.{Standing}
 use Rattle.op_machine.specs.Outcomes.{Next, Asks, Finishes, message_in, outcome_in}
 use Rattle.op_machine.specs.Standings.{next_at, IsAnswered}
-use Rattle.lane_operations.specs.Left.{messages_left}
+use Rattle.operation_keeping.specs.Left.{messages_left}
 use Rattle.lane_states.specs.declared.lane_state.LaneState.{LaneState}
 use Rattle.lane_core.specs.declared.job.Phase.{Phase}
 use Rattle.lane_core.specs.declared.job.Phase.TheVariants as phase
-use Rattle.lane_core.specs.declared.answers.Advance.{Advance}
-use Rattle.lane_core.specs.declared.answers.Advance.TheVariants as advance
-use Rattle.lane_states.specs.Steps.{StandsIn, TellsOne}
+use Rattle.lane_values.specs.declared.answers.Advance.{Advance}
+use Rattle.lane_values.specs.declared.answers.Advance.TheVariants as advance
+use Rattle.lane_lines.specs.Steps.{StandsIn, TellsOne}
 use Rattle.lane_core.specs.Phases.{IsPhaseOf, WantsMore, ComesTo}
 
 -- a machine without an outcome has a message

@@ -8,21 +8,21 @@ use Rattle.lane_journals.specs.KeptJournals.{past}
 use Rattle.lane_journals.specs.declared.event.LaneEvent.{LaneEvent}
 use Rattle.lane_journals.specs.declared.event.LaneEvent.TheVariants.{Heard}
 use Rattle.lane_carriage.specs.Readers.{last_sent}
-use Rattle.lane_states.specs.Growing.{is_older, heard_next}
+use Rattle.lane_keeping.specs.Tidings.{is_older, heard_next}
 use Rattle.lane_states.specs.LaneStates.{journal_of}
-use Rattle.upkeep_answers.specs.declared.answers.Upkeep.{Upkeep}
-use Rattle.upkeep_answers.specs.declared.answers.Upkeep.TheVariants.{Rested, Blocked, Disturbed, Held, NoMemory}
-use Rattle.upkeep_answers.specs.Spans.{AreUpkeep, Nothing, More, later, earlier}
-use Rattle.upkeep_answers.specs.Causes.{first_absent, cause_of, IsCause}
-use Rattle.upkeep_answers.proofs.Leaving.{before}
-use Rattle.upkeep_answers.proofs.Seeing.{length-past}
-use Rattle.lane_core.specs.LaneValues.{LaneValue}
-use Rattle.lane_core.specs.declared.job.UnderWay.{UnderWay}
+use Rattle.upkeep_spans.specs.declared.answers.Upkeep.{Upkeep}
+use Rattle.upkeep_spans.specs.declared.answers.Upkeep.TheVariants.{Rested, Blocked, Disturbed, Held, NoMemory}
+use Rattle.upkeep_spans.specs.Spans.{AreUpkeep, Nothing, More, later, earlier}
+use Rattle.upkeep_spans.specs.Causes.{first_absent, cause_of, IsCause}
+use Rattle.upkeep_spans.proofs.Leaving.{before}
+use Rattle.upkeep_spans.proofs.Seeing.{length-past}
+use Rattle.lane_values.specs.LaneValues.{LaneValue}
+use Rattle.lane_values.specs.declared.progress.UnderWay.{UnderWay}
 use Rattle.lane_core.specs.declared.work.Work.{Work}
 use Rattle.lane_core.specs.Works.{value_of, under_way_in}
 use Rattle.lane_core.specs.Upkeeping.{MaintainsBy, MayMaintain, OpensBy, RestsBy}
-use Rattle.lane_core.specs.Upkept.{Maintains, IsHeldBy, HasOpened, IsLaneAtRest, IsUpkept}
-use Rattle.lane_upkeep.specs.QuietSpansQuiet.{IsQuiet}
+use Rattle.lane_values.specs.Upkept.{Maintains, IsHeldBy, HasOpened, IsLaneAtRest, IsUpkept}
+use Rattle.undisturbed_spans.specs.Undisturbed.{IsUndisturbed}
 
 -- ---- the answer
 
@@ -42,7 +42,7 @@ none-late : (late absent : Option ℕ) → Rested ≡ cause_of late absent → l
 none-late (Some n) absent e = Prim.cc
 none-late None absent e = refl
 
-pub upkept-told : (old new : LaneValue) (answer : Upkeep) → old.under_way ≡ None → Maintains old new → (first_absent (λ n. returned n (history new.journal)) (later (length old.journal) new.journal) ≡ None → HasOpened new.journal) → (IsQuiet new.given old.journal new.journal → IsLaneAtRest new) → (answer ≡ NoMemory) ⊎ IsCause new.given (length old.journal) new.journal answer → IsUpkept old new answer
+pub upkept-told : (old new : LaneValue) (answer : Upkeep) → old.under_way ≡ None → Maintains old new → (first_absent (λ n. returned n (history new.journal)) (later (length old.journal) new.journal) ≡ None → HasOpened new.journal) → (IsUndisturbed new.given old.journal new.journal → IsLaneAtRest new) → (answer ≡ NoMemory) ⊎ IsCause new.given (length old.journal) new.journal answer → IsUpkept old new answer
 upkept-told old new NoMemory idle m f g t = (idle, inr m)
 upkept-told old new Rested idle m f g (inl e) = Prim.cc
 upkept-told old new Rested idle m f g (inr c) = (idle, m, c, f (all-back _ _ c), g (record { unlate = none-late _ _ c; back = all-back _ _ c }))

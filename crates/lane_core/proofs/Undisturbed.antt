@@ -17,17 +17,17 @@ use Rattle.lane_carriage.specs.Carriage.{is_stopped, is_cut_off}
 use Rattle.lane_carriage.specs.Readers.{last_sent, receives, fate_of, is_returned}
 use Rattle.lane_carriage.specs.Laws.{OfCarried}
 use Rattle.lane_keeping.specs.LaneKeeping.{setting_of}
-use Rattle.lane_states.specs.Growing.{is_older, heard_next, last_state}
+use Rattle.lane_keeping.specs.Tidings.{is_older, heard_next, last_state}
 use Rattle.lane_journals.specs.Readers.{held}
-use Rattle.upkeep_answers.specs.Spans.{IsUpkeepEvent, AreUpkeep, Nothing, More, OfUpkeep, later}
-use Rattle.upkeep_answers.specs.Causes.{first_absent, cause_of, IsCause}
-use Rattle.upkeep_answers.specs.Scans.{ArePlaced}
-use Rattle.upkeep_answers.specs.declared.answers.Upkeep.{Upkeep}
-use Rattle.upkeep_answers.specs.declared.answers.Upkeep.TheVariants.{Rested, Blocked, Disturbed, Held, NoMemory}
-use Rattle.upkeep_answers.proofs.Placing.{placed}
-use Rattle.lane_core.specs.LaneValues.{LaneValue, IsLaneValue}
-use Rattle.lane_core.specs.declared.job.UnderWay.{UnderWay}
-use Rattle.lane_core.specs.Upkept.{Maintains, IsHeldBy, IsUpkept}
+use Rattle.upkeep_spans.specs.Spans.{IsUpkeepEvent, AreUpkeep, Nothing, More, OfUpkeep, later}
+use Rattle.upkeep_spans.specs.Causes.{first_absent, cause_of, IsCause}
+use Rattle.upkeep_spans.specs.Scans.{ArePlaced}
+use Rattle.upkeep_spans.specs.declared.answers.Upkeep.{Upkeep}
+use Rattle.upkeep_spans.specs.declared.answers.Upkeep.TheVariants.{Rested, Blocked, Disturbed, Held, NoMemory}
+use Rattle.upkeep_spans.proofs.Placing.{placed}
+use Rattle.lane_values.specs.LaneValues.{LaneValue, IsLaneValue}
+use Rattle.lane_values.specs.declared.progress.UnderWay.{UnderWay}
+use Rattle.lane_values.specs.Upkept.{Maintains, IsHeldBy, IsUpkept}
 use Rattle.lane_core.specs.Undisturbed.{IsUndisturbed}
 use Rattle.lane_core.proofs.Newest.{newest_is}
 

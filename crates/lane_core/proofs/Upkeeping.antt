@@ -8,7 +8,7 @@ use Rattle.carriers.specs.declared.fate.Fate.{Fate}
 use Rattle.distributor_part.specs.declared.rules.Rules.{Rules}
 use Rattle.distributor_part.specs.Parts.{Part}
 use Rattle.ideal_nodes.specs.Placement.{IsOwner}
-use Rattle.lane_journals.specs.Facts.{IsOpen}
+use Rattle.lane_journals.specs.Facts.{IsOpen, AllClosed}
 use Rattle.lane_journals.specs.Readers.{Beginning, Preparing, or_else, only_if, began, closed, stamps_of, held, opened, returned}
 use Rattle.lane_keeping.specs.Acting.{IsActing}
 use Rattle.lane_journals.specs.Meanings.{history}
@@ -17,20 +17,19 @@ use Rattle.lane_journals.specs.declared.event.LaneEvent.TheVariants as event
 use Rattle.lane_keeping.specs.LaneKeeping.{part_in, setting_of}
 use Rattle.lane_carriage.specs.Readers.{fate_of}
 use Rattle.lane_rest.specs.Rest.{IsAtRest}
-use Rattle.lane_upkeep.specs.QuietSpansQuiet.{IsQuiet}
-use Rattle.lane_operations.specs.OperationKeeping.{AllClosed}
+use Rattle.undisturbed_spans.specs.Undisturbed.{IsUndisturbed}
 use Rattle.lane_states.specs.declared.lane_state.LaneState.{LaneState}
-use Rattle.lane_states.specs.Growing.{is_older, heard_next, last_state}
+use Rattle.lane_keeping.specs.Tidings.{is_older, heard_next, last_state}
 use Rattle.lane_states.specs.LaneStates.{journal_of, part_of, IsCarriedBy, IsResting, AreResting, IsSetUp}
 use Rattle.lane_states.specs.Written.{writes_entry, AddsNoEntry}
-use Rattle.lane_states.proofs.Entries.{adds-none, adds-one, finds-grown}
-use Rattle.upkeep_answers.specs.Spans.{IsUpkeepEvent, AreUpkeep, Nothing, More, OfUpkeep, later}
-use Rattle.upkeep_answers.specs.Causes.{is_late, first_late, first_absent}
+use Rattle.lane_lines.proofs.Entries.{adds-none, adds-one, finds-grown}
+use Rattle.upkeep_spans.specs.Spans.{IsUpkeepEvent, AreUpkeep, Nothing, More, OfUpkeep, later}
+use Rattle.upkeep_spans.specs.Causes.{is_late, first_late, first_absent}
 use Rattle.lane_upkeep.specs.declared.owner.Owner.{Owner}
 use Rattle.lane_upkeep.specs.Passing.{PassesOn}
 use Rattle.lane_upkeep.specs.Maintaining as maintaining
 use Rattle.lane_upkeep.specs.Maintaining.{IsBetween, AreReturned}
-use Rattle.lane_core.specs.LaneValues.{LaneValue}
+use Rattle.lane_values.specs.LaneValues.{LaneValue}
 use Rattle.lane_core.specs.Upkeeping.{MaintainsBy, OpensBy, RestsBy}
 use Rattle.lane_core.specs.declared.work.Work.{Work}
 use Rattle.lane_core.specs.declared.job.Job.{Job}
@@ -193,14 +192,14 @@ module _ (span : OfUpkeep (λ J K. K ≡ later (length J) K ++ J)) (behind : (J 
       let K : List LaneEvent = journal_of y.state in
       let p : ℕ → Bool = (λ n. returned n (history K)) in
       let up : AreUpkeep o.distributor (o.state).version (heard_next o.distributor (Some o.state) J) K = subst (λ (L : List LaneEvent). AreUpkeep o.distributor (o.state).version L K) grows on.grows in
-      f (subst (λ (L : List LaneEvent). IsQuiet now L K) (sym grows) (record {
+      f (subst (λ (L : List LaneEvent). IsUndisturbed now L K) (sym grows) (record {
         unlate = none-heard (first_late now) (late-end now) o.distributor (o.state).version o.state J K up quiet.unlate;
         back = none-heard (first_absent p) (heard-end p) o.distributor (o.state).version o.state J K up quiet.back;
       }))
 
 -- what a pass says of the lane's state, said of its work
 pub rests-on : {X E : Type 0} (r : Result X E) (x : Work) (y : LaneState) (now : List Fate) → IsSetUp y.lane y.rules
-    → OnOk r (IsSetUp y.lane y.rules → (y.rules).searchable ≤ (y.rules).redundancy → IsQuiet now (journal_of x.state) (journal_of y) → IsAtRest (setting_of y.lane y.rules) (y.rules).searchable (y.rules).split_at (journal_of y))
+    → OnOk r (IsSetUp y.lane y.rules → (y.rules).searchable ≤ (y.rules).redundancy → IsUndisturbed now (journal_of x.state) (journal_of y) → IsAtRest (setting_of y.lane y.rules) (y.rules).searchable (y.rules).split_at (journal_of y))
     → OnOk r (RestsBy x (record x { state = y }) now)
 rests-on (Ok a) x y now set_up f = f set_up set_up.searched
 rests-on (Err e) x y now set_up f = tt

@@ -27,16 +27,17 @@ use Rattle.lane_journals.specs.declared.event.LaneEvent.TheVariants.{Begun, Clos
 use Rattle.lane_keeping.specs.LaneKeeping.{Holds, PartKeeps}
 use Rattle.lane_keeping.specs.Acting.{IsActing}
 use Rattle.lane_keeping.proofs.Acting.{one-owner}
-use Rattle.lane_operations.specs.OperationKeeping.{AllClosed, KnowsPreparing, IsPlainGet}
+use Rattle.operation_keeping.specs.OperationKeeping.{KnowsPreparing, IsPlainGet}
+use Rattle.lane_journals.specs.Facts.{AllClosed}
 use Rattle.lane_core.specs.declared.job.Job.{Job}
 use Rattle.lane_core.specs.declared.work.Work.{Work}
 use Rattle.lane_states.specs.LaneStates.{journal_of, IsKept, HasRoom, AreResting, IsSetUp}
-use Rattle.lane_core.specs.LaneValues.{drawn}
-use Rattle.lane_states.specs.Growing.{last_state}
+use Rattle.lane_values.specs.LaneValues.{drawn}
+use Rattle.lane_keeping.specs.Tidings.{last_state}
 use Rattle.lane_states.specs.declared.lane_state.LaneState.{LaneState}
-use Rattle.stamp_places.specs.Places.{place_of}
+use Rattle.stamps.specs.Places.{place_of}
 use Rattle.lane_states.specs.Written.{FindsEntries}
-use Rattle.lane_states.proofs.Entries.{past-past, finds-none, finds-noted}
+use Rattle.lane_lines.proofs.Entries.{past-past, finds-none, finds-noted}
 use Rattle.lane_core.specs.Works.{value_of, under_way_in, new_job, count_of, count_after, one_if, room_for, IsUntouched, IsJob, JobKeeps, JobLasts, IsWork}
 
 -- ---- keys

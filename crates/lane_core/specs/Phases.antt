@@ -6,17 +6,17 @@ use Rattle.messages.specs.declared.outcome.Outcome.{Outcome}
 use Rattle.op_machine.specs.declared.machine.Standing.{Standing}
 use Rattle.op_machine.specs.Outcomes.{Finishes, outcome_in}
 use Rattle.op_machine.specs.Standings.{next_at}
-use Rattle.lane_operations.specs.Left.{messages_left}
+use Rattle.operation_keeping.specs.Left.{messages_left}
 use Rattle.lane_states.specs.declared.lane_state.LaneState.{LaneState}
-use Rattle.lane_core.specs.declared.answers.Advance.{Advance}
-use Rattle.lane_core.specs.declared.answers.Advance.TheVariants as advance
+use Rattle.lane_values.specs.declared.answers.Advance.{Advance}
+use Rattle.lane_values.specs.declared.answers.Advance.TheVariants as advance
 use Rattle.lane_core.specs.declared.job.Job.{Job}
 use Rattle.lane_core.specs.declared.job.Phase.{Phase}
 use Rattle.lane_core.specs.declared.job.Phase.TheVariants.{Prepared, Over, Short}
 use Rattle.lane_core.specs.declared.work.Work.{Work}
-use Rattle.lane_core.specs.LaneValues.{IsAdvance}
+use Rattle.lane_core.specs.Advancing.{IsAdvance}
 use Rattle.lane_core.specs.Works.{under_way_in, value_of}
-use Rattle.lane_states.specs.Steps.{StandsIn}
+use Rattle.lane_lines.specs.Steps.{StandsIn}
 
 -- it wants one more message, with one less left
 pub record WantsMore (c : LaneState) (line : ℕ) (row : Low) (written : Bool) (t x : Standing) : Type 0 where

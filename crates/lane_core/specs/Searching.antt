@@ -2,20 +2,21 @@
 use Rattle.std.specs.Prelude.{◌≤◌, ◌-◌, Bool, true, false, List, Option, None, Some}
 use Rattle.carriers.specs.declared.fate.Fate.{Fate}
 use Rattle.messages.specs.declared.outcome.Outcome.{Outcome}
-use Rattle.lane_states.specs.Wants.{IsEnd}
-use Rattle.lane_core.specs.declared.answers.Advance.{Advance}
+use Rattle.line_wants.specs.Wants.{IsEnd}
+use Rattle.lane_values.specs.declared.answers.Advance.{Advance}
 use Rattle.lane_core.specs.declared.job.Job.{Job}
 use Rattle.lane_core.specs.declared.job.Phase.{Phase}
 use Rattle.lane_core.specs.declared.job.Phase.TheVariants as phase
-use Rattle.lane_core.specs.declared.job.Progress.{Progress}
-use Rattle.lane_core.specs.declared.job.Progress.TheVariants as progress
-use Rattle.lane_core.specs.declared.job.UnderWay.{UnderWay}
-use Rattle.lane_states.specs.declared.readying.Shortage.{Shortage}
+use Rattle.lane_values.specs.declared.progress.Progress.{Progress}
+use Rattle.lane_values.specs.declared.progress.Progress.TheVariants as progress
+use Rattle.lane_values.specs.declared.progress.UnderWay.{UnderWay}
+use Rattle.lane_lines.specs.declared.readying.Shortage.{Shortage}
 use Rattle.lane_core.specs.declared.work.Work.{Work}
-use Rattle.lane_core.specs.LaneValues.{LaneValue, WentOn, IsAdvance}
+use Rattle.lane_values.specs.LaneValues.{LaneValue}
+use Rattle.lane_core.specs.Advancing.{WentOn, IsAdvance}
 use Rattle.lane_core.specs.Works.{under_way_in, value_of, OfValues}
 use Rattle.lane_core.specs.Preparations.{IsReady, MayFallShort}
-use Rattle.lane_states.specs.Readying.{outcome_of}
+use Rattle.lane_lines.specs.Readying.{outcome_of}
 
 -- nothing was done for it since it was begun
 abbrev pub is_begun : Phase → Bool

@@ -5,10 +5,10 @@ use Rattle.cluster_states.specs.Publishing.{serves}
 use Rattle.lane_journals.specs.Readers.{stopped}
 use Rattle.lane_journals.specs.Meanings.{history}
 use Rattle.lane_carriage.specs.Readers.{fate_of, is_returned}
-use Rattle.upkeep_answers.specs.Spans.{later}
-use Rattle.upkeep_answers.specs.Causes.{first_late}
-use Rattle.lane_states.specs.Growing.{last_state}
-use Rattle.lane_core.specs.LaneValues.{LaneValue}
+use Rattle.upkeep_spans.specs.Spans.{later}
+use Rattle.upkeep_spans.specs.Causes.{first_late}
+use Rattle.lane_keeping.specs.Tidings.{last_state}
+use Rattle.lane_values.specs.LaneValues.{LaneValue}
 
 -- no operation is under way, each node that serves under the newest state runs, the fate of each message of the call
 -- lets its reply come back, and no late message is delivered

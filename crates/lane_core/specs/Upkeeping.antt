@@ -6,12 +6,12 @@ use Rattle.lane_journals.specs.Meanings.{history}
 use Rattle.lane_keeping.specs.LaneKeeping.{setting_of}
 use Rattle.lane_states.specs.LaneStates.{journal_of}
 use Rattle.lane_rest.specs.Rest.{IsAtRest}
-use Rattle.lane_upkeep.specs.QuietSpansQuiet.{IsQuiet}
-use Rattle.upkeep_answers.specs.Spans.{later}
-use Rattle.upkeep_answers.specs.Causes.{first_absent}
+use Rattle.undisturbed_spans.specs.Undisturbed.{IsUndisturbed}
+use Rattle.upkeep_spans.specs.Spans.{later}
+use Rattle.upkeep_spans.specs.Causes.{first_absent}
 use Rattle.lane_core.specs.declared.work.Work.{Work}
 use Rattle.lane_core.specs.Works.{value_of, SameValue}
-use Rattle.lane_core.specs.Upkept.{Maintains, HasOpened}
+use Rattle.lane_values.specs.Upkept.{Maintains, HasOpened}
 
 -- the owner made a pass, whatever was planned
 abbrev pub MaintainsBy : Work → Work → List Fate → List Fate → Type 0
@@ -27,5 +27,5 @@ OpensBy old new = first_absent (λ n. returned n (history (journal_of new.state)
 
 -- where nothing was lost or late, the lane is at rest
 abbrev pub RestsBy : Work → Work → List Fate → Type 0
-RestsBy old new now = IsQuiet now (journal_of old.state) (journal_of new.state)
+RestsBy old new now = IsUndisturbed now (journal_of old.state) (journal_of new.state)
     → IsAtRest (setting_of new.state.lane new.state.rules) (new.state.rules).searchable (new.state.rules).split_at (journal_of new.state)

@@ -10,7 +10,7 @@ use Rattle.node_sets.specs.Members.{has_node}
 use Rattle.stamps.specs.declared.stamp.Stamp.{Stamp}
 use Rattle.cluster_states.specs.declared.cluster_state.ClusterState.{ClusterState}
 use Rattle.carriers.specs.declared.fate.Fate.{Fate}
-use Rattle.entry_maps.specs.declared.entry.Entry.{Entry}
+use Rattle.documents.specs.declared.entry.Entry.{Entry}
 use Rattle.messages.specs.declared.operation.Operation.{Operation}
 use Rattle.messages.specs.declared.outcome.Outcome.{Outcome}
 use Rattle.messages.specs.declared.outcome.Outcome.TheVariants.{Acked, NoMemory}
@@ -27,21 +27,22 @@ use Rattle.lane_journals.specs.declared.event.LaneEvent.TheVariants as event
 use Rattle.lane_journals.specs.declared.event.LaneEvent.TheVariants.{Closed}
 use Rattle.lane_keeping.specs.LaneKeeping.{setting_of}
 use Rattle.lane_keeping.specs.Acting.{IsActing}
-use Rattle.lane_operations.specs.OperationKeeping.{AllClosed, IsUnderWay, IsPlainGet}
-use Rattle.lane_operations.specs.Left.{messages_left}
+use Rattle.operation_keeping.specs.OperationKeeping.{IsUnderWay, IsPlainGet}
+use Rattle.lane_journals.specs.Facts.{AllClosed}
+use Rattle.operation_keeping.specs.Left.{messages_left}
 use Rattle.lane_core.specs.declared.job.Job.{Job}
 use Rattle.lane_core.specs.declared.job.Phase.{Phase}
 use Rattle.lane_core.specs.declared.job.Phase.TheVariants.{Begun, Prepared, Over, Short}
-use Rattle.lane_core.specs.declared.job.Progress.{Progress}
-use Rattle.lane_core.specs.declared.job.Progress.TheVariants as progress
-use Rattle.lane_core.specs.declared.job.UnderWay.{UnderWay}
+use Rattle.lane_values.specs.declared.progress.Progress.{Progress}
+use Rattle.lane_values.specs.declared.progress.Progress.TheVariants as progress
+use Rattle.lane_values.specs.declared.progress.UnderWay.{UnderWay}
 use Rattle.lane_core.specs.declared.work.Work.{Work}
 use Rattle.lane_states.specs.LaneStates.{journal_of, IsKept, HasRoom, AreResting, IsSetUp}
-use Rattle.stamp_places.specs.Places.{place_of}
+use Rattle.stamps.specs.Places.{place_of}
 use Rattle.lane_states.specs.Written.{FindsEntries}
-use Rattle.lane_states.specs.Wants.{Stands, IsEnd, WasAskedIn}
-use Rattle.lane_core.specs.LaneValues.{LaneValue, drawn, under_way_of}
-use Rattle.lane_states.specs.Growing.{last_state}
+use Rattle.line_wants.specs.Wants.{IsAtStanding, IsEnd, WasAskedIn}
+use Rattle.lane_values.specs.LaneValues.{LaneValue, drawn, under_way_of}
+use Rattle.lane_keeping.specs.Tidings.{last_state}
 
 -- ---- the value
 
@@ -101,7 +102,7 @@ abbrev pub MayMark : Journal → Job → ClusterState → ℕ → Outcome → Ty
 MayMark H j s answered (Acked stamp) = IsAnswered H j s stamp answered
 MayMark H j s answered _ = Unit {0}
 
-pub record IsOver (lane : Low) (rules : Rules) (J : List LaneEvent) (j : Job) (s : ClusterState) (outcome told : Outcome) (answered : ℕ) : Type 0 where
+pub record IsLineOver (lane : Low) (rules : Rules) (J : List LaneEvent) (j : Job) (s : ClusterState) (outcome told : Outcome) (answered : ℕ) : Type 0 where
   pub wanted : IsEnd lane rules j.line j.operation J outcome
   pub same : told ≡ outcome
   pub legal : IsLegalStep (setting_of lane rules) J (Closed j.line outcome)
@@ -110,14 +111,14 @@ pub record IsOver (lane : Low) (rules : Rules) (J : List LaneEvent) (j : Job) (s
 -- the machine stands as the journal says, and has no more messages left than calls
 pub record IsPrepared (lane : Low) (rules : Rules) (J : List LaneEvent) (j : Job) (s : ClusterState) (row : Low) (written : Bool) (t : Standing) : Type 0 where
   pub entry : Option Entry
-  pub stands : Stands lane rules J j.line j.operation j.distributor s row entry t
+  pub stands : IsAtStanding lane rules J j.line j.operation j.distributor s row entry t
   pub same_stamp : t.plan.stamp ≡ j.stamp
   pub written_is : written ≡ is_some entry
 
 abbrev pub PhaseKeeps : Low → Rules → List LaneEvent → Job → ClusterState → Phase → Type 0
 PhaseKeeps lane rules J j s Begun = IsUntouched (history J) j.line s.version × (is_some j.stamp ≡ not (is_get j.operation.kind))
 PhaseKeeps lane rules J j s (Prepared machine row written) = IsPrepared lane rules J j s row written machine
-PhaseKeeps lane rules J j s (Over outcome told answered) = IsOver lane rules J j s outcome told answered
+PhaseKeeps lane rules J j s (Over outcome told answered) = IsLineOver lane rules J j s outcome told answered
 PhaseKeeps lane rules J j s Short = Unit {0}
 
 pub record IsJob (lane : Low) (rules : Rules) (J : List LaneEvent) (j : Job) : Type 0 where

@@ -1,16 +1,16 @@
 ghost use Rattle.std.specs.Prelude.{◌≡◌, true, IfOk, OnErr};
-ghost use Rattle.lane_core.specs.declared.answers.Advance.TheVariants as advance;
+ghost use Rattle.lane_values.specs.declared.answers.Advance.TheVariants as advance;
 ghost use Rattle.lane_states.specs.LaneStates.{IsCarriedBy, StaysCarried};
 ghost use Rattle.lane_core.specs.Works.{IsWork};
 ghost use Rattle.lane_core.specs.Phases.{AdvancesBy};
 ghost use Rattle.lane_core.specs.Searching.{just_begun, is_begun, HasCall, spent, SearchesBy, ComesToRow, AdvancesFrom};
 
-use crate::answers::Advance;
 use crate::job::{Job, Phase};
 use crate::work::Work;
 use carriers::Carrier;
 use lane_keeping::laws::owners_act;
-use lane_states::readying::Shortage;
+use lane_lines::readying::{Shortage, find_row};
+use lane_values::answers::Advance;
 use value_lists::NoMemory;
 
 /// Whether nothing was done of an operation since it was begun.
@@ -69,7 +69,7 @@ impl Work {
         let distributor = job.distributor;
         let key = job.key;
         spend(&mut self.job);
-        self.state.find_row(distributor, key, carrier)
+        find_row(&mut self.state, distributor, key, carrier)
     }
 
     /// Prepares the operation in the row that was found; where none was, it is over with the outcome of that.

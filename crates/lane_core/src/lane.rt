@@ -13,34 +13,35 @@ ghost use Rattle.lane_journals.specs.KeptJournals.{past};
 ghost use Rattle.lane_journals.specs.declared.event.LaneEvent.TheVariants as event;
 ghost use Rattle.node_journals.specs.NodeKeeping.{NodeKeeps};
 ghost use Rattle.lane_keeping.specs.LaneKeeping.{setting_of};
-ghost use Rattle.lane_operations.specs.OperationKeeping.{IsFresh, IsPlainGet};
-ghost use Rattle.lane_states.specs.Growing.{heard_next, announced, stopped_next, started_next, last_state};
-ghost use Rattle.lane_core.specs.LaneValues.{LaneValue, new_value, IsLaneValue, IsBeginning, BeginsAtOwner, IsAdvance, IsAt, MayClose, IsOutcome, closed_by};
+ghost use Rattle.operation_keeping.specs.OperationKeeping.{IsFresh, IsPlainGet};
+ghost use Rattle.lane_keeping.specs.Tidings.{heard_next, announced, stopped_next, started_next, last_state};
+ghost use Rattle.lane_values.specs.LaneValues.{LaneValue, new_value, IsLaneValue, IsBeginning, BeginsAtOwner, IsAt, MayClose, closed_by};
+ghost use Rattle.lane_core.specs.Advancing.{IsAdvance, IsOutcome};
 ghost use Rattle.lane_states.specs.LaneStates.{IsSetUp};
-ghost use Rattle.lane_states.specs.Shown.{node_or_new, HasEntries, HasRows};
-ghost use Rattle.lane_core.specs.Upkept.{IsUpkept};
-ghost use Rattle.lane_core.specs.declared.job.Progress.TheVariants as progress;
+ghost use Rattle.lane_keeping.specs.Shown.{node_or_new, HasEntries, HasRows};
+ghost use Rattle.lane_values.specs.Upkept.{IsUpkept};
+ghost use Rattle.lane_values.specs.declared.progress.Progress.TheVariants as progress;
 
-use crate::answers::{Advance, Begin};
 use crate::work::Work;
 use bucket_db::Row;
 use bucket_ids::Bucket;
 use carriers::{Carrier, Fate};
 use cluster_states::ClusterState;
 use distributor_part::Rules;
-use entry_maps::Entry;
+use documents::Entry;
 use lane_carriage::laws::messages_are_carried;
 use lane_journals::LaneEvent;
 use lane_states::known_owner::KnownOwner;
 use lane_states::written::entry_in;
+use lane_values::answers::{Advance, Begin};
 use messages::{Operation, Outcome};
 use node_sets::NodeSet;
 use service_layer::NodePart;
 use stamps::Stamp;
 use std::alloc::Global;
 use std::marker::Model;
-use upkeep_answers::laws::upkeep_goes_on;
-use upkeep_answers::{Upkeep, Watching};
+use upkeep_spans::laws::upkeep_goes_on;
+use upkeep_spans::{Upkeep, Watching};
 use value_lists::NoMemory;
 
 /// A lane: its journal and what it says, the carrier of its messages, and the operation under way. One
@@ -54,10 +55,10 @@ pub struct Lane<C: Carrier + Drop> {
 }
 
 impl<C: Carrier + Drop> Model for Lane<C> {
-    ghost use Rattle.lane_core.specs.LaneValues.{LaneValue, lane_code};
+    ghost use Rattle.lane_values.specs.LaneValues.{LaneValue, lane_code};
     ghost use Rattle.lane_core.specs.Works.{value_of};
     ghost use Rattle.lane_core.specs.LaneInside.{IsLane};
-    ghost use Rattle.upkeep_answers.specs.Watches.{takes_plans, planned_in};
+    ghost use Rattle.upkeep_spans.specs.Watches.{takes_plans, planned_in};
 
     ghost Value = { LaneValue };
 

@@ -1,33 +1,36 @@
-//! One lane: what it keeps (`lane_states`), the operation under way, and the carrier of its messages.
+//! One lane: what it keeps (`lane_states`), the operation under way, the carrier of its messages, and what a session does there.
 //!
-//! A `Work` is a `LaneState` with the operation under way: it begins one at the owner of the lane, or refuses
-//! it, and closes it. `lane_wants` says what the operation of a line wants next. A `Lane` is a `Work` with
-//! the carrier of its messages; `specs/LaneValues.antt` says what it is to its callers.
+//! A `Work` is a `LaneState` with the operation under way: it begins one at the owner of the lane, or refuses it, and closes it.
+//! `line_wants` says what the operation of a line wants next. A `Lane` is a `Work` with the carrier of its messages;
+//! `LaneValues` of `lane_values` says what it is to its callers. `open_lane` publishes the first state there, `run_line` runs a
+//! line from its beginning to its end, and `maintain` makes a pass of upkeep: they are the deeds of `lane_lives`.
 //!
 //! ```text
-//! let mut lane = Lane::new(alloc, bucket, rules, carrier);
-//! lane.room()?;
-//! lane.publish(&state);                   // Published { .. }
-//! lane.begin_at_owner(line, operation)?;  // Heard { .. }, Begun { .. }
-//! lane.advance();                         // Sent { .. }, Delivered { .. }, Returned { .. }
-//! lane.close();                           // Closed { .. }
+//! let mut lane = open_lane(alloc, bucket, &setting, carrier)?;    // Published { .. }, Heard { .. } ..
+//! run_line(&mut lane, line, None, operation)?;                    // Begun { .. }, .. Closed { .. }
+//! announce(&mut lane, &state, deaf);                              // Published { .. }, Heard { .. } ..
 //! ```
 #![tactic(auto)]
 
-pub mod answers;
 pub mod beginning;
 pub mod begun;
 pub mod job;
 pub mod lane;
 pub mod laws;
+pub mod maintaining;
+pub mod opening;
+pub mod operating;
 pub mod phases;
 pub mod preparing;
 pub mod shortfall;
 pub mod states;
+pub mod telling;
 pub mod upkeep;
 pub mod work;
 
-pub use answers::{Advance, Begin};
-pub use job::{Progress, UnderWay};
 pub use lane::Lane;
+pub use maintaining::maintain;
+pub use opening::open_lane;
+pub use operating::run_line;
+pub use telling::{announce, start, stop};
 pub use work::Work;

@@ -1,20 +1,21 @@
 ghost use Rattle.std.specs.Prelude.{◌≡◌, ◌≤◌, ◌<◌, ◌-◌, None, IfOk};
 ghost use Rattle.global_ids.specs.Keys.{key_of};
 ghost use Rattle.lane_states.specs.LaneStates.{journal_of, IsKept, HasRoom, IsCarriedBy};
-ghost use Rattle.lane_states.specs.Steps.{GoesIn, RunsIn, StandsIn, IsQuiet};
+ghost use Rattle.lane_lines.specs.Steps.{GoesIn, RunsIn, StandsIn, IsUneventful};
 ghost use Rattle.lane_core.specs.Phases.{HasEnded, IsPhaseOf, OfPrepared, IsAtMessages, ComesTo, IsToStep, AdvancesBy};
 ghost use Rattle.lane_core.specs.Works.{IsWork};
-ghost use Rattle.stamp_places.specs.Places.{place_of};
+ghost use Rattle.stamps.specs.Places.{place_of};
 ghost use Rattle.lane_states.specs.Written.{FindsEntries};
 
-use crate::answers::Advance;
 use crate::job::{Job, Phase};
 use crate::work::Work;
 use carriers::Carrier;
-use lane_operations::laws::{operations_end, operations_shorten};
+use lane_lines::steps::send_next;
 use lane_states::lane_state::LaneState;
+use lane_values::answers::Advance;
 use op_machine::OpMachine;
-use stamp_places::StampPlaces;
+use operation_keeping::laws::{operations_end, operations_shorten};
+use stamps::StampPlaces;
 use std::alloc::Global;
 use value_lists::{NoMemory, TryCopy};
 
@@ -83,7 +84,7 @@ fn step_phase<C: Carrier>(
     ensures carried { IsCarriedBy state.new (C.given carrier.new) }
     ensures planned { C.planned carrier.new ≡ C.planned carrier.old }
     ensures kind { C.takes_plans carrier.new ≡ C.takes_plans carrier.old }
-    ensures quiet { IsQuiet (journal_of state.old) (journal_of state.new) }
+    ensures quiet { IsUneventful (journal_of state.old) (journal_of state.new) }
     ensures run { OfPrepared (λ row written machine. RunsIn state.old state.new line machine) phase.old }
     ensures going { OfPrepared (λ row written machine. GoesIn state.new line machine.plan) phase.old }
     ensures comes { OfPrepared (λ row written machine. ComesTo state.new line row machine phase.new result) phase.old }
@@ -103,7 +104,7 @@ fn step_phase<C: Carrier>(
     else {
         unreachable!();
     };
-    match state.send_next(line, key, written, machine, places, carrier) {
+    match send_next(state, line, key, written, machine, places, carrier) {
         Ok(_) => bring_on(state.alloc, phase),
         Err(NoMemory) => {
             put_phase(phase, Phase::Short);
@@ -132,7 +133,7 @@ fn step_job<C: Carrier>(
     ensures carried { IsCarriedBy state.new (C.given carrier.new) }
     ensures planned { C.planned carrier.new ≡ C.planned carrier.old }
     ensures kind { C.takes_plans carrier.new ≡ C.takes_plans carrier.old }
-    ensures quiet { IsQuiet (journal_of state.old) (journal_of state.new) }
+    ensures quiet { IsUneventful (journal_of state.old) (journal_of state.new) }
     ensures run { OfPrepared (λ row written machine. RunsIn state.old state.new job.old.line machine) job.old.phase }
     ensures going { OfPrepared (λ row written machine. GoesIn state.new job.old.line machine.plan) job.old.phase }
     ensures comes { OfPrepared (λ row written machine. ComesTo state.new job.old.line row machine job.new.phase result)

@@ -9,13 +9,14 @@ ghost use Rattle.lane_core.specs.Preparations.{with_phase, IsReady, PreparesNext
 use crate::job::{Job, Phase};
 use crate::work::Work;
 use bucket_db::Row;
-use lane_durability::laws::one_active_copy;
 use lane_journals::LaneEvent;
+use lane_journals::active_copies::one_active_copy;
 use lane_journals::laws::kept_journals_mean_legal_ones;
 use lane_keeping::laws::owners_act;
-use lane_operations::laws::{operations_prepare, operations_shorten};
+use lane_lines::readying::row_with;
 use messages::Origin;
 use op_machine::OpMachine;
+use operation_keeping::laws::{operations_prepare, operations_shorten};
 use std::alloc::Global;
 use value_lists::{NoMemory, TryCopy};
 
@@ -78,7 +79,7 @@ impl Work {
             unreachable!();
         };
         let line = job.line;
-        let row = self.state.row_with(job.distributor, job.key);
+        let row = row_with(&self.state, job.distributor, job.key);
         let origin = Origin {
             version: state.version(),
             lane: self.state.lane.low() as u8,

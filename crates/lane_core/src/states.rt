@@ -7,9 +7,9 @@ ghost use Rattle.lane_journals.specs.declared.event.LaneEvent.TheVariants as eve
 ghost use Rattle.ideal_nodes.specs.Placement.{IsOwner};
 ghost use Rattle.lane_keeping.specs.LaneKeeping.{setting_of};
 ghost use Rattle.lane_keeping.specs.Acting.{IsActing};
-ghost use Rattle.lane_states.specs.Growing.{heard_next, announced, stopped_next, started_next, last_state};
+ghost use Rattle.lane_keeping.specs.Tidings.{heard_next, announced, stopped_next, started_next, last_state};
 ghost use Rattle.lane_states.specs.LaneStates.{journal_of, IsCarriedBy, HasRoom, StaysCarried, IsSetUp};
-ghost use Rattle.lane_core.specs.LaneValues.{LaneValue, new_value};
+ghost use Rattle.lane_values.specs.LaneValues.{LaneValue, new_value};
 ghost use Rattle.lane_core.specs.Works.{value_of, OfValues, SameValue, IsWork};
 
 use crate::work::Work;
@@ -20,7 +20,7 @@ use lane_carriage::laws::late_messages_wait;
 use lane_journals::laws::kept_journals_mean_legal_ones;
 use lane_states::lane_state::LaneState;
 use node_sets::NodeSet;
-use stamp_places::StampPlaces;
+use stamps::StampPlaces;
 use std::alloc::Global;
 use std::collections::BTreeMap;
 use value_lists::NoMemory;

@@ -1,7 +1,7 @@
 ghost use Rattle.std.specs.Prelude.{◌≡◌, ◌<◌, None, Some, IsSome, OnOk, OnErr, vec_len};
 ghost use Rattle.lane_keeping.specs.Acting.{IsActing};
 ghost use Rattle.lane_states.specs.LaneStates.{journal_of, IsCarriedBy};
-ghost use Rattle.lane_states.specs.Growing.{last_state};
+ghost use Rattle.lane_keeping.specs.Tidings.{last_state};
 ghost use Rattle.lane_upkeep.specs.Passing.{PassesOn};
 ghost use Rattle.lane_upkeep.specs.Maintaining.{AreReturned, HasOpened};
 ghost use Rattle.lane_core.specs.Works.{IsWork};
@@ -11,7 +11,7 @@ use crate::work::Work;
 use carriers::Carrier;
 use lane_states::known_owner::KnownOwner;
 use lane_upkeep::{Owner, maintain};
-use upkeep_answers::laws::{upkeep_goes_on, upkeep_leaves_lines, upkeep_leaves_states};
+use upkeep_spans::laws::{upkeep_goes_on, upkeep_leaves_lines, upkeep_leaves_states};
 use value_lists::NoMemory;
 
 impl Work {

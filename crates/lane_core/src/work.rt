@@ -1,14 +1,16 @@
 ghost use Rattle.std.specs.Prelude.{◌≡◌, Some};
-ghost use Rattle.lane_core.specs.LaneValues.{IsOutcome, closed_by};
+ghost use Rattle.lane_values.specs.LaneValues.{closed_by};
+ghost use Rattle.lane_core.specs.Advancing.{IsOutcome};
 ghost use Rattle.lane_core.specs.Works.{IsWork, OfValues, IsToClosePhase, IsToClose, IsEndedBy};
 ghost use Rattle.lane_states.specs.LaneStates.{StaysCarried};
 
 use crate::job::{Job, Phase};
-use lane_operations::laws::operations_end;
+use lane_lines::closing::note_end;
 use lane_states::lane_state::LaneState;
 use messages::Outcome;
 use node_sets::NodeSet;
-use stamp_places::StampPlaces;
+use operation_keeping::laws::operations_end;
+use stamps::StampPlaces;
 use std::collections::BTreeMap;
 
 /// A lane with what it keeps of its lines: how many stamps were drawn under each version, where in the journal
@@ -101,8 +103,7 @@ impl Work {
             answered,
         } = end_of(job);
         self.state.spare -= 1;
-        self.state
-            .note_end(line, distributor, key, outcome, answered);
+        note_end(&mut self.state, line, distributor, key, outcome, answered);
         told
     }
 }

@@ -5,23 +5,26 @@ use Rattle.std.proofs.lemmas.Bool.Decides.{nat_tests}
 use Rattle.lane_journals.specs.Sets.{AtLeast}
 use Rattle.lane_journals.specs.Stamps.{Stamp, Le}
 use Rattle.lane_journals.specs.Buckets.{Bucket, contains, Id, same_id, key_of}
-use Rattle.lane_journals.specs.Events.{Content, Body, Read, Apply, Reply, Answer, RoundBegun, RoundEnded, DeleteFrom, Event, Begun, Opened, Prepared, Sent, Delivered, Closed, Decided}
-use Rattle.lane_journals.specs.Readers.{Within, Journal, published, Beginning, began, Preparing, prepared, closed, opened, rounds, round_of, running, Message, sent, Accepted, version, after_body, store, acceptable, base, Given, answer, answered_store, complete, DeletedFrom, AckedBy, Acked}
-use Rattle.lane_journals.specs.Facts.{Shown, Applied, Gives, AnsweredAsk, IsOpen}
-use Rattle.lane_journals.specs.Legal.{MayPublish, MayBegin, MayOpen, MayPrepare, MaySend, MayDeliver, MayClose, Permits, Legal}
+use Rattle.lane_journals.specs.Events.{Content, Body, Read, Apply, Reply, Answer, RoundBegun, RoundEnded, DeleteFrom, Event, Opened, Prepared, Sent, Delivered, Closed, Decided}
+use Rattle.lane_journals.specs.Readers.{Within, Journal, published, Beginning, began, Preparing, prepared, closed, opened, rounds, round_of, running, Message, version, after_body, store, acceptable, base, Given, answer, answered_store, complete, DeletedFrom, AckedBy, Acked}
+use Rattle.lane_journals.specs.Facts.{Shown, Applied, Gives, IsOpen}
+use Rattle.lane_journals.specs.Legal.{MayPublish, MayOpen, MayPrepare, MaySend, MayClose, Permits, Legal}
 use Rattle.lane_journals.proofs.Ids.{same_id-eq, same_id-true}
-use Rattle.lane_durability.proofs.Spent.{within, within-refl, within-trans, within-le, within-at, within-from, within-stays, within-moves}
+use Rattle.lane_journals.proofs.Spent.{within, within-refl, within-trans, within-le, within-at, within-from, within-stays, within-moves}
 use Rattle.lane_journals.proofs.Order.{Le_refl, Le_trans, Le_total, Le-same}
 use Rattle.lane_journals.proofs.Counts.{AtLeast-map, AtLeast-some}
 use Rattle.lane_journals.proofs.BucketLaws.{same_bucket-refl}
-use Rattle.lane_journals.proofs.Basics.{Gives-stays, sent_before, sent-member, sent-early, accepted-cases, accepted-sent, replied-accepted, version-grows, opened-stays, opened-cases, opened-before, published-stays, published-cases, began-cases, closed-before, answer-stays, took-applied, answered-took, deleted-cases}
+use Rattle.lane_journals.proofs.Basics.{Gives-stays, sent-member, sent-early, replied-accepted, version-grows, opened-stays, opened-cases, opened-before, published-stays, published-cases, closed-before, answer-stays, took-applied, answered-took, deleted-cases}
 use Rattle.lane_journals.proofs.Rows.{SameRound, running-cases, IsRound, IsRound-stays, isround-bound, isround-one, running-round, running-row, quiet-running, running-idle, was-prepared, open-cases, prepared-permits}
 use Rattle.lane_journals.proofs.Serials.{effect, shown-cases, shown-now, named-shows, answer-cases, answer-shown}
-use Rattle.lane_durability.proofs.Deletes.{alive-back, two_deletes}
-use Rattle.lane_durability.proofs.Marks.{now-accepts, Holds, complete-took, recipient-holds, complete-before, complete-closed, running-unnamed}
+use Rattle.lane_durability.proofs.TwoDeletes.{alive-back, two_deletes}
+use Rattle.lane_journals.proofs.Marks.{Holds, complete-took, recipient-holds, complete-before, complete-closed, running-unnamed}
 use Rattle.lane_durability.proofs.Rounds.{unite-gives, applied-cases, applied-answers, apply-covers, shown-isround, Backs, standing}
-use Rattle.lane_durability.proofs.Copies.{DeletesAt, classify, from-delete}
-use Rattle.lane_durability.proofs.Kept.{answered-took-op, store-line, stamp-line, took-held, store-kept, stored-held}
+use Rattle.lane_journals.proofs.Losses.{DeletesAt, classify}
+use Rattle.lane_durability.proofs.Copies.{from-delete}
+use Rattle.lane_journals.proofs.Kept.{answered-took-op, store-line, stamp-line, store-kept, one-open}
+use Rattle.lane_durability.proofs.Held.{took-held, stored-held}
+use Rattle.lane_journals.proofs.Versions.{accepted-version, opened-version}
 
 -- the greatest of a function over a set
 record Best (f : ℕ → Option Stamp) (p : ℕ → Bool) (k : ℕ) : Type 0 where
@@ -70,27 +73,6 @@ module _ (acks : ℕ) (P : ℕ → ℕ → Bool) (some : 1 ≤ acks) where
     | inl old ↦ opened-published J l.0 v old
     | inr new ↦ (let q : MayOpen P J new.0 v new.1 = rw new.2 at l.1 in q.state)
   ])
-
-  pub accepted-version : (J : Journal) → Legal acks P J → (k : ℕ) (m : Message) → Accepted k J → sent k J ≡ Some m → m.version ≤ version m.receiver J
-  accepted-version [] l k m a s = cc
-  accepted-version (e ∷ J) l k m a s = elim (accepted-cases k J e a) [
-    | inl old ↦ (let i = accepted-version J l.0 k m old (sent_before acks P J k e m (accepted-sent acks P J l.0 k old) s) in let g = version-grows m.receiver J e in omega arith)
-    | inr new ↦ (let d : MayDeliver J k new.0 = rw new.1 at l.1 in
-        let x = now-accepts acks P J e l.1 k m.receiver m new.0 new.1 new.2 (sent_before acks P J k e m (d.message, d.was_sent) s) refl in
-        let r = (x.0).raises in let z : (x.0).message.version ≡ m.version = ap (λ (y : Message). y.version) x.1 in omega arith)
-  ]
-
-  pub opened-version : (J : Journal) → Legal acks P J → (v n : ℕ) → opened v J ≡ true → P v n ≡ true → v ≤ version n J
-  opened-version [] l v n o p = cc
-  opened-version (e ∷ J) l v n o p =
-      let g = version-grows n J e in
-      elim (opened-cases v J e o) [
-        | inl old ↦ let i = opened-version J l.0 v n old p in omega arith
-        | inr new ↦ (let q : MayOpen P J new.0 v new.1 = rw new.2 at l.1 in let i = asked (q.all n p) in omega arith)
-      ]
-    where
-      asked : AnsweredAsk v n J → v ≤ version n J
-      asked a = subst₂ (λ (x y : ℕ). x ≤ version y J) a.version a.receiver (accepted-version J l.0 a.number a.message (replied-accepted acks P J a.number (Answer a.content a.names) a.reply refl) a.was_sent)
 
   -- ---- what a node held as it took a version
 
@@ -166,7 +148,7 @@ module _ (acks : ℕ) (P : ℕ → ℕ → Bool) (some : 1 ≤ acks) where
 
   Covers-stays : (J : Journal) (e : Event) → Legal acks P J → (v : ℕ) (id : Id) (x : Option Stamp) → opened v J ≡ true → NotClosed v id J e → Covers v id J x → Covers v id (e ∷ J) x
   Covers-stays J e l v id x o not c = record {
-    bases = λ n p. within-from id (e ∷ J) _ _ _ (base-at v n id J e (let i = opened-version J l v n o p in let g = version-grows n J e in omega arith)) (within-stays id J e _ _ (c.bases n p));
+    bases = λ n p. within-from id (e ∷ J) _ _ _ (base-at v n id J e (let i = opened-version acks P some J l v n o p in let g = version-grows n J e in omega arith)) (within-stays id J e _ _ (c.bases n p));
     acked = λ s a. elim (acked-cases v id s J e a) [ inl old ↦ within-stays id J e _ _ (c.acked s old) | inr new ↦ absurd (not new.0 new.1 s new.2) ];
   }
 
@@ -197,22 +179,6 @@ module _ (acks : ℕ) (P : ℕ → ℕ → Bool) (some : 1 ≤ acks) where
     pub is_open : IsOpen v line begin preparing J
     pub same_id : begin.id ≡ id
     pub recipient : preparing.recipients n ≡ true
-
-  pub one-open : (J : Journal) → Legal acks P J → (k j : ℕ) (b c : Beginning) → began k J ≡ Some b → began j J ≡ Some c → b.id ≡ c.id → closed k J ≡ false → closed j J ≡ false → k ≡ j
-  one-open [] l k j b c f g same x y = cc
-  one-open (e ∷ J) l k j b c f g same x y = elim (began-cases k J e b f) [
-    | inl old ↦ elim (began-cases j J e c g) [
-      | inl old' ↦ one-open J l.0 k j b c old old' same (closed-before k J e x) (closed-before j J e y)
-      | inr new' ↦ (let q : MayBegin J j new'.0 c.version c.id c.stamp = rw new'.1 at l.1 in let z = q.alone k b old same in let w = closed-before k J e x in cc)
-    ]
-    | inr new ↦ elim (began-cases j J e c g) [
-      | inl old' ↦ (let q : MayBegin J k new.0 b.version b.id b.stamp = rw new.1 at l.1 in let z = q.alone j c old' (sym same) in let w = closed-before j J e y in cc)
-      | inr new' ↦ lines new.1 new'.1
-    ]
-  ]
-    where
-      lines : {d d' v v' : ℕ} {i i' : Id} {s s' : Option Stamp} → e ≡ Begun k d v i s → e ≡ Begun j d' v' i' s' → k ≡ j
-      lines p q = cc
 
   -- who answered the Store of an open operation holds it
   answered-holds : (J : Journal) → Legal acks P J → (v n line : ℕ) (b : Beginning) (p : Preparing) (s : Stamp) → IsOpen v line b p J → b.stamp ≡ Some s → answered_store v b.id s n J ≡ true → version n J ≤ v → Within b.id J (Some s) (store n b.id J) × P v n ≡ true × (p.recipients n ≡ true)
@@ -288,7 +254,7 @@ module _ (acks : ℕ) (P : ℕ → ℕ → Bool) (some : 1 ≤ acks) where
 
   covers-close : (J : Journal) (v : ℕ) (id : Id) (line : ℕ) (x : Option Stamp) → Legal acks P J → opened v J ≡ true → Covers v id J x → (b : Beginning) (s : Stamp) → began line J ≡ Some b → b.stamp ≡ Some s → Within id J (Some s) x → Covers v id (Closed line true ∷ J) x
   covers-close J v id line x l o c b s f st le = record {
-    bases = λ n p. within-from id J _ _ _ (base-at v n id J (Closed line true) (opened-version J l v n o p)) (c.bases n p);
+    bases = λ n p. within-from id J _ _ _ (base-at v n id J (Closed line true) (opened-version acks P some J l v n o p)) (c.bases n p);
     acked = λ t a. elim (acked-cases v id t J (Closed line true) a) [
       | inl old ↦ c.acked t old
       | inr new ↦ (let y : AckedBy v id t (Some b) = subst (λ (z : Option Beginning). AckedBy v id t z) f (subst (λ (z : ℕ). AckedBy v id t (began z J)) (same new.1) new.2) in
@@ -373,7 +339,7 @@ module _ (acks : ℕ) (P : ℕ → ℕ → Bool) (some : 1 ≤ acks) where
           )
             where
               asked : (n : ℕ) → P v n ≡ true → v ≤ version n J
-              asked n p = let a = q.all n p in subst₂ (λ (x y : ℕ). x ≤ version y J) a.version a.receiver (accepted-version J l.0 a.number a.message (replied-accepted acks P J a.number (Answer a.content a.names) a.reply refl) a.was_sent)
+              asked n p = let a = q.all n p in subst₂ (λ (x y : ℕ). x ≤ version y J) a.version a.receiver (accepted-version acks P some J l.0 a.number a.message (replied-accepted acks P J a.number (Answer a.content a.names) a.reply refl) a.was_sent)
 
       closing : (e : Event) → Acking v id J e → (n : ℕ) × (P v n ≡ true) × Covers v id (e ∷ J) (store n id (e ∷ J))
       closing e a = rw a.is (
@@ -388,7 +354,7 @@ module _ (acks : ℕ) (P : ℕ → ℕ → Bool) (some : 1 ≤ acks) where
       moving o not c (inr x) = elim (cases_eq c.0 x.node) [
         | inl same ↦
             (let member : P v x.node ≡ true = subst (λ (i : ℕ). P v i ≡ true) same c.1 in
-            let d = delete-at J e id l.0 x v (opened-version J l.0 v x.node o member) (all x.node member) in
+            let d = delete-at J e id l.0 x v (opened-version acks P some J l.0 v x.node o member) (all x.node member) in
             let m = loser-safe J l.0 v x.bucket x.node x.serial d.round id low d.from d.ok x.inside in
             let had : Covers v id J (store x.node id J) = subst (λ (i : ℕ). Covers v id J (store i id J)) same c.2 in
             (m.0, m.1, Covers-le v id (e ∷ J) _ _ (Covers-stays J e l.0 v id _ o not had) (within-at id (e ∷ J) _ _ _ (x.others m.0 m.2) (within-stays id J e _ _ m.3))))
@@ -453,7 +419,7 @@ module _ (acks : ℕ) (P : ℕ → ℕ → Bool) (some : 1 ≤ acks) where
           closed-now : (e : Event) (a : Acking v id J e) → closed r'.line (e ∷ J) ≡ false → ⊥
           closed-now e a u =
               let u' : closed r'.line J ≡ false = closed-before r'.line J e u in
-              let same = one-open J l.0 a.line r'.line a.begin r'.begin (a.is_open).began (r'.is_open).began (a.same_id ∙ sym r'.same_id) (a.is_open).unclosed u' in
+              let same = one-open acks P some J l.0 a.line r'.line a.begin r'.begin (a.is_open).began (r'.is_open).began (a.same_id ∙ sym r'.same_id) (a.is_open).unclosed u' in
               let z : closed r'.line (Closed a.line true ∷ J) ≡ false = rw a.is at u in
               let y : closed r'.line (Closed a.line true ∷ J) ≡ true = rw (eq-eqb a.line r'.line same) refl in cc
 
@@ -560,7 +526,7 @@ module _ (acks : ℕ) (P : ℕ → ℕ → Bool) (some : 1 ≤ acks) where
       by_answer x is low None f =
           let member : P v x.node ≡ true = subst (λ (i : ℕ). P v i ≡ true) is p in
           let low' : version x.node (e ∷ J) ≤ v = subst (λ (i : ℕ). version i (e ∷ J) ≤ v) is low in
-          let d = delete-at J e id l.0 x v (opened-version J l.0 v x.node o member) low' in
+          let d = delete-at J e id l.0 x v (opened-version acks P some J l.0 v x.node o member) low' in
           inr (x, is, record { round = d.round; from = d.from; ok = d.ok; member = member; none = subst (λ (i : ℕ). answer v r i J ≡ None) is (answer-before v r n J e f) })
 
   round-step : (J : Journal) (e : Event) → Legal acks P (e ∷ J) → Facts J → (v : ℕ) (b : Bucket) (id : Id) → running v b (e ∷ J) ≡ true → contains b (key_of id) ≡ true → Waiting v (round_of v b (e ∷ J)) (e ∷ J) → (x : Option Stamp) × Covers v id (e ∷ J) x × ((n : ℕ) × Carrier v (round_of v b (e ∷ J)) n id x (e ∷ J))

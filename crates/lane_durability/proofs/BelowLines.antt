@@ -6,12 +6,10 @@ use Rattle.lane_journals.specs.Events.{Body, Reply, Answer, Newer, NoBucket, Dif
 use Rattle.lane_journals.specs.Readers.{Journal, or_else, only_if, Beginning, began, Preparing, prepared, wrote, closed, Message, round_in, sent, first_reply, version}
 use Rattle.lane_journals.specs.Legal.{MayBegin, MaySend, Replies, MayDeliver, Permits, Legal}
 use Rattle.lane_journals.specs.Below.{tells, keeps_line, kept, below}
-use Rattle.lane_journals.proofs.Basics.{number-fresh, began-stays, began-cases, sent-stays, sent-cases, SentNow, sent_before, replied-sent, first_reply-cases, version-grows}
+use Rattle.lane_journals.proofs.Basics.{number-fresh, began-stays, began-cases, sent-stays, sent-cases, SentNow}
 use Rattle.lane_durability.proofs.Below.{lt-true, true-lt, round_in-below}
-
-pub some-none : {A : Type 0} (o : Option A) → ((x : A) → o ≡ Some x → ⊥) → o ≡ None
-some-none None h = refl
-some-none (Some x) h = absurd (h x refl)
+use Rattle.lane_journals.proofs.Versions.{told-version}
+use Rattle.proof_basics.proofs.Options.{some-none}
 
 module _ (acks : ℕ) (P : ℕ → ℕ → Bool) (v : ℕ) where
   -- a reader that goes by kept events alone
@@ -167,23 +165,6 @@ module _ (acks : ℕ) (P : ℕ → ℕ → Bool) (v : ℕ) where
   told None = None
   told (Some r) = cond (tells v r) (Some r) None
 
-  -- a node that told of a version has it
-  pub told-version : (J : Journal) → Legal acks P J → (k w : ℕ) (m : Message) → sent k J ≡ Some m → first_reply k J ≡ Some (Newer w) → w ≤ version m.receiver J
-  told-version [] l k w m s f = cc
-  told-version (e ∷ J) l k w m s f =
-      let g = version-grows m.receiver J e in
-      elim (first_reply-cases k J e (Newer w) f) [
-        | inl old ↦ (let i = told-version J l.0 k w m (sent_before acks P J k e m (replied-sent acks P J l.0 k (Newer w) old) s) old in omega arith)
-        | inr new ↦ (let i = now e new.0 l.1 s in omega arith)
-      ]
-    where
-      now : (e : Event) → e ≡ Delivered k (Newer w) → Permits acks P J e → sent k (e ∷ J) ≡ Some m → w ≤ version m.receiver J
-      now e is p s =
-          let d : MayDeliver J k (Newer w) = rw is at p in
-          let s' : sent k J ≡ Some m = rw is at s in
-          let same : d.message ≡ m = let a = d.was_sent in cc in
-          let q : w ≡ version m.receiver J = subst (λ (y : Message). w ≡ version y.receiver J) same d.reply.1 in omega arith
-
   -- a reply that tells nothing is one of a node at v
   pub untold : (r : Reply) → tells v r ≡ false → (w : ℕ) × (r ≡ Newer w) × (v ≤ w)
   untold (Newer w) h = (w, refl, grind (arith, nat_tests))
@@ -231,7 +212,7 @@ module _ (acks : ℕ) (P : ℕ → ℕ → Bool) (v : ℕ) where
       by_tells true g = refl
       by_tells false g =
           let x = untold q g in
-          let w = told-version J l k x.0 d.message d.was_sent (f ∙ ap (λ (y : Reply). Some y) x.1) in
+          let w = told-version acks P v J l k x.0 d.message d.was_sent (f ∙ ap (λ (y : Reply). Some y) x.1) in
           let z = high-untold J d.message r d.reply (low d.message d.was_sent) (let y = x.2 in omega arith) in cc
 
   pub reply-below : (J : Journal) → Legal acks P J → (k : ℕ) → ((m : Message) → sent k J ≡ Some m → m.version < v) → first_reply k (below v J) ≡ told (first_reply k J)

@@ -10,9 +10,10 @@ use Rattle.lane_journals.specs.Legal.{MayDeliver, MayAnswer, Legal}
 use Rattle.lane_journals.specs.States.{state_of}
 use Rattle.lane_journals.specs.Below.{keeps_return, kept, below}
 use Rattle.lane_journals.proofs.Basics.{first_reply-cases, sent_before, replied-sent}
+use Rattle.proof_basics.proofs.Options.{some-none}
 use Rattle.lane_journals.proofs.Serials.{asked-parts}
 use Rattle.lane_durability.proofs.Below.{lt-true, same_below}
-use Rattle.lane_durability.proofs.BelowLines.{some-none, sent-back, sent-below}
+use Rattle.lane_durability.proofs.BelowLines.{sent-back, sent-below}
 use Rattle.lane_durability.proofs.BelowReaders.{returned-back, returned-below}
 use Rattle.lane_durability.proofs.Bounds.{bounds}
 use Rattle.lane_durability.proofs.Law.{first-back, first-below, later-back}

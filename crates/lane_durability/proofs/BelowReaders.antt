@@ -8,13 +8,13 @@ use Rattle.lane_journals.specs.Events.{Reply, Answer, Newer, NoBucket, Differs, 
 use Rattle.lane_journals.specs.Readers.{Journal, or_else, Beginning, began, Preparing, prepared, Message, sent, first_reply, returned, is_answer, version, after_message, store, still_after, acceptable, piece_after, holds, base, Given, is_read, given_by, answer_of, answer, answers, stored_by, answered_store, lacks, takes_mark, complete, was_named, named_after, stands, untouched_after}
 use Rattle.lane_journals.specs.Legal.{Replies, MayDeliver, Permits, Legal}
 use Rattle.lane_journals.specs.Below.{tells, keeps, keeps_return, keeps_line, kept, below}
-use Rattle.lane_journals.specs.Pieces.{after_reply}
-use Rattle.lane_journals.specs.Pieces.{pieces as pieces_of}
+use Rattle.lane_journals.specs.Pieces.{after_reply, pieces as pieces_of}
 use Rattle.lane_journals.proofs.Basics.{sent_before, replied-sent, first_reply-stays, returned-replied, returned-stays, returned-cases, version-grows}
+use Rattle.proof_basics.proofs.Options.{some-none}
 use Rattle.lane_journals.proofs.Serials.{answer_of-parts}
-use Rattle.lane_durability.proofs.Kept.{stored_by-parts}
+use Rattle.lane_journals.proofs.Kept.{stored_by-parts}
 use Rattle.lane_durability.proofs.Below.{lt-true, true-lt}
-use Rattle.lane_durability.proofs.BelowLines.{some-none, low-line, prepared-below, began-below, sent-back, sent-below, told, untold, high-untold, reply-below}
+use Rattle.lane_durability.proofs.BelowLines.{low-line, prepared-below, began-below, sent-back, sent-below, told, untold, high-untold, reply-below}
 
 returned-now : (k : ℕ) (L : Journal) (e : Event) → returned k (e ∷ L) ≡ true → (returned k L ≡ true) ⊎ ((J : Journal) → returned k (e ∷ J) ≡ true)
 returned-now k L e h = elim (returned-cases k L e h) [ inl old ↦ inl old | inr is ↦ inr (λ J. rw is (rw (eq-eqb k k refl) refl)) ]

@@ -9,7 +9,7 @@ use Rattle.lane_journals.specs.Legal.{MayUnite, MayCarry, MaySend, MayShow, Lega
 use Rattle.lane_journals.proofs.Order.{newer-either}
 use Rattle.lane_journals.proofs.Basics.{sent-cases, version-grows}
 use Rattle.lane_journals.proofs.Serials.{Accepts, effect, ShownNow, shown-cases, shown-now, answer-shown}
-use Rattle.lane_durability.proofs.Kept.{store-line, stamp-bound}
+use Rattle.lane_journals.proofs.Kept.{store-line, stamp-bound}
 
 module _ (acks : ℕ) (P : ℕ → ℕ → Bool) where
   pub record Bounds (J : Journal) : Type 0 where

@@ -7,29 +7,21 @@ use Rattle.lane_journals.specs.Buckets.{Id}
 use Rattle.lane_journals.specs.Events.{Event, Published}
 use Rattle.lane_journals.specs.Readers.{Journal, published, known, Beginning, Message, sent, store, base, answered_store, AckedBy, Acked}
 use Rattle.lane_journals.specs.Facts.{TookStore}
-use Rattle.lane_journals.specs.Legal.{MayPublish, MaySend, MayClose, Permits, Legal}
+use Rattle.lane_journals.specs.Legal.{MayPublish, MayClose, Permits, Legal}
 use Rattle.lane_journals.specs.Below.{below}
 use Rattle.lane_journals.proofs.Order.{Le-at, Le_nothing}
 use Rattle.lane_journals.proofs.Counts.{AtLeast-map, count-subset, both-map, one_inside}
 use Rattle.lane_durability.proofs.BelowLines.{sent-back}
 use Rattle.lane_durability.proofs.BelowReaders.{view, answered_store-below}
 use Rattle.lane_durability.proofs.Law.{legal-below}
-use Rattle.lane_journals.proofs.Basics.{held-published, sent-stays, sent-cases, sent-member, published-stays, published-cases}
+use Rattle.lane_journals.proofs.Basics.{sent-stays, sent-member, published-cases}
 use Rattle.lane_journals.proofs.Serials.{effect}
 use Rattle.lane_durability.proofs.Copies.{stored-stays}
-use Rattle.lane_durability.proofs.Kept.{answered-took-op}
+use Rattle.lane_journals.proofs.Kept.{answered-took-op}
 use Rattle.lane_durability.proofs.Bases.{acked-cases}
+use Rattle.lane_journals.proofs.Versions.{sent-published}
 
 module _ (acks : ℕ) (P : ℕ → ℕ → Bool) where
-  -- ---- known nodes
-
-  pub sent-published : (J : Journal) → Legal acks P J → (k : ℕ) (m : Message) → sent k J ≡ Some m → published m.version J ≡ true
-  sent-published [] l k m h = cc
-  sent-published (e ∷ J) l k m h = published-stays m.version J e (elim (sent-cases k J e m h) [
-    | inl old ↦ sent-published J l.0 k m old
-    | inr new ↦ (let p : MaySend P J k m.version new.sender m.receiver m.body = rw new.is at l.1 in held-published acks P J l.0 new.sender m.version p.holder)
-  ])
-
   known-stays : (v n : ℕ) (J : Journal) (e : Event) → known v n J ≡ true → known v n (e ∷ J) ≡ true
   known-stays v n J e h = grind (arith, nat_tests)
 

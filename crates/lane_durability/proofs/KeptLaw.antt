@@ -3,7 +3,7 @@ use Rattle.std.proofs.Common.{◌≡◌, ℕ, ◌<◌, ◌≤◌, Bool, true, fa
 use Rattle.std.proofs.lemmas.Bool.{cases_lt}
 use Rattle.std.proofs.lemmas.Bool.Decides.{nat_tests}
 use Rattle.cluster_states.specs.declared.cluster_state.ClusterState.{ClusterState}
-use Rattle.lane_journals.specs.Entry.{Entry}
+use Rattle.documents.specs.declared.entry.Entry.{Entry}
 use Rattle.lane_journals.specs.Sets.{count}
 use Rattle.lane_journals.specs.Stamps.{Stamp, same_stamp}
 use Rattle.lane_journals.specs.Buckets.{Id, Bucket, same_bucket, meets, key_of}
@@ -21,22 +21,22 @@ use Rattle.lane_journals.specs.Places.{Setting, state_in, Owns, IsAmongFirst, Is
 use Rattle.lane_journals.specs.Endings.{HasSeen, IsDocument, NoDocument, FellShort, OpeningFellShort, RoundFellShort, UnionFellShort, ReadsFellShort, StoresFellShort, UnpreparedFellShort, PreparedFellShort, MayEnd, Ended}
 use Rattle.lane_journals.specs.KeptJournals.{IsLegal}
 use Rattle.pieces.specs.declared.piece.Piece.{Piece}
-use Rattle.lane_journals.specs.Outcome.{Outcome}
-use Rattle.lane_journals.specs.Outcome.TheVariants.{Acked, Nothing, Found, Missing, ConditionFailed, BadUpdate, TooFew, OwnedElsewhere}
-use Rattle.lane_journals.specs.Outcome.TheVariants as outcome
-use Rattle.lane_journals.specs.Decision.{Decision}
-use Rattle.lane_journals.specs.Decision.TheVariants.{RoundBegun, RoundEnded, RowSplit, RowsJoined, ActiveOn, DeleteFrom, DeleteOver}
-use Rattle.lane_journals.specs.NotedBody.{NotedBody}
-use Rattle.lane_journals.specs.NotedBody.TheVariants.{Ask, Read, Store, Apply, Delete, Split, Join, Ready, Activate}
-use Rattle.lane_journals.specs.NotedReply.{NotedReply}
-use Rattle.lane_journals.specs.NotedReply.TheVariants.{Answer, Newer, NoBucket, Differs, NoMemory}
+use Rattle.messages.specs.declared.outcome.Outcome.{Outcome}
+use Rattle.messages.specs.declared.outcome.Outcome.TheVariants.{Acked, Nothing, Found, Missing, ConditionFailed, BadUpdate, TooFew, OwnedElsewhere}
+use Rattle.messages.specs.declared.outcome.Outcome.TheVariants as outcome
+use Rattle.messages.specs.declared.decision.Decision.{Decision}
+use Rattle.messages.specs.declared.decision.Decision.TheVariants.{RoundBegun, RoundEnded, RowSplit, RowsJoined, ActiveOn, DeleteFrom, DeleteOver}
+use Rattle.messages.specs.declared.noted.NotedBody.{NotedBody}
+use Rattle.messages.specs.declared.noted.NotedBody.TheVariants.{Ask, Read, Store, Apply, Delete, Split, Join, Ready, Activate}
+use Rattle.messages.specs.declared.noted.NotedReply.{NotedReply}
+use Rattle.messages.specs.declared.noted.NotedReply.TheVariants.{Answer, Newer, NoBucket, Differs, NoMemory}
 use Rattle.lane_journals.specs.declared.event.LaneEvent.{LaneEvent}
 use Rattle.lane_journals.specs.declared.event.LaneEvent.TheVariants.{Published, Heard, Begun, Refused, Opened, Prepared, Wrote, Sent, Delivered, Returned, Closed, Decided, Stopped, Started}
 use Rattle.lane_journals.proofs.Basics.{number-fresh, published-stays}
 use Rattle.lane_journals.proofs.Counts.{AtLeast-map}
 use Rattle.lane_journals.proofs.States.{permits-agree, state-stays, states-agree}
 use Rattle.lane_durability.specs.KeptBelow.{kept_below}
-use Rattle.lane_durability.proofs.Kept.{stamp-bound}
+use Rattle.lane_journals.proofs.Kept.{stamp-bound}
 use Rattle.lane_durability.proofs.Below.{lt-true, true-lt, opened-below, row_at-below, round_of-below, active-below}
 use Rattle.lane_durability.proofs.BelowLines.{low-line, began-below, prepared-below, wrote-below, sent-back}
 use Rattle.lane_durability.proofs.BelowReaders.{base-low, view, keeps-both, replies-version, answer-below, answered_store-below, complete-below}

@@ -1,22 +1,22 @@
 -- The journal below a version is legal.
-use Rattle.std.proofs.Common.{◌≡◌, ℕ, ◌+◌, ◌<◌, Bool, true, false, cond, [], ◌∷◌, Option, Some, None, refl, sym, ap, ◌∙◌, subst, arith, inl, inr, List}
+use Rattle.std.proofs.Common.{◌≡◌, ℕ, ◌+◌, ◌<◌, Bool, true, false, cond, [], ◌∷◌, Option, Some, None, refl, sym, ap, ◌∙◌, subst, arith, inl, inr, List, eqb, ltb, eq-eqb, ◌⊎◌}
 use Rattle.lane_journals.specs.Sets.{AtLeast, outside}
 use Rattle.lane_journals.specs.Stamps.{Stamp}
 use Rattle.lane_journals.specs.Buckets.{Bucket, first_child, second_child, across, Id, key_of}
 use Rattle.lane_journals.specs.Events.{Content, Body, Ask, Read, ReadDoc, Store, Apply, Delete, Split, Join, Ready, Activate, Reply, Answer, Newer, NoBucket, Differs, NoMemory, Decision, RoundBegun, RoundEnded, RowSplit, RowsJoined, ActiveOn, DeleteFrom, DeleteOver, Event, Published, Heard, Begun, Opened, Prepared, Wrote, Sent, Delivered, Returned, Closed, Decided, Refused, Stopped, Started}
 use Rattle.lane_journals.specs.Readers.{Journal, known, held, Beginning, began, before_line, refused, Preparing, round_of, Message, sent, first_reply, returned, version, Given, answer}
 use Rattle.lane_journals.specs.Facts.{Applied, Idle, ReadAt, ReadBack, WasAsked, Shown, AnsweredApply, AnsweredAsk, IsRow, IsMember, IsOpen}
-use Rattle.lane_journals.specs.Legal.{IsNextStamp, Belongs, MayCarry, MaySend, Lacks, Differ, Has, NotAcceptable, Replies, MayDeliver, MayReturn, IsQuiet, Keeper, is_ending, MayDecide, Permits, Legal}
-use Rattle.lane_journals.specs.Pieces.{NodePiece, any_covers, any_inside, any_meets, is_piece, ready_covers, Takes}
+use Rattle.lane_journals.specs.Legal.{IsNextStamp, Belongs, MayCarry, MaySend, Lacks, Differ, Has, NotAcceptable, Replies, MayDeliver, MayReturn, IsIdleRow, Keeper, is_ending, MayDecide, Permits, Legal}
+use Rattle.lane_journals.specs.Pieces.{NodePiece, any_covers, any_inside, any_meets, is_piece, ready_covers, MayTake}
 use Rattle.lane_journals.specs.Below.{tells, keeps, keeps_return, keeps_line, kept, below}
-use Rattle.std.proofs.Common.{eqb, ltb, eq-eqb, ◌⊎◌}
 use Rattle.std.proofs.lemmas.Bool.{eqb-true}
 use Rattle.std.proofs.lemmas.Bool.Decides.{nat_tests}
 use Rattle.lane_journals.proofs.Basics.{began-stays, sent-stays}
+use Rattle.proof_basics.proofs.Options.{some-none}
 use Rattle.lane_journals.proofs.Beginnings.{lasting, before-legal}
 use Rattle.lane_journals.proofs.Counts.{AtLeast-map, both-map}
 use Rattle.lane_durability.proofs.Below.{lt-true, true-lt, opened-below, row_at-below, running-below, round_of-below, published-below, published-back, known-below, stamps-below, active-below, deleting-below, held-below, stopped-below}
-use Rattle.lane_durability.proofs.BelowLines.{Low, some-none, low-line, prepared-below, wrote-below, closed-below, began-back, began-below, sent-back, sent-below, told, reply-below}
+use Rattle.lane_durability.proofs.BelowLines.{Low, low-line, prepared-below, wrote-below, closed-below, began-back, began-below, sent-back, sent-below, told, reply-below}
 use Rattle.lane_durability.proofs.BelowReaders.{returned-back, returned-below, answered_store-below, answer-below, complete-below, base-low, view, keeps-both, replies-version}
 
 module _ (acks : ℕ) (P : ℕ → ℕ → Bool) (v : ℕ) where
@@ -121,7 +121,7 @@ module _ (acks : ℕ) (P : ℕ → ℕ → Bool) (v : ℕ) where
   idle-below : (J : Journal) → Legal acks P J → (w : ℕ) (b : Bucket) → Idle w b J → Idle w b (below v J)
   idle-below J l w b h line begin p o e = h line begin p (open-back J l w line begin p o) e
 
-  quiet-below : (J : Journal) → Legal acks P J → (w : ℕ) (b : Bucket) → w < v → IsQuiet w b J → IsQuiet w b (below v J)
+  quiet-below : (J : Journal) → Legal acks P J → (w : ℕ) (b : Bucket) → w < v → IsIdleRow w b J → IsIdleRow w b (below v J)
   quiet-below J l w b lt q = record { row = row-below J w b lt q.row; no_round = running-below v w lt b J ∙ q.no_round; idle = idle-below J l w b q.idle }
 
   holder-below : (J : Journal) (d w : ℕ) → w < v → held d J ≡ Some w → held d (below v J) ≡ Some w
@@ -297,7 +297,7 @@ module _ (acks : ℕ) (P : ℕ → ℕ → Bool) (v : ℕ) where
       record {
         low = omega arith;
         has = has-below J l m.receiver m.body low p.has;
-        takes = subst (λ (ps : List NodePiece). Takes ps m.body) (sym (x.shapes low)) p.takes;
+        takes = subst (λ (ps : List NodePiece). MayTake ps m.body) (sym (x.shapes low)) p.takes;
         show = λ b is. record {
           content = λ id i. (p.show b is).content id i ∙ sym (base-low acks P v m.receiver id J low) ∙ sym (x.stores id);
           only = λ id i. (p.show b is).only id i;

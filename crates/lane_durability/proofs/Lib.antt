@@ -1,17 +1,15 @@
-pub mod Spent
-pub mod Deletes
-pub mod Marks
-pub mod Rounds
-pub mod Copies
-pub mod Kept
-pub mod Bases
-pub mod Members
-pub mod Below
-pub mod BelowLines
-pub mod BelowReaders
-pub mod Law
-pub mod Found
-pub mod Operations
-pub mod Bounds
-pub mod BelowPlaces
-pub mod KeptLaw
+mod TwoDeletes
+mod Rounds
+mod Copies
+mod Held
+mod Bases
+mod Members
+mod Below
+mod BelowLines
+mod BelowReaders
+mod Law
+mod Found
+mod Operations
+mod Bounds
+mod BelowPlaces
+mod KeptLaw

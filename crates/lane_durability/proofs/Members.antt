@@ -1,15 +1,13 @@
 -- What complete members and active nodes hold.
-use Rattle.std.proofs.Common.{◌∙◌, ◌≡◌, ℕ, ◌≤◌, Bool, true, ◌∷◌, Some, subst₂, arith, inl}
+use Rattle.std.proofs.Common.{◌∙◌, ◌≡◌, ℕ, ◌≤◌, Bool, true, Some, arith, inl}
 use Rattle.lane_journals.specs.Stamps.{Stamp, Le}
 use Rattle.lane_journals.specs.Buckets.{Id, contains, key_of}
-use Rattle.lane_journals.specs.Events.{Event}
-use Rattle.lane_journals.specs.Readers.{Journal, version, store, holds, base, complete, active, Acked}
-use Rattle.lane_journals.specs.Facts.{InRegion}
+use Rattle.lane_journals.specs.Readers.{Journal, version, store, holds, base, complete, Acked}
 use Rattle.lane_journals.specs.RowLists.{Row, rows, IsIn}
 use Rattle.lane_journals.specs.Legal.{Legal}
 use Rattle.lane_journals.proofs.Parted.{listed-member}
-use Rattle.lane_durability.proofs.Marks.{complete-took, active-complete, sent-active}
-use Rattle.lane_durability.proofs.Kept.{took-piece, active-kept}
+use Rattle.lane_journals.proofs.Marks.{complete-took}
+use Rattle.lane_journals.proofs.Kept.{took-piece}
 use Rattle.lane_durability.proofs.Bases.{facts}
 
 module _ (acks : ℕ) (P : ℕ → ℕ → Bool) (some : 1 ≤ acks) where
@@ -23,10 +21,3 @@ module _ (acks : ℕ) (P : ℕ → ℕ → Bool) (some : 1 ≤ acks) where
 
   pub members-pieces : (J : Journal) → Legal acks P J → (v n key : ℕ) → complete v n key J ≡ true → version n J ≡ v → holds n key J ≡ true
   members-pieces J l v n key c at = let h = complete-took acks P J l v n key c in took-piece acks P some J l v h.round n h.bucket h.union key h.took h.inside h.free (omega arith)
-
-  -- regions
-  pub region-active : (J : Journal) → Legal acks P J → (v n key : ℕ) → InRegion v n key J → active v key J ≡ Some n
-  region-active J l v n key r = subst₂ (λ (x y : ℕ). active x key J ≡ Some y) r.version r.receiver (sent-active acks P J l r.number r.message r.bucket r.was_sent r.body key r.inside)
-
-  pub region-newer : (J : Journal) → Legal acks P J → (e : Event) → Legal acks P (e ∷ J) → (v n : ℕ) (id : Id) → InRegion v n (key_of id) J → version n (e ∷ J) ≡ v → Le (store n id J) (store n id (e ∷ J))
-  region-newer J l' e l v n id r at = active-kept acks P some J e l v n id (active-complete acks P J l.0 v (key_of id) n (region-active J l.0 v n (key_of id) r)) (omega arith)

@@ -15,11 +15,13 @@ use Rattle.lane_journals.proofs.Basics.{sent-stays, sent-cases, SentNow, sent_be
 use Rattle.lane_journals.proofs.Beginnings.{before-same, before-now, lasting, before-legal}
 use Rattle.lane_journals.proofs.Rows.{PreparedNow, open-cases}
 use Rattle.lane_journals.proofs.Serials.{Accepts, accepts-at}
-use Rattle.lane_durability.proofs.Marks.{now-accepts, active-complete}
-use Rattle.lane_durability.proofs.Kept.{answered-took-op, store-line, stamp-line, stamp-bound}
-use Rattle.lane_durability.proofs.Bases.{facts, acked-cases, acked-opened, opened-published, opened-version, one-open}
-use Rattle.lane_durability.proofs.Members.{region-active, members-hold}
-use Rattle.lane_durability.proofs.Found.{sent-published, published-known, state-few, acked-answered, acked-found}
+use Rattle.lane_journals.proofs.Marks.{now-accepts, active-complete}
+use Rattle.lane_journals.proofs.Kept.{answered-took-op, store-line, stamp-line, stamp-bound, one-open}
+use Rattle.lane_durability.proofs.Bases.{facts, acked-cases, acked-opened, opened-published}
+use Rattle.lane_journals.proofs.Versions.{opened-version, sent-published}
+use Rattle.lane_journals.proofs.Regions.{region-active}
+use Rattle.lane_durability.proofs.Members.{members-hold}
+use Rattle.lane_durability.proofs.Found.{published-known, state-few, acked-answered, acked-found}
 
 module _ (acks : ℕ) (P : ℕ → ℕ → Bool) (some : 1 ≤ acks) where
   Acked-stays : (w : ℕ) (id : Id) (s : Stamp) (e : Event) (J : Journal) → Acked w id s J → Acked w id s (e ∷ J)

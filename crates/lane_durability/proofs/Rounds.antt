@@ -13,8 +13,8 @@ use Rattle.lane_journals.proofs.Counts.{AtLeast-map, AtLeast-some}
 use Rattle.lane_journals.proofs.Basics.{Gives-stays, Gives-le, sent-cases, SentNow, sent-member, Took-stays, took-applied, answered-took, Shown-stays, answer-stays, named-cases, deleted-cases}
 use Rattle.lane_journals.proofs.Rows.{IsRound, isround-one, newest-round, sent-round}
 use Rattle.lane_journals.proofs.Serials.{shown-cases, shown-now, acceptable-back, named-shows, answer-cases, answer-shown}
-use Rattle.lane_durability.proofs.Deletes.{alive-back, pending}
-use Rattle.lane_durability.proofs.Marks.{took-isround, Holds, complete-took}
+use Rattle.lane_durability.proofs.TwoDeletes.{alive-back, pending}
+use Rattle.lane_journals.proofs.Marks.{took-isround, Holds, complete-took}
 
 -- ---- the union covers the answers
 

@@ -1,6 +1,7 @@
-//! The four facts that hold of every legal journal; no function here does anything.
+//! Three facts that hold of every legal journal; no function here does anything.
 
-ghost use Rattle.lane_durability.specs.Laws.{InAll, StoresStay, DeletesAreSafe, DeletesAreOne, MembersHold, RowsHold, MembersHavePieces, ActiveIsComplete, OneGetsActivate, RegionIsActive, RegionGetsNewer};
+ghost use Rattle.lane_journals.specs.ActiveCopies.{InAll};
+ghost use Rattle.lane_durability.specs.Laws.{StoresStay, DeletesAreSafe, DeletesAreOne, MembersHold, RowsHold, MembersHavePieces};
 
 /// What the nodes of a Store took stays with all of them, or enough nodes hold it or something newer.
 pub fn quorum_kept()
@@ -20,13 +21,4 @@ pub fn complete_members()
     ensures members { InAll (λ acks P J. MembersHold P J) }
     ensures rows { InAll (λ acks P J. RowsHold P J) }
     ensures pieces { InAll (λ acks P J. MembersHavePieces J) }
-{}
-
-/// An active node is a complete member; at most one node gets an Activate of a key under one version;
-/// the region of a node is active on it, and what it holds there only gets newer.
-pub fn one_active_copy()
-    ensures active { InAll (λ acks P J. ActiveIsComplete J) }
-    ensures activated { InAll (λ acks P J. OneGetsActivate J) }
-    ensures region { InAll (λ acks P J. RegionIsActive J) }
-    ensures newer { InAll RegionGetsNewer }
 {}

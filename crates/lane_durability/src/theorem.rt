@@ -6,7 +6,8 @@ ghost use Rattle.lane_journals.specs.Meanings.{history};
 ghost use Rattle.lane_journals.specs.Places.{Setting};
 ghost use Rattle.lane_journals.specs.KeptJournals.{IsLegal};
 ghost use Rattle.lane_journals.specs.declared.event.LaneEvent.{LaneEvent};
-ghost use Rattle.lane_durability.specs.Laws.{InAll, InAllKept};
+ghost use Rattle.lane_journals.specs.ActiveCopies.{InAll};
+ghost use Rattle.lane_durability.specs.Laws.{InAllKept};
 ghost use Rattle.lane_durability.specs.KeptBelow.{kept_below};
 ghost use Rattle.lane_durability.specs.Durability.{VersionsStandAlone, IsFound, IsDurable, LaterIsNewer, ReadsAreFresh, EnoughReadsAreCurrent, SeenIsCurrent, CountedOnce, SearchIsCurrent, LateAreOutside, FewAreOutside};
 

@@ -1,3 +1,4 @@
+-- Shared: other crates cite these.
 pub mod Ids
 pub mod Order
 pub mod Counts
@@ -11,12 +12,15 @@ pub mod Parted
 pub mod Pieces
 pub mod States
 pub mod Meant
-pub mod Published
-pub mod Walking
-pub mod SerialsAgain
-pub mod LifeFacts
-pub mod LifeOne
-pub mod LifeWritten
-pub mod LifeTwo
-pub mod Wrong
-pub mod InLane
+pub mod Spent
+pub mod Deletes
+pub mod Marks
+pub mod Losses
+pub mod Kept
+pub mod Versions
+pub mod Regions
+pub mod Replies
+pub mod Hearing
+-- Of this crate alone.
+mod Published
+mod SerialsAgain

@@ -5,7 +5,7 @@ use Rattle.lane_journals.specs.Events.{Body, Apply, Delete, Split, Join, Ready}
 use Rattle.lane_journals.specs.Readers.{Journal, Message, sent, has_piece, holds}
 use Rattle.lane_journals.specs.Legal.{MayCarry, MaySend, Legal}
 use Rattle.std.proofs.Common.{◌++◌}
-use Rattle.lane_journals.specs.Pieces.{NodePiece, any_contains, any_covers, any_inside, is_piece, cut, split_to, drop_inside, unite, remove, mark, pieces_after, pieces, Takes, IsPieceIn}
+use Rattle.lane_journals.specs.Pieces.{NodePiece, any_contains, any_covers, any_inside, is_piece, cut, split_to, drop_inside, unite, remove, mark, pieces_after, pieces, MayTake, IsPieceIn}
 use Rattle.lane_journals.proofs.Basics.{sent-cases}
 use Rattle.lane_journals.proofs.Rows.{running-row}
 use Rattle.lane_journals.proofs.Serials.{effect}
@@ -271,7 +271,7 @@ Fits (Apply b u) = b.low < 2 ^ b.bits
 Fits (Join b) = b.low < 2 ^ b.bits
 Fits _ = Unit {0}
 
-pub after-apart : (x : Body) (ps : List NodePiece) → Fits x → Takes ps x → Apart ps → Apart (pieces_after x ps)
+pub after-apart : (x : Body) (ps : List NodePiece) → Fits x → MayTake ps x → Apart ps → Apart (pieces_after x ps)
 after-apart (Apply b u) ps fits t a = by_case (any_covers b ps) refl
   where
     by_case : (x : Bool) → any_covers b ps ≡ x → Apart (cond x (split_to b ps) (unite b ps))
@@ -294,7 +294,7 @@ covers-any b key i (p ∷ ps) h = by_case (covers p.bucket b) refl h (covers-any
 unite-other : (b : Bucket) (key : ℕ) → contains b key ≡ false → (ps : List NodePiece) → any_contains key (unite b ps) ≡ any_contains key ps
 unite-other b key out ps = rw out (drop-other b key out ps)
 
-pub after-any : (x : Body) (ps : List NodePiece) → Takes ps x → Apart ps → (key : ℕ) (had : Bool) → had ≡ any_contains key ps → has_piece key x had ≡ any_contains key (pieces_after x ps)
+pub after-any : (x : Body) (ps : List NodePiece) → MayTake ps x → Apart ps → (key : ℕ) (had : Bool) → had ≡ any_contains key ps → has_piece key x had ≡ any_contains key (pieces_after x ps)
 after-any (Apply b u) ps t a key had h = by_case (any_covers b ps) (contains b key) refl refl
   where
     by_case : (x y : Bool) → any_covers b ps ≡ x → contains b key ≡ y → cond y true had ≡ any_contains key (cond x (split_to b ps) (unite b ps))

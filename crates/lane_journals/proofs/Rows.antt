@@ -6,7 +6,7 @@ use Rattle.lane_journals.specs.Buckets.{Bucket, contains, same_bucket, first_chi
 use Rattle.lane_journals.specs.Events.{Content, Body, Read, Apply, Decision, RoundBegun, RoundEnded, RowSplit, RowsJoined, ActiveOn, DeleteFrom, DeleteOver, Event, Opened, Prepared, Decided}
 use Rattle.lane_journals.specs.Readers.{Journal, Beginning, began, Preparing, prepared, opened, row_at, rounds, round_of, running, Message, round_in, sent}
 use Rattle.lane_journals.specs.Facts.{IsRow, IsOpen}
-use Rattle.lane_journals.specs.Legal.{MayOpen, MayPrepare, MayCarry, MaySend, IsQuiet, Permits, Legal}
+use Rattle.lane_journals.specs.Legal.{MayOpen, MayPrepare, MayCarry, MaySend, IsIdleRow, Permits, Legal}
 use Rattle.lane_journals.proofs.BucketLaws.{same_bucket-refl, same_bucket-true, child_of}
 use Rattle.lane_journals.proofs.Basics.{began-stays, prepared-cases, closed-before, opened-stays, sent-cases, rounds-grow}
 
@@ -115,10 +115,10 @@ module _ (acks : ℕ) (P : ℕ → ℕ → Bool) where
       again d rows is = let q : MayOpen P J d v rows = rw is at p in let z = q.once in let y = r.opened in cc
 
   -- a quiet row isn't one with a round under way
-  quiet-apart : (v : ℕ) (b c : Bucket) (J : Journal) (key : ℕ) → IsQuiet v c J → IsRow v b J → contains b key ≡ true → contains c key ≡ true → running v b J ≡ true → ⊥
+  quiet-apart : (v : ℕ) (b c : Bucket) (J : Journal) (key : ℕ) → IsIdleRow v c J → IsRow v b J → contains b key ≡ true → contains c key ≡ true → running v b J ≡ true → ⊥
   quiet-apart v b c J key q r x y h = let same = same-row v b c J key r q.row x y in let z : running v c J ≡ true = subst (λ (i : Bucket). running v i J ≡ true) same h in let n = q.no_round in cc
 
-  idle-apart : (v line : ℕ) (begin : Beginning) (p : Preparing) (c : Bucket) (J : Journal) (key : ℕ) → IsQuiet v c J → IsRow v p.row J → contains p.row key ≡ true → contains c key ≡ true → IsOpen v line begin p J → ⊥
+  idle-apart : (v line : ℕ) (begin : Beginning) (p : Preparing) (c : Bucket) (J : Journal) (key : ℕ) → IsIdleRow v c J → IsRow v p.row J → contains p.row key ≡ true → contains c key ≡ true → IsOpen v line begin p J → ⊥
   idle-apart v line begin p c J key q r x y o = q.idle line begin p o (same-row v p.row c J key r q.row x y)
 
   -- ---- rounds under way
@@ -145,7 +145,7 @@ module _ (acks : ℕ) (P : ℕ → ℕ → Bool) where
       }
 
   -- a quiet row has no common key with a row in which a round is under way
-  pub quiet-running : (J : Journal) → Legal acks P J → (v : ℕ) (b c : Bucket) (key : ℕ) → IsQuiet v c J → running v b J ≡ true → contains b key ≡ true → contains c key ≡ true → ⊥
+  pub quiet-running : (J : Journal) → Legal acks P J → (v : ℕ) (b c : Bucket) (key : ℕ) → IsIdleRow v c J → running v b J ≡ true → contains b key ≡ true → contains c key ≡ true → ⊥
   quiet-running J l v b c key q u x y = quiet-apart v b c J key q (running-row J l v b u) x y u
 
   -- while a round is under way no later one has a key of it
@@ -221,7 +221,7 @@ module _ (acks : ℕ) (P : ℕ → ℕ → Bool) where
       }
 
   -- a quiet row has no common key with that of an open operation
-  pub quiet-open : (J : Journal) → Legal acks P J → (v line : ℕ) (b : Beginning) (p : Preparing) (c : Bucket) (key : ℕ) → IsQuiet v c J → IsOpen v line b p J → contains p.row key ≡ true → contains c key ≡ true → ⊥
+  pub quiet-open : (J : Journal) → Legal acks P J → (v line : ℕ) (b : Beginning) (p : Preparing) (c : Bucket) (key : ℕ) → IsIdleRow v c J → IsOpen v line b p J → contains p.row key ≡ true → contains c key ≡ true → ⊥
   quiet-open J l v line b p c key q o x y = idle-apart v line b p c J key q (open-row J l v line b p o) x y o
 
   -- no operation is open in a row with a round under way

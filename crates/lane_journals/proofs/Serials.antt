@@ -8,7 +8,7 @@ use Rattle.lane_journals.specs.Events.{Body, Ask, Read, ReadDoc, Store, Apply, D
 use Rattle.lane_journals.specs.Readers.{Journal, Message, sent, first_reply, version, after_body, store, still, acceptable, has_piece, holds, Given, is_read, is_ask, given_by, asked_of, answer_of, answer}
 use Rattle.lane_journals.specs.Facts.{Shown}
 use Rattle.lane_journals.specs.Legal.{MayShow, MayAnswer, MayDeliver, Permits, Legal}
-use Rattle.lane_journals.specs.Pieces.{pieces_after, Takes}
+use Rattle.lane_journals.specs.Pieces.{pieces_after, MayTake}
 use Rattle.lane_journals.specs.Pieces.{pieces as pieces_of}
 use Rattle.lane_journals.proofs.Ids.{same_id-true}
 use Rattle.lane_journals.proofs.BucketLaws.{meets-by}
@@ -32,7 +32,7 @@ pub record Accepts (J : Journal) (e : Event) (n : ℕ) : Type 0 where
   pub stores : (id : Id) → store n id (e ∷ J) ≡ after_body id message.body (store n id J)
   pub serials : (b : Bucket) (s : ℕ) → acceptable n b s (e ∷ J) ≡ still message.body given.names b s (acceptable n b s J)
   pub pieces : (key : ℕ) → holds n key (e ∷ J) ≡ has_piece key message.body (holds n key J)
-  pub takes : Takes (pieces_of n J) message.body
+  pub takes : MayTake (pieces_of n J) message.body
   pub shapes : pieces_of n (e ∷ J) ≡ pieces_after message.body (pieces_of n J)
 
 pub record Leaves (J : Journal) (e : Event) (n : ℕ) : Type 0 where
@@ -59,7 +59,7 @@ accepts-at J k g m n p s to = (
     stores = λ id. rw (s, here) refl;
     serials = λ b d. rw (s, here) refl;
     pieces = λ key. rw (s, here) refl;
-    takes = subst (λ (i : ℕ). Takes (pieces_of i J) m.body) to replies.takes;
+    takes = subst (λ (i : ℕ). MayTake (pieces_of i J) m.body) to replies.takes;
     shapes = rw (s, here) refl;
   },
   refl,

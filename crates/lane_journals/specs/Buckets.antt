@@ -3,7 +3,7 @@ use Rattle.std.specs.Prelude.{◌==◌, ℕ, Bool, true, false, nat_le, List, if
 use Rattle.std.specs.Str.{bytes_eq}
 use Rattle.bucket_ids.specs.Buckets.{Low, has_key}
 use Rattle.bucket_ids.specs.Buckets as ids
-use Rattle.messages.specs.Keys as keys
+use Rattle.global_ids.specs.Keys as keys
 
 abbrev pub Bucket : Type 0
 Bucket = Low

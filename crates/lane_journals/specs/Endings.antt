@@ -1,6 +1,6 @@
 -- What the outcome of an operation says of its journal.
 use Rattle.std.specs.Prelude.{◌≡◌, ◌⊎◌, ◌↔◌, ◌<◌, ℕ, Bool, true, false, List, Option, Some, None, IsSome}
-use Rattle.messages.specs.Entry.{Entry}
+use Rattle.documents.specs.declared.entry.Entry.{Entry}
 use Rattle.lane_journals.specs.Sets.{count}
 use Rattle.lane_journals.specs.Stamps.{Stamp, Le}
 use Rattle.lane_journals.specs.Buckets.{Bucket, key_of}

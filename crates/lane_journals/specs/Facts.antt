@@ -148,3 +148,7 @@ pub record WasAsked (line : ℕ) (begin : Beginning) (J : Journal) : Type 0 wher
 pub record ReadBack (n line : ℕ) (begin : Beginning) (content : Content) (J : Journal) : Type 0 where
   pub read : ReadAt n line begin content J
   pub back : returned read.number J ≡ true
+
+-- each line that was begun is closed
+abbrev pub AllClosed : Journal → Type 0
+AllClosed H = (line : ℕ) (begin : Beginning) → began line H ≡ Some begin → closed line H ≡ true

@@ -6,7 +6,7 @@ use Rattle.lane_journals.specs.Stamps.{Stamp, Le}
 use Rattle.lane_journals.specs.Buckets.{Id, Bucket, contains, first_child, second_child, across, key_of}
 use Rattle.lane_journals.specs.Events.{Content, Body, Ask, Read, ReadDoc, Store, Apply, Delete, Activate, Reply, Answer, Newer, NoBucket, Differs, NoMemory, Decision, RoundBegun, RoundEnded, RowSplit, RowsJoined, ActiveOn, DeleteFrom, DeleteOver, Event, Published, Heard, Begun, Opened, Prepared, Wrote, Sent, Delivered, Returned, Closed, Decided, Refused, Stopped, Started, Split, Join, Ready}
 use Rattle.lane_journals.specs.Readers.{Journal, published, known, stopped, held, Beginning, began, refused, stamps_of, Preparing, prepared, wrote, closed, opened, row_in, row_at, round_of, running, Message, sent, first_reply, returned, version, store, acceptable, was_named, stands, holds, Given, answer, answered_store, complete, active, Deleting, deleting}
-use Rattle.lane_journals.specs.Pieces.{any_covers, any_inside, any_meets, is_piece, ready_covers, pieces, Takes}
+use Rattle.lane_journals.specs.Pieces.{any_covers, any_inside, any_meets, is_piece, ready_covers, pieces, MayTake}
 use Rattle.lane_journals.specs.Facts.{Shown, Applied, AnsweredAsk, AnsweredApply, IsRow, IsMember, IsOpen, Idle, WasAsked, ReadBack}
 
 -- ---- states
@@ -197,7 +197,7 @@ pub record MayAnswer (J : Journal) (m : Message) (g : Given) : Type 0 where
   -- a message of a smaller version than the node's isn't accepted
   pub low : version m.receiver J ≤ m.version
   pub has : Has J m.receiver m.body
-  pub takes : Takes (pieces m.receiver J) m.body
+  pub takes : MayTake (pieces m.receiver J) m.body
   pub show : (b : Bucket) → m.body ≡ Read b → MayShow J m.receiver b g
   pub show_one : (id : Id) → m.body ≡ ReadDoc id → g.content id ≡ store m.receiver id J
   -- a piece has one serial twice only if nothing was accepted there in between
@@ -228,7 +228,7 @@ pub record MayReturn (J : Journal) (k : ℕ) : Type 0 where
 -- ---- decisions
 
 -- what all decisions on a row ask but the end of a round: nothing is under way in it
-pub record IsQuiet (v : ℕ) (b : Bucket) (J : Journal) : Type 0 where
+pub record IsIdleRow (v : ℕ) (b : Bucket) (J : Journal) : Type 0 where
   pub row : IsRow v b J
   pub no_round : running v b J ≡ false
   pub idle : Idle v b J
@@ -242,14 +242,14 @@ pub record MayEndRound (J : Journal) (v : ℕ) (b : Bucket) (set : ℕ → Bool)
 
 pub record MayJoin (J : Journal) (v : ℕ) (p : Bucket) : Type 0 where
   pub fits : p.low < 2 ^ p.bits
-  pub first : IsQuiet v (first_child p) J
-  pub second : IsQuiet v (second_child p) J
+  pub first : IsIdleRow v (first_child p) J
+  pub second : IsIdleRow v (second_child p) J
   -- the joined row has one active node or none, and one Delete or none
   pub same_active : (key : ℕ) → contains p key ≡ true → active v key J ≡ active v (across p key) J
   pub one_delete : (key : ℕ) → contains p key ≡ true → (deleting v key J ≡ None) ⊎ (deleting v (across p key) J ≡ None)
 
 pub record MayActivate (J : Journal) (v : ℕ) (b : Bucket) (n : ℕ) : Type 0 where
-  pub quiet : IsQuiet v b J
+  pub quiet : IsIdleRow v b J
   -- at most once a row and version: a search counts no document twice
   pub undecided : (key : ℕ) → contains b key ≡ true → active v key J ≡ None
   pub member : IsMember v n b J
@@ -261,7 +261,7 @@ pub record Keeper (v r n m : ℕ) (b : Bucket) (J : Journal) : Type 0 where
   pub answered : AnsweredApply v r m b J
 
 pub record MayDelete (acks : ℕ) (J : Journal) (v : ℕ) (b : Bucket) (n s : ℕ) : Type 0 where
-  pub quiet : IsQuiet v b J
+  pub quiet : IsIdleRow v b J
   -- one unanswered Delete a row
   pub none : (key : ℕ) → contains b key ≡ true → deleting v key J ≡ None
   pub inactive : (key : ℕ) → contains b key ≡ true → active v key J ≡ Some n → ⊥
@@ -300,9 +300,9 @@ pub record MayForget (J : Journal) (v : ℕ) (b : Bucket) (n : ℕ) : Type 0 whe
   pub back : returned number J ≡ true
 
 abbrev pub MayDecide : ℕ → Journal → ℕ → Decision → Type 0
-MayDecide acks J v (RoundBegun b) = IsQuiet v b J
+MayDecide acks J v (RoundBegun b) = IsIdleRow v b J
 MayDecide acks J v (RoundEnded b set) = MayEndRound J v b set
-MayDecide acks J v (RowSplit b) = (b.bits < 58) × IsQuiet v b J
+MayDecide acks J v (RowSplit b) = (b.bits < 58) × IsIdleRow v b J
 MayDecide acks J v (RowsJoined p) = MayJoin J v p
 MayDecide acks J v (ActiveOn b n) = MayActivate J v b n
 MayDecide acks J v (DeleteFrom b n s) = MayDelete acks J v b n s

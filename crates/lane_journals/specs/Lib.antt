@@ -2,8 +2,8 @@
 -- `Legal` (which event may come next), then `Meanings` (what a kept event means), `Places` (owner, targets,
 -- openings) and `KeptJournals` (the whole relation). `Naming` and `Endings` say what an event names and what an
 -- outcome says, `Facts` which messages were sent, taken and answered, `Pieces` and `RowLists` what the code
--- keeps as lists. `Lives` is a legal journal, `WrongSteps` what none has. `Sets`, `Stamps` and `Buckets` are the
--- words below, and `Below` cuts a journal at a version.
+-- keeps as lists. `Sets`, `Stamps` and `Buckets` are the words below, and `Below` cuts a journal at a version.
+-- `Laws` has what the law on active nodes says.
 pub mod Sets
 pub mod Stamps
 pub mod Buckets
@@ -20,13 +20,4 @@ pub mod Naming
 pub mod Places
 pub mod Endings
 pub mod KeptJournals
-pub mod Lives
-pub mod WrongSteps
--- Passed on, so that the crates above need not list those below.
-pub use Rattle.messages.specs.Entry
-pub use Rattle.messages.specs.declared.body.Body
-pub use Rattle.messages.specs.declared.decision.Decision
-pub use Rattle.messages.specs.declared.noted.NotedBody
-pub use Rattle.messages.specs.declared.noted.NotedReply
-pub use Rattle.messages.specs.declared.outcome.Outcome
-pub use Rattle.messages.specs.declared.reply.Reply
+pub mod ActiveCopies

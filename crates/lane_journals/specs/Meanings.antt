@@ -3,7 +3,7 @@
 use Rattle.std.specs.Prelude.{◌==◌, ℕ, Bool, true, false, List, [], ◌∷◌, Option, Some, None, if◌then◌else◌, is_some}
 use Rattle.node_sets.specs.Members.{has_node}
 use Rattle.cluster_states.specs.Publishing.{serves}
-use Rattle.messages.specs.Entry.{Entry}
+use Rattle.documents.specs.declared.entry.Entry.{Entry}
 use Rattle.lane_journals.specs.Stamps.{Stamp, newer, same_stamp}
 use Rattle.lane_journals.specs.Buckets.{Id, same_id, Bucket, same_bucket}
 use Rattle.lane_journals.specs.Events as plain

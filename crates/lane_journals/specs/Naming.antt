@@ -1,7 +1,7 @@
 -- What a kept event names: entries that were written before, by their stamps in rising order; in an answer
 -- just what was asked for.
 use Rattle.std.specs.Prelude.{◌≡◌, ℕ, Bool, true, List, [], ◌∷◌, Some, Contains}
-use Rattle.messages.specs.Stamps.{IsRising}
+use Rattle.stamps.specs.Rising.{IsRising}
 use Rattle.lane_journals.specs.Stamps.{Stamp}
 use Rattle.lane_journals.specs.Buckets.{Id, Bucket, meets, key_of}
 use Rattle.lane_journals.specs.Events as plain

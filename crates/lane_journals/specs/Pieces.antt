@@ -85,13 +85,13 @@ pieces n (Delivered k r ∷ J) = after_reply n r (sent k J) (pieces n J)
 pieces n (_ ∷ J) = pieces n J
 
 -- what an answer asks of the pieces
-abbrev pub Takes : List NodePiece → Body → Type 0
-Takes ps (Delete b s) = is_piece b ps ≡ true
-Takes ps (Split b) = any_covers b ps ≡ true
-Takes ps (Join b) = any_inside b ps ≡ true
-Takes ps (Ready b) = is_piece b ps ≡ true
-Takes ps (Activate b) = ready_covers b ps ≡ true
-Takes ps _ = Unit {0}
+abbrev pub MayTake : List NodePiece → Body → Type 0
+MayTake ps (Delete b s) = is_piece b ps ≡ true
+MayTake ps (Split b) = any_covers b ps ≡ true
+MayTake ps (Join b) = any_inside b ps ≡ true
+MayTake ps (Ready b) = is_piece b ps ≡ true
+MayTake ps (Activate b) = ready_covers b ps ≡ true
+MayTake ps _ = Unit {0}
 
 abbrev pub IsPieceIn : NodePiece → List NodePiece → Type 0
 IsPieceIn p [] = ⊥

@@ -1,12 +1,13 @@
 use bucket_ids::Bucket;
 use cluster_states::ClusterState;
 use document_ids::DocId;
-use messages::{BucketList, Decision, NotedBody, NotedReply, Outcome, SharedEntry};
+use documents::SharedEntry;
+use messages::{BucketList, Decision, NotedBody, NotedReply, Outcome};
 use node_sets::NodeSet;
 use stamps::Stamp;
 
 /// One atomic step of a lane.
-#[derive(Debug, Drop)]
+#[derive(Drop)]
 pub enum LaneEvent {
     /// A state is published, to all lanes.
     Published {

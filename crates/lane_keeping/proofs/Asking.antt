@@ -6,17 +6,17 @@ use Rattle.bucket_ids.specs.Paths.{last_path}
 use Rattle.cluster_states.specs.declared.cluster_state.ClusterState.{ClusterState}
 use Rattle.ideal_nodes.specs.Placement.{IsOwner}
 use Rattle.pieces.specs.declared.piece.Piece.{Piece}
-use Rattle.laid_pieces.specs.Runs.{IsLaid}
-use Rattle.node_journals.specs.Replicas.{IsReplica}
+use Rattle.pieces.specs.Runs.{IsLaid}
+use Rattle.replica_store.specs.Replicas.{IsReplica}
 use Rattle.messages.specs.declared.message.Message.{Message}
 use Rattle.messages.specs.declared.body.Body.{Body}
 use Rattle.messages.specs.declared.body.Body.TheVariants as body
 use Rattle.messages.specs.declared.reply.Reply.{Reply}
 use Rattle.messages.specs.declared.reply.Reply.TheVariants as reply
 use Rattle.messages.specs.Noting.{noted_reply}
-use Rattle.messages.specs.Stamps.{stamps_of}
-use Rattle.node_journals.specs.Nodes.{Node, new_node, adopt, stored, after_body}
-use Rattle.node_journals.specs.Takes.{Takes, Treats}
+use Rattle.entry_maps.specs.Stamps.{stamps_of}
+use Rattle.service_layer.specs.Nodes.{Node, new_node, adopt, stored, after_body}
+use Rattle.service_layer.specs.Takes.{Takes, Treats}
 use Rattle.distributor_part.specs.declared.rules.Rules.{Rules}
 use Rattle.distributor_part.specs.declared.stage.Stage.{Stage}
 use Rattle.node_sets.specs.Members.{has_node}
@@ -37,7 +37,7 @@ use Rattle.node_journals.specs.NodeKeeping.{NodeKeeps}
 use Rattle.node_journals.specs.Flights.{IsInFlight, Brings, IsWhole, meant}
 use Rattle.node_journals.specs.Replaying.{sending, delivered}
 use Rattle.lane_keeping.specs.LaneKeeping.{setting_of, IsIdle, node_in, AreShown, KnowsOpening, IsRowOf, row_by, PartKeeps, part_in, Keeps}
-use Rattle.lane_keeping.specs.Asking.{IsAsking, IsAlike, KnowsTheSame, IsTold, unkept, IsTakenBy, OthersStay, IsToldTo}
+use Rattle.lane_keeping.specs.Asking.{IsAsking, IsAlike, KnowsTheSame, IsPartTold, unkept, IsTakenBy, OthersStay, IsToldTo}
 use Rattle.lane_keeping.specs.Laws.{IsSentNext}
 use Rattle.lane_keeping.proofs.Partitions.{In}
 use Rattle.lane_keeping.proofs.Acting.{HoldsAt}
@@ -54,14 +54,14 @@ same-awaited p q e = record {
   shown_is = ap (λ x. x.shown) e;
 }
 
-alike-of : (p q : Part) (n : ℕ) (r : Reply) → IsTold p q n r → IsAlike p q
+alike-of : (p q : Part) (n : ℕ) (r : Reply) → IsPartTold p q n r → IsAlike p q
 alike-of p q n (reply.Answer ps es) t = t.alike
 alike-of p q n (reply.Newer v) t = t.alike
 alike-of p q n reply.NoBucket t = t.alike
 alike-of p q n reply.Differs t = t.alike
 alike-of p q n reply.NoMemory t = t.alike
 
-pub told-by : (p q : Part) (n : ℕ) (r : Reply) → IsAfterAnswer p q n (Some r) → IsTold p q n r
+pub told-by : (p q : Part) (n : ℕ) (r : Reply) → IsAfterAnswer p q n (Some r) → IsPartTold p q n r
 told-by p q n (reply.Answer ps es) h = record {
   alike = record { number_is = ap (λ x. x.number) h.after; lane_is = ap (λ x. x.lane) h.after; rules_are = ap (λ x. x.rules) h.after; state_is = ap (λ x. x.state) h.after; rows_are = ap (λ x. x.rows) h.after };
   marked = h.marked;
@@ -158,7 +158,7 @@ module _ (lane : Low) (rules : Rules) where
         abbrev Knows : readers.Journal → Part → Type 0
         Knows H x = KnowsOpening (λ n. asked s.version n H) (opened s.version (history J)) (λ key. row_with key (rows s.version (history J))) s x
 
-        by_reply : (w : Reply) → IsTold p q m.receiver w → IsAskBack (history K) number s.version m.receiver (meaning_reply J (noted_reply w))
+        by_reply : (w : Reply) → IsPartTold p q m.receiver w → IsAskBack (history K) number s.version m.receiver (meaning_reply J (noted_reply w))
             → ((ps : List Piece) (es : _) → w ≡ reply.Answer ps es → (b : Low) → In b (buckets_shown ps) → IsBucket b) → Knows (history K) p → Knows (plain.Returned number ∷ history K) q
         by_reply (reply.Answer ps es) t a pieces know = knows-answered s.version m.receiver number (history K) s p q t.alike (content J (stamps_of es)) ps a (opened s.version (history J)) (λ key. row_with key (rows s.version (history J)))
             asking.serving asking.unanswered asking.unopened (pieces ps es refl) t.marked t.shown_is know

@@ -1,8 +1,11 @@
+-- Shared: other crates cite these.
 pub mod Acting
-pub mod Partitions
-pub mod Pushes
 pub mod Openings
 pub mod Events
 pub mod Owners
-pub mod Asking
-pub mod Marks
+pub mod Parts
+-- Of this crate alone.
+mod Partitions
+mod Pushes
+mod Asking
+mod Marks

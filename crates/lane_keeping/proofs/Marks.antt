@@ -9,7 +9,7 @@ use Rattle.bucket_db.specs.Changes.{at_row}
 use Rattle.bucket_db.specs.declared.row.Row.{Row}
 use Rattle.messages.specs.declared.outcome.Outcome.TheVariants.{Acked}
 use Rattle.messages.specs.declared.decision.Decision.TheVariants.{RoundEnded}
-use Rattle.node_journals.specs.Nodes.{Node}
+use Rattle.service_layer.specs.Nodes.{Node}
 use Rattle.distributor_part.specs.declared.rules.Rules.{Rules}
 use Rattle.distributor_part.specs.declared.stage.Stage.{Stage}
 use Rattle.distributor_part.specs.declared.stage.Stage.TheVariants.{Ended}
@@ -35,7 +35,7 @@ use Rattle.lane_keeping.specs.LaneKeeping.{setting_of, IsRow, IsRowOf, row_by, K
 use Rattle.lane_keeping.specs.Acting.{IsActing, IsKnownRow}
 use Rattle.lane_keeping.specs.Asking.{OthersStay}
 use Rattle.lane_keeping.proofs.Acting.{HoldsAt}
-use Rattle.lane_keeping.proofs.Pushes.{apart}
+use Rattle.proof_basics.proofs.Numbers.{apart}
 use Rattle.lane_keeping.proofs.Openings.{elsewhere}
 use Rattle.lane_keeping.proofs.Owners.{row_by-place, row-inside, holds, heard, rows-match, rows-parted, found-row, known-row}
 

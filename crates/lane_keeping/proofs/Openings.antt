@@ -10,7 +10,7 @@ use Rattle.pieces.specs.declared.piece.Piece.{Piece}
 use Rattle.node_sets.proofs.Bits.{has_none}
 use Rattle.bucket_db.specs.Rows.{Rows, buckets_of}
 use Rattle.bucket_db.specs.Answers.{new_row}
-use Rattle.node_journals.specs.Nodes.{Node}
+use Rattle.service_layer.specs.Nodes.{Node}
 use Rattle.distributor_part.specs.declared.rules.Rules.{Rules}
 use Rattle.distributor_part.specs.Parts.{Part, rows_of}
 use Rattle.distributor_part.specs.Steps.{HasRows, buckets_shown}
@@ -34,7 +34,7 @@ use Rattle.lane_keeping.specs.LaneKeeping.{setting_of, IsNamed, AreShown, KnowsO
 use Rattle.lane_keeping.specs.Asking.{IsAlike}
 use Rattle.lane_keeping.proofs.Acting.{HoldsAt, one-owner, asked-answered}
 use Rattle.lane_keeping.proofs.Partitions.{In, in-of, contains-in, rows-parted, placed}
-use Rattle.lane_keeping.proofs.Pushes.{apart}
+use Rattle.proof_basics.proofs.Numbers.{apart}
 
 -- ---- tests and lists
 

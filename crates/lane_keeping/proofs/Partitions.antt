@@ -6,7 +6,8 @@ use Rattle.std.proofs.lemmas.Bool.Decides.{nat_tests}
 use Rattle.bucket_ids.specs.Buckets.{Low, IsBucket, has_key, covers, parent_of}
 use Rattle.bucket_db.specs.Answers.{is_inside, divides, IsCoarsest}
 use Rattle.bucket_db.specs.Rows.{AreBuckets, AreRows, IsPartition}
-use Rattle.bucket_db.proofs.Counts.{one_if, count_cons, count_none, count_parts, or_none, none_left, none_right}
+use Rattle.proof_basics.proofs.Lists.{one_if, count_cons, count_none, count_parts}
+use Rattle.proof_basics.proofs.Tests.{or_none, none_left, none_right}
 use Rattle.bucket_db.proofs.Inside.{covers_keys, covers_trans, covers_key, covers_from, covers_low, covers_own, key_in, has_low, low_below, low_of_low, parent_valid, same_or_inside}
 use Rattle.lane_journals.specs.Buckets as ids
 use Rattle.lane_journals.specs.Buckets.{contains}

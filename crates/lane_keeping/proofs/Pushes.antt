@@ -2,7 +2,6 @@
 use Rattle.std.proofs.Common.{◌≡◌, ◌≢◌, ℕ, ◌+◌, ◌<◌, ◌≤◌, Bool, true, false, List, [], ◌∷◌, cond, Option, Some, None, is_some, inl, inr, refl, sym, ap, ◌∙◌, subst, arith, eqb, eq-eqb}
 use Rattle.std.specs.List.{Contains}
 use Rattle.std.proofs.lemmas.Bool.{eqb-true, cases_eq}
-use Rattle.std.proofs.lemmas.Bool.Decides.{nat_tests}
 use Rattle.bucket_ids.specs.Buckets.{Low}
 use Rattle.node_sets.proofs.Bits.{has_none}
 use Rattle.cluster_states.specs.declared.cluster_state.ClusterState.{ClusterState}
@@ -12,7 +11,7 @@ use Rattle.messages.specs.declared.message.Message.{Message}
 use Rattle.messages.specs.declared.body.Body.TheVariants as body
 use Rattle.messages.specs.declared.reply.Reply.{Reply}
 use Rattle.messages.specs.Noting.{noted_body}
-use Rattle.node_journals.specs.Nodes.{Node}
+use Rattle.service_layer.specs.Nodes.{Node}
 use Rattle.distributor_part.specs.declared.rules.Rules.{Rules}
 use Rattle.distributor_part.specs.Parts.{Part, new_part}
 use Rattle.lane_journals.specs.Readers as readers
@@ -31,9 +30,7 @@ use Rattle.node_journals.specs.NodeKeeping.{NodeKeeps}
 use Rattle.node_journals.specs.Replaying.{sending, delivered}
 use Rattle.lane_keeping.specs.LaneKeeping.{setting_of, IsIdle, node_in, KnowsOpening, IsRowOf, Holds, PartKeeps, part_in, Keeps}
 use Rattle.lane_keeping.proofs.Acting.{Acted, not-yet, unopened, unasked}
-
-pub apart : (a b : ℕ) → a ≢ b → eqb a b ≡ false
-apart a b h = grind (arith, nat_tests)
+use Rattle.proof_basics.proofs.Numbers.{apart}
 
 module _ (lane : Low) (rules : Rules) where
   abbrev S : Setting

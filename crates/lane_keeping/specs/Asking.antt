@@ -9,8 +9,8 @@ use Rattle.messages.specs.declared.message.Message.{Message}
 use Rattle.messages.specs.declared.body.Body.TheVariants as body
 use Rattle.messages.specs.declared.reply.Reply.{Reply}
 use Rattle.messages.specs.declared.reply.Reply.TheVariants as reply
-use Rattle.node_journals.specs.Nodes.{Node}
-use Rattle.node_journals.specs.Takes.{Takes}
+use Rattle.service_layer.specs.Nodes.{Node}
+use Rattle.service_layer.specs.Takes.{Takes}
 use Rattle.distributor_part.specs.declared.rules.Rules.{Rules}
 use Rattle.distributor_part.specs.Parts.{Part}
 use Rattle.distributor_part.specs.Steps.{buckets_shown}
@@ -61,12 +61,12 @@ pub record KnowsOneMore (p q : Part) (node : ℕ) (shown : List Low) : Type 0 wh
   pub shown_is : q.shown ≡ p.shown ++ shown
 
 -- the part is told the node's reply
-abbrev pub IsTold : Part → Part → ℕ → Reply → Type 0
-IsTold p q node (reply.Answer pieces entries) = KnowsOneMore p q node (buckets_shown pieces)
-IsTold p q node (reply.Newer v) = KnowsTheSame p q
-IsTold p q node reply.NoBucket = KnowsTheSame p q
-IsTold p q node reply.Differs = KnowsTheSame p q
-IsTold p q node reply.NoMemory = KnowsTheSame p q
+abbrev pub IsPartTold : Part → Part → ℕ → Reply → Type 0
+IsPartTold p q node (reply.Answer pieces entries) = KnowsOneMore p q node (buckets_shown pieces)
+IsPartTold p q node (reply.Newer v) = KnowsTheSame p q
+IsPartTold p q node reply.NoBucket = KnowsTheSame p q
+IsPartTold p q node reply.Differs = KnowsTheSame p q
+IsPartTold p q node reply.NoMemory = KnowsTheSame p q
 
 -- the reply to an Ask whose answer can't be kept for want of memory
 abbrev pub unkept : Reply → Reply
@@ -89,5 +89,5 @@ OthersStay lane rules parts now d = (e : ℕ) → e ≢ d → part_in lane rules
 
 -- of the parts just the distributor's is told the reply
 pub record IsToldTo (lane : Low) (rules : Rules) (parts now : List Part) (d node : ℕ) (r : Reply) : Type 0 where
-  pub told : IsTold (part_in lane rules parts d) (part_in lane rules now d) node r
+  pub told : IsPartTold (part_in lane rules parts d) (part_in lane rules now d) node r
   pub others : OthersStay lane rules parts now d

@@ -5,15 +5,5 @@ pub mod LaneKeeping
 pub mod Asking
 pub mod Laws
 pub mod Acting
--- Passed on, so that the crates above need not list those below.
-pub use Rattle.node_journals.proofs.Flying
-pub use Rattle.node_journals.proofs.Sending
-pub use Rattle.node_journals.proofs.Stamping
-pub use Rattle.node_journals.proofs.Uniting
-pub use Rattle.node_journals.specs.Flights
-pub use Rattle.node_journals.specs.Marks
-pub use Rattle.node_journals.specs.NodeKeeping
-pub use Rattle.node_journals.specs.Nodes
-pub use Rattle.node_journals.specs.Replaying
-pub use Rattle.node_journals.specs.Replicas
-pub use Rattle.node_journals.specs.Unions
+pub mod Shown
+pub mod Tidings

@@ -13,8 +13,8 @@ ghost use Rattle.messages.specs.declared.reply.Reply.{Reply};
 ghost use Rattle.messages.specs.declared.body.Body.TheVariants as body;
 ghost use Rattle.messages.specs.declared.decision.Decision.TheVariants.{RoundEnded};
 ghost use Rattle.messages.specs.declared.outcome.Outcome.TheVariants.{Acked};
-ghost use Rattle.node_journals.specs.Nodes.{Node};
-ghost use Rattle.node_journals.specs.Takes.{Takes};
+ghost use Rattle.service_layer.specs.Nodes.{Node};
+ghost use Rattle.service_layer.specs.Takes.{Takes};
 ghost use Rattle.distributor_part.specs.declared.rules.Rules.{Rules};
 ghost use Rattle.distributor_part.specs.declared.stage.Stage.{Stage};
 ghost use Rattle.distributor_part.specs.Parts.{Part, new_part};
@@ -33,7 +33,7 @@ ghost use Rattle.node_journals.specs.Flights.{IsInFlight, Brings, IsWhole};
 ghost use Rattle.node_journals.specs.Replaying.{sending, delivered};
 ghost use Rattle.lane_keeping.specs.LaneKeeping.{setting_of, IsIdle, KnowsOpening, part_in, Keeps};
 ghost use Rattle.lane_keeping.specs.Acting.{IsActing, IsKnownRow, IsNoHearing};
-ghost use Rattle.lane_keeping.specs.Asking.{IsAsking, IsJustSent, KnowsTheSame, IsTold, unkept, IsTakenBy, OthersStay, IsToldTo};
+ghost use Rattle.lane_keeping.specs.Asking.{IsAsking, IsJustSent, KnowsTheSame, IsPartTold, unkept, IsTakenBy, OthersStay, IsToldTo};
 ghost use Rattle.lane_keeping.specs.Laws.{OfKept, IsQuietEvent, IsNoAsk, IsKeptNext, IsSentNext};
 
 use node_journals::laws::{messages_fly, nodes_replay, nodes_wait};
@@ -139,7 +139,7 @@ pub fn asks_are_kept()
 /// What a part is told by `answer` is the reply, and nothing where none came; and a part that knows the same as
 /// before leaves the lane as it is, whom it asked and how far its round is set aside.
 pub fn parts_are_told()
-    ensures told { (p q : Part) (n : ℕ) (r : Reply) → IsAfterAnswer p q n (Some r) → IsTold p q n r }
+    ensures told { (p q : Part) (n : ℕ) (r : Reply) → IsAfterAnswer p q n (Some r) → IsPartTold p q n r }
     ensures silent { (p q : Part) (n : ℕ) → IsAfterAnswer p q n None → KnowsTheSame p q }
     ensures known { OfKept (λ lane rules J newest last nodes parts. (d : ℕ) (after : List Part)
         → KnowsTheSame (part_in lane rules parts d) (part_in lane rules after d)

@@ -1,27 +1,4 @@
--- `Rest` says when a lane is at rest, over its journal. The others say what a pass of upkeep does that nothing
--- disturbs: `Nodes` what a node makes of its messages, `Shapes` how its buckets stand to a row, `Rows` what the
--- owner knows of a row and what a round makes of it, `Settling` what is done for one row after the other, and
--- `Passes` the whole pass. `Resting` says where it may begin and where it ends, `Worlds` which nodes and rows are
--- those of a journal, `Sweeps` how joins and splits go through the rows as they stand, `Lanes` what a lane's own
--- node is among them, and `Scripts` what a journal says of messages that were taken twice. `Loops` goes over the
--- nodes one after the other; `Sets` and `Targets` are the words below.
+-- `Rest` says when a lane is at rest, over its journal. `Sets` and `Targets` are the words below.
 pub mod Sets
 pub mod Targets
-pub mod Nodes
-pub mod Shapes
-pub mod Rows
-pub mod Settling
-pub mod Passes
-pub mod Resting
-pub mod Sweeps
 pub mod Rest
-pub mod Worlds
-pub mod Lanes
-pub mod Scripts
-pub mod Loops
--- Passed on, so that the crates above need not list those below.
-pub use Rattle.node_journals.specs.NodeKeeping
-pub use Rattle.node_journals.specs.Nodes as ServiceLayerNodes
-pub use Rattle.node_journals.specs.Replaying
-pub use Rattle.node_journals.specs.Replicas
-pub use Rattle.node_journals.specs.Takes

@@ -6,7 +6,7 @@ use Rattle.bucket_ids.specs.Buckets.{Low, has_key, first_child, second_child}
 use Rattle.cluster_states.specs.declared.cluster_state.ClusterState.{ClusterState}
 use Rattle.cluster_states.specs.Publishing.{serves, newest_of as newest_state}
 use Rattle.ideal_nodes.specs.Placement.{IsIdeal}
-use Rattle.entry_maps.specs.declared.entry.Entry.{Entry}
+use Rattle.documents.specs.declared.entry.Entry.{Entry}
 use Rattle.lane_journals.specs.Stamps.{Stamp, same_stamp}
 use Rattle.lane_journals.specs.Buckets.{Id, key_of, same_bucket}
 use Rattle.lane_journals.specs.Events.{Content}

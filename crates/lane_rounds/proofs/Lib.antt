@@ -1,7 +1,15 @@
-pub mod Sent
-pub mod Beginning
-pub mod Waiting
-pub mod Sending
-pub mod Hearing
-pub mod Ending
-pub mod Short
+-- Shared: other crates cite these.
+pub mod Accepting
+pub mod Askings
+pub mod OpeningSends
+pub mod RowLists
+pub mod Shortages
+pub mod Staying
+-- Of this crate alone.
+mod Going
+mod LaneRuns
+mod NodeSpans
+mod Opened
+mod RowKeys
+mod Settled
+mod Telling

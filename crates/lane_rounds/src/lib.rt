@@ -1,20 +1,17 @@
-//! What a lane knows of the round that is under way in it; a crate of laws.
+//! What the owner of a lane does in several messages: it opens its state, and runs rounds.
 //!
-//! A round of a row reads all that the nodes hold of it, and gives the union to the row's receivers: these are
-//! complete members then. `KnowsRound` in `specs/RoundKeeping.antt` says that a `merge_rounds::Round` is what the
-//! lane's journal says of it: which Reads and Applies were sent, whose answer was shown, what the answers have
-//! together and who has the union. The laws lead it over each event of a round, from its begin to its end, so
-//! that each message may be sent and the end is legal; where the round gave too few copies they say whom an
-//! operation names that ends for it.
+//! An owner opens its state: it asks node after node, deals with each Ask by the fate that the carrier gives, and is
+//! told what came back (`opening`). It begins a round of a row, sends the messages of the round one after the other,
+//! and decides its end (`rounds`). The lane keeps its journal over all of it (`lane_states`), and each call says by
+//! which events the journal grows, whatever is lost or late. Where a node wants memory an opening and a round go on,
+//! or end at once, as their caller says. What that is to a line whose operation waits for it is said in `lane_lines`.
 //!
 //! ```text
-//! rounds_begin();        // the part begins a round where nothing is under way
-//! rounds_send();         // the message that comes next may be sent
-//! rounds_wait();         // late messages and second deliveries change nothing
-//! rounds_hear();         // the message that was sent last is answered, or isn't
-//! rounds_end();          // the round ends with its holders
-//! rounds_fall_short();   // who didn't answer
+//! open_state(lane, distributor, key, &mut carrier, AtShortage::GoOn)?;    // Sent { .. }, Delivered { .. }, Returned { .. }, .., Opened { .. }
+//! let run = begin_round(lane, distributor, key);                          // Decided { RoundBegun .. }
+//! run_round(lane, &mut carrier, &mut run, AtShortage::GoOn)?;             // Sent { .. }, .., Decided { RoundEnded .. }
 //! ```
 #![tactic(auto)]
 
-pub mod laws;
+pub mod opening;
+pub mod rounds;

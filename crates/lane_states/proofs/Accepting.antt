@@ -1,19 +1,12 @@
 -- What a lane remembers of the Activates that were answered, after one more event and after its parts changed.
-use Rattle.std.proofs.Common.{◌≡◌, ℕ, ◌<◌, true, false, List, [], ◌∷◌, map, length, Option, Some, slice_set, inl, inr, sym, ap, subst}
+use Rattle.std.proofs.Common.{◌≡◌, ℕ, ◌<◌, List, [], ◌∷◌, length, Option, slice_set, inl, inr, sym, subst}
 use Rattle.std.proofs.lemmas.Bool.{cases_eq}
 use Rattle.bucket_ids.specs.Buckets.{Low}
 use Rattle.cluster_states.specs.declared.cluster_state.ClusterState.{ClusterState}
-use Rattle.messages.specs.declared.reply.Reply.{Reply}
-use Rattle.messages.specs.declared.reply.Reply.TheVariants as reply
-use Rattle.bucket_db.specs.Answers.{new_row}
-use Rattle.bucket_db.specs.Rows.{Rows}
-use Rattle.bucket_db.specs.Changes.{at_row}
-use Rattle.bucket_db.proofs.Counts.{all_map}
+use Rattle.proof_basics.proofs.Lists.{all_map}
 use Rattle.bucket_db.specs.declared.row.Row.{Row}
 use Rattle.distributor_part.specs.declared.rules.Rules.{Rules}
-use Rattle.distributor_part.specs.declared.stage.Stage.{Stage}
 use Rattle.distributor_part.specs.Parts.{Part, rows_of, version_of, new_part}
-use Rattle.distributor_part.specs.Steps.{Opens, EndsRound, IsClosed}
 use Rattle.lane_journals.specs.Events.{Event}
 use Rattle.lane_journals.specs.Readers.{Journal}
 use Rattle.lane_journals.specs.Facts.{InRegion}
@@ -21,10 +14,9 @@ use Rattle.lane_journals.specs.Meanings.{history, meaning}
 use Rattle.lane_journals.specs.declared.event.LaneEvent.{LaneEvent}
 use Rattle.lane_journals.proofs.Basics.{sent-stays, Accepted-stays}
 use Rattle.lane_keeping.specs.LaneKeeping.{part_in}
-use Rattle.lane_keeping.specs.Asking.{OthersStay, IsTold}
-use Rattle.lane_states.specs.Accepting.{IsAccepted, AreRowsAccepted, IsPartAccepted, AreAccepted}
-use Rattle.lane_states.proofs.Places.{part-own, part-others}
-use Rattle.lane_states.proofs.RowLists.{all-at}
+use Rattle.lane_keeping.specs.Asking.{OthersStay}
+use Rattle.lane_states.specs.Accepting.{IsAccepted, IsPartAccepted, AreAccepted}
+use Rattle.lane_keeping.proofs.Parts.{part-own, part-others}
 
 -- ---- one more event
 
@@ -75,46 +67,6 @@ accepted-at lane rules J parts d p q within is f h = accepted-but lane rules J p
 -- ---- one part
 
 module _ (H : Journal) (p q : Part) where
-  -- the state and the rows are the same
-  pub accepted-alike : q.state ≡ p.state → q.rows ≡ p.rows → IsPartAccepted H p → IsPartAccepted H q
-  accepted-alike state rows h =
-      subst (λ (o : Option ClusterState). AreRowsAccepted (version_of o) H (rows_of q.rows)) (sym state)
-      (subst (λ (o : Option Rows). AreRowsAccepted (version_of p.state) H (rows_of o)) (sym rows) h)
-
-  pub accepted-told : (node : ℕ) (r : Reply) → IsTold p q node r → IsPartAccepted H p → IsPartAccepted H q
-  accepted-told node (reply.Answer pieces entries) t = accepted-alike (t.alike).state_is (t.alike).rows_are
-  accepted-told node (reply.Newer v) t = accepted-alike (t.alike).state_is (t.alike).rows_are
-  accepted-told node reply.NoBucket t = accepted-alike (t.alike).state_is (t.alike).rows_are
-  accepted-told node reply.Differs t = accepted-alike (t.alike).state_is (t.alike).rows_are
-  accepted-told node reply.NoMemory t = accepted-alike (t.alike).state_is (t.alike).rows_are
-
   -- without rows
   pub accepted-fresh : (number : ℕ) (lane : Low) (rules : Rules) (state : Option ClusterState) → q ≡ new_part number lane rules state → IsPartAccepted H q
   accepted-fresh number lane rules state is = subst (IsPartAccepted H) (sym is) tt
-
-  -- a row has other complete members
-  accepted-marks : (rows : Rows) (at marks : ℕ) → q.state ≡ p.state → p.rows ≡ Some rows → rows_of q.rows ≡ at_row at (λ r. record r { complete = marks }) rows.rows → IsPartAccepted H p → IsPartAccepted H q
-  accepted-marks rows at marks state opened now h =
-      subst (λ (o : Option ClusterState). AreRowsAccepted (version_of o) H (rows_of q.rows)) (sym state)
-      (subst (AreRowsAccepted (version_of p.state) H) (sym now)
-      (all-at (IsAccepted (version_of p.state) H) (λ r. record r { complete = marks }) rows.rows at (λ row found a is. let was = a is in record { node = was.node; active = was.active; keys = was.keys })
-      (subst (λ (o : Option Rows). AreRowsAccepted (version_of p.state) H (rows_of o)) opened h)))
-
-  pub accepted-closed : (key answered : ℕ) → IsClosed p q key answered → IsPartAccepted H p → IsPartAccepted H q
-  accepted-closed key answered x = accepted-marks x.rows x.at x.marks (ap (λ (z : Part). z.state) x.after) x.opened (ap (λ (z : Part). rows_of z.rows) x.after)
-
-  pub accepted-ended : (bucket : Low) (complete : ℕ) → EndsRound p q bucket complete → IsPartAccepted H p → IsPartAccepted H q
-  accepted-ended bucket complete x = accepted-marks x.rows x.at x.marks (ap (λ (z : Part). z.state) x.after) x.opened (ap (λ (z : Part). rows_of z.rows) x.after)
-
-  -- rows that come with an opening haven't been accepted
-  fresh-rows : (v : ℕ) (buckets : List Low) → AreRowsAccepted v H (map new_row buckets)
-  fresh-rows v [] = tt
-  fresh-rows v (b ∷ bs) = ((λ is. let no : false ≡ true = is in cc), fresh-rows v bs)
-
-  pub accepted-opened : (buckets : List Low) → Opens p q buckets → IsPartAccepted H q
-  accepted-opened buckets x = subst (AreRowsAccepted (version_of q.state) H) (sym (ap (λ (z : Part). rows_of z.rows) (x.rows).after)) (fresh-rows (version_of q.state) buckets)
-
--- a part whose job goes on, or is over
-pub accepted-changed : (lane : Low) (rules : Rules) (J : List LaneEvent) (parts : List Part) (d : ℕ) (p q : Part) → d < length parts → part_in lane rules parts d ≡ p → (asked : ℕ) (awaited : Option ℕ) (stage : Stage)
-    → q ≡ record p { asked = asked; awaited = awaited; stage = stage } → AreAccepted lane rules J parts → AreAccepted lane rules J (slice_set parts d q)
-accepted-changed lane rules J parts d p q within is asked awaited stage e = accepted-at lane rules J parts d p q within is (accepted-alike (history J) p q (ap (λ (z : Part). z.state) e) (ap (λ (z : Part). z.rows) e))

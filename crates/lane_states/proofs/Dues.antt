@@ -1,12 +1,13 @@
 -- Late messages that are given out one after the other.
 use Rattle.std.proofs.Common.{◌≡◌, ◌≤◌, ℕ, Bool, true, false, List, [], ◌∷◌, ◌++◌, refl, sym, ap, subst, ◌∙◌, append_assoc}
-use Rattle.late_messages.specs.Waiting.{Each}
-use Rattle.late_messages.specs.declared.late.Late.{Late}
+use Rattle.messages.specs.Waiting.{Each}
+use Rattle.messages.specs.declared.late.Late.{Late}
 use Rattle.lane_journals.specs.declared.event.LaneEvent.{LaneEvent}
 use Rattle.lane_carriage.specs.Carriage.{AreDelivered, IsGivenOut, is_cut_off}
 use Rattle.lane_carriage.specs.Waits.{numbers}
 use Rattle.lane_carriage.proofs.Waitings.{delivered-further, passed-over}
-use Rattle.lane_states.specs.Growing.{DeliversSome, DeliversOne}
+use Rattle.lane_carriage.specs.Carrying.{DeliversSome}
+use Rattle.lane_states.specs.Growing.{DeliversOne}
 
 each-push : (P : Late → Type 0) (late : List Late) (l : Late) → Each P late → P l → Each P (late ++ l ∷ [])
 each-push P [] l h p = (p, tt)

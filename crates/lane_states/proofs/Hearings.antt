@@ -14,7 +14,7 @@ use Rattle.lane_journals.specs.declared.event.LaneEvent.TheVariants.{Heard}
 use Rattle.lane_journals.proofs.Basics.{held-published}
 use Rattle.lane_keeping.specs.LaneKeeping.{IsNewest, IsIdle}
 use Rattle.lane_keeping.specs.Acting.{IsActing}
-use Rattle.lane_states.specs.Growing.{is_older, heard_below}
+use Rattle.lane_keeping.specs.Tidings.{is_older, heard_below}
 
 -- ---- one distributor
 

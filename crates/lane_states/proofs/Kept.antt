@@ -7,8 +7,8 @@ use Rattle.messages.specs.declared.noted.NotedReply.{NotedReply}
 use Rattle.service_layer.specs.Nodes.{Node}
 use Rattle.distributor_part.specs.declared.rules.Rules.{Rules}
 use Rattle.distributor_part.specs.Parts.{Part}
-use Rattle.late_messages.specs.Waiting.{Each, AreSentBefore, kept}
-use Rattle.late_messages.specs.declared.late.Late.{Late}
+use Rattle.messages.specs.Waiting.{Each, AreSentBefore, kept}
+use Rattle.messages.specs.declared.late.Late.{Late}
 use Rattle.node_sets.specs.Members.{has_node}
 use Rattle.lane_journals.specs.Readers.{stopped}
 use Rattle.lane_journals.specs.Meanings.{history}
@@ -18,7 +18,7 @@ use Rattle.node_journals.specs.Flights.{IsInFlight}
 use Rattle.node_journals.proofs.Flying.{flight-stays}
 use Rattle.node_journals.specs.NodeKeeping.{NodeKeeps}
 use Rattle.lane_keeping.specs.LaneKeeping.{node_in, Keeps}
-use Rattle.lane_states.specs.Growing.{IsNoStop}
+use Rattle.lane_keeping.specs.Tidings.{IsNoStop}
 use Rattle.lane_states.specs.Accepting.{AreAccepted}
 use Rattle.lane_states.specs.LaneStates.{IsComing, AreStopped, IsKeptBy}
 use Rattle.lane_states.proofs.Accepting.{accepted-stays}

@@ -9,7 +9,7 @@ use Rattle.cluster_states.specs.declared.cluster_state.ClusterState.{ClusterStat
 use Rattle.ideal_nodes.specs.Scores.{score_of, IsFirst}
 use Rattle.ideal_nodes.specs.Placement.{IsOwner}
 use Rattle.ideal_nodes.proofs.StateMarks.{owner_of_set}
-use Rattle.laid_pieces.proofs.PieceLaws.{bucket-same}
+use Rattle.pieces.proofs.PieceLaws.{bucket-same}
 
 pub known-owns : (known lane : Low) (s : ClusterState) (up set n : ℕ) → true ≡ ((known.bits == lane.bits) && (known.low == lane.low)) → true ≡ (up == set)
     → ((k : ℕ) → has_node set k ≡ counts false (slice_index_or s.distributors k Down)) → IsFirst (score_of (codes "owner") known) up n → IsOwner lane s n

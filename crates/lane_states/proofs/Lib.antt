@@ -1,45 +1,17 @@
-pub mod Places
+-- Shared: other crates cite these.
+pub mod Accepting
+pub mod Going
+pub mod Hearings
+pub mod Kept
 pub mod LaneSteps
 pub mod NodeSpans
-pub mod Kept
-pub mod GivenOut
-pub mod Stops
-pub mod Dues
-pub mod Telling
-pub mod Going
-pub mod Opened
-pub mod Owners
-pub mod Ending
-pub mod Askings
-pub mod Settled
-pub mod Refusals
-pub mod Running
-pub mod RoundTelling
-pub mod Runs
-pub mod RoundEnds
-pub mod Staying
-pub mod OpeningRuns
-pub mod OpeningAsks
-pub mod OpeningEnds
-pub mod OpenedLines
-pub mod Carrying
-pub mod Nobodies
-pub mod Results
-pub mod Standing
-pub mod RunningSteps
-pub mod MessageKeys
-pub mod Wanted
-pub mod RoundLines
-pub mod RowRounds
-pub mod FilledRows
-pub mod RowsFound
-pub mod Entries
-pub mod EntryFree
-pub mod KnownOwners
+pub mod Places
+pub mod Replied
 pub mod SameStates
-pub mod Hearings
 pub mod Tellings
-pub mod RowKeys
-pub mod RowLists
-pub mod Accepting
-pub mod Shortages
+-- Of this crate alone.
+mod Dues
+mod KnownOwners
+mod Nobodies
+mod Owners
+mod Stops

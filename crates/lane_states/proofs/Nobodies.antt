@@ -2,7 +2,7 @@
 use Rattle.std.proofs.Common.{◌≡◌, Option, None, Some, sym, ap, ◌∙◌}
 use Rattle.std.specs.FinMap as fin
 use Rattle.service_layer.specs.Nodes.{Node, new_node}
-use Rattle.lane_states.specs.Shown.{node_or_new}
+use Rattle.lane_keeping.specs.Shown.{node_or_new}
 
 nothing-held : fin.len new_node.entries ≡ 0
 nothing-held = fin.len-empty _ _

@@ -5,18 +5,15 @@ use Rattle.messages.specs.declared.reply.Reply.{Reply}
 use Rattle.messages.specs.Noting.{noted_reply}
 use Rattle.service_layer.specs.Nodes.{Node}
 use Rattle.lane_journals.specs.declared.event.LaneEvent.{LaneEvent}
-use Rattle.lane_journals.specs.declared.event.LaneEvent.TheVariants.{Delivered, Returned}
+use Rattle.lane_journals.specs.declared.event.LaneEvent.TheVariants.{Delivered}
 use Rattle.node_journals.specs.Flights.{IsInFlight}
 use Rattle.node_journals.specs.Replaying.{IsNoDelivery}
-use Rattle.node_spans.specs.Spans.{IsTakenIn, NodesGo}
-use Rattle.node_spans.proofs.Going.{go-none, go-waits, go-taken, go-further}
+use Rattle.node_journals.specs.Spans.{IsTakenIn, NodesGo}
+use Rattle.node_journals.proofs.Going.{go-none, go-waits, go-taken, go-further}
 use Rattle.lane_keeping.specs.LaneKeeping.{node_in, NodesKeep}
 use Rattle.lane_keeping.specs.Asking.{IsTakenBy}
 use Rattle.lane_states.specs.declared.lane_state.LaneState.{LaneState}
-use Rattle.lane_states.specs.declared.opening.OpeningStep.{OpeningStep}
-use Rattle.lane_states.specs.declared.opening.OpeningStep.TheVariants as step
 use Rattle.lane_states.specs.LaneStates.{journal_of, NodesOn}
-use Rattle.lane_states.specs.Openings.{IsNext}
 
 -- ---- a delivery
 
@@ -36,10 +33,6 @@ pub go-one : (J : List LaneEvent) (nodes now : List Node) (k : ℕ) (m : Message
     → NodesGo J (node_in nodes) (Delivered k (noted_reply r) ∷ J) (node_in now)
 go-one J nodes now k m r flight keeps taken = go-taken J J (node_in nodes) (node_in nodes) (node_in now) k (noted_reply r) (go-none J (node_in nodes) (node_in nodes) (λ n. refl)) (taken-in J nodes now k m r flight keeps taken)
 
-pub go-back : (J : List LaneEvent) (nodes now : List Node) (k : ℕ) (m : Message) (r : Reply) → IsInFlight J k m → NodesKeep J nodes → IsTakenBy nodes now m r
-    → NodesGo J (node_in nodes) (Returned k ∷ Delivered k (noted_reply r) ∷ J) (node_in now)
-go-back J nodes now k m r flight keeps taken = go-waits J (Delivered k (noted_reply r) ∷ J) (node_in nodes) (node_in now) (Returned k) tt (go-one J nodes now k m r flight keeps taken)
-
 -- ---- lanes
 
 pub on-same : (c e : LaneState) → journal_of e ≡ journal_of c → ((n : ℕ) → node_in e.nodes.items n ≡ node_in c.nodes.items n) → NodesOn c e
@@ -52,8 +45,3 @@ on-event c e x i j same = subst (λ (J : List LaneEvent). NodesGo (journal_of c)
 
 pub on-then : (b c e : LaneState) → NodesOn b c → NodesOn c e → NodesOn b e
 on-then b c e h g = go-further (journal_of b) (journal_of c) (journal_of e) (node_in b.nodes.items) (node_in c.nodes.items) (node_in e.nodes.items) h g
-
-pub on-next : (c e : LaneState) (d : ℕ) (s : OpeningStep) → IsNext c e d s → ((n : ℕ) → node_in e.nodes.items n ≡ node_in c.nodes.items n) → NodesOn c e
-on-next c e d (step.Asks m) h same = on-same c e h.same same
-on-next c e d step.Opened h same = on-event c e _ tt h.grows same
-on-next c e d (step.Lacks missing) h same = on-same c e h.same same

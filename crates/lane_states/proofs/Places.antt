@@ -1,6 +1,5 @@
 -- Lists in which what isn't there yet counts as something: nodes and parts at their places.
-use Rattle.std.proofs.Common.{◌≡◌, ◌≢◌, ℕ, zero, suc, ◌<◌, true, List, [], ◌∷◌, Option, Some, None, length, slice_set, get_or, sym, ap, arith, ◌∙◌}
-use Rattle.std.proofs.lemmas.Grind.{elements}
+use Rattle.std.proofs.Common.{◌≡◌, ℕ, zero, suc, ◌<◌, true, List, [], ◌∷◌, Option, Some, None, length, slice_set, get_or, sym, ap, arith, ◌∙◌}
 use Rattle.std.proofs.lemmas.Bool.Decides.{nat_tests}
 use Rattle.bucket_ids.specs.Buckets.{Low}
 use Rattle.cluster_states.specs.declared.cluster_state.ClusterState.{ClusterState}
@@ -12,14 +11,8 @@ use Rattle.lane_journals.specs.Meanings.{history}
 use Rattle.lane_journals.specs.Places.{state_in}
 use Rattle.lane_journals.specs.declared.event.LaneEvent.{LaneEvent}
 use Rattle.lane_keeping.specs.LaneKeeping.{Holds, PartKeeps, part_in}
-use Rattle.lane_keeping.specs.Asking.{OthersStay}
-use Rattle.lane_states.specs.Growing.{is_older, version_held}
-
-pub set-own : {X : Type 0} (xs : List X) (i : ℕ) (y z : X) → i < length xs → get_or (slice_set xs i y) i z ≡ y
-set-own xs i y z h = grind (arith, elements)
-
-pub set-other : {X : Type 0} (xs : List X) (i n : ℕ) (y z : X) → n ≢ i → get_or (slice_set xs i y) n z ≡ get_or xs n z
-set-other xs i n y z h = grind (arith, elements)
+use Rattle.lane_keeping.specs.Tidings.{is_older, version_held}
+use Rattle.lane_keeping.proofs.Parts.{part-own}
 
 pub default-any : {X : Type 0} (xs : List X) (i : ℕ) (x z : X) → i < length xs → x ≡ get_or xs i x → get_or xs i z ≡ x
 default-any [] i x z h e = absurd (omega (arith, h))
@@ -44,16 +37,8 @@ module _ (lane : Low) (rules : Rules) where
   pub holds-older : (J : List LaneEvent) (d v : ℕ) (p : Part) → PartKeeps lane rules J d p → is_older (version_held p.state) v ≡ is_older (held d (history J)) v
   holds-older J d v p k = ap (λ (o : Option ℕ). is_older o v) (version-held J d p k)
 
-  -- ---- one part is another
-
-  pub part-own : (parts : List Part) (d : ℕ) (q : Part) → d < length parts → part_in lane rules (slice_set parts d q) d ≡ q
-  part-own parts d q h = set-own parts d q (new_part d lane rules None) h
-
   pub part-at : (parts : List Part) (d : ℕ) (p : Part) → d < length parts → p ≡ get_or parts d p → part_in lane rules parts d ≡ p
   part-at parts d p h e = default-any parts d p (new_part d lane rules None) h e
-
-  pub part-others : (parts : List Part) (d : ℕ) (q : Part) → OthersStay lane rules parts (slice_set parts d q) d
-  part-others parts d q e off = set-other parts d e q (new_part e lane rules None) off
 
   pub heard-part : (J : List LaneEvent) (parts : List Part) (d : ℕ) (p q : Part) (s : ClusterState) → d < length parts → part_in lane rules parts d ≡ p → PartKeeps lane rules J d (part_in lane rules parts d)
       → q ≡ new_part p.number p.lane p.rules (Some s) → part_in lane rules (slice_set parts d q) d ≡ new_part d lane rules (Some s)
@@ -61,4 +46,4 @@ module _ (lane : Low) (rules : Rules) where
       let n : p.number ≡ d = sym (ap (λ x. x.number) is) ∙ k.number_is in
       let l : p.lane ≡ lane = sym (ap (λ x. x.lane) is) ∙ k.lane_is in
       let r : p.rules ≡ rules = sym (ap (λ x. x.rules) is) ∙ k.rules_are in
-      part-own parts d q h ∙ e ∙ cc (n, l, r)
+      part-own lane rules parts d q h ∙ e ∙ cc (n, l, r)

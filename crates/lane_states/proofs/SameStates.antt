@@ -1,13 +1,11 @@
 -- A distributor holds one state.
-use Rattle.std.proofs.Common.{◌≡◌, ℕ, List, Some, sym, ap, ◌∙◌}
+use Rattle.std.proofs.Common.{◌≡◌, ℕ, List, sym, ap, ◌∙◌}
 use Rattle.bucket_ids.specs.Buckets.{Low}
 use Rattle.cluster_states.specs.declared.cluster_state.ClusterState.{ClusterState}
 use Rattle.lane_journals.specs.Places.{state_in}
 use Rattle.lane_journals.specs.declared.event.LaneEvent.{LaneEvent}
 use Rattle.lane_keeping.specs.Acting.{IsActing}
-
-pub some-same : {A : Type 0} (a b : A) → Some a ≡ Some b → a ≡ b
-some-same a b e = cc
+use Rattle.proof_basics.proofs.Options.{some_same as some-same}
 
 pub same-state : (lane : Low) (J : List LaneEvent) (d : ℕ) (s t : ClusterState) → IsActing lane J d s → IsActing lane J d t → s ≡ t
 same-state lane J d s t a b =

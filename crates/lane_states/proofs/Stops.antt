@@ -5,7 +5,7 @@ use Rattle.node_sets.specs.Members.{has_node}
 use Rattle.carriers.specs.declared.fate.Fate.{Fate}
 use Rattle.carriers.specs.declared.fate.Fate.TheVariants.{Deliver, LoseRequest, LoseReply, Twice, Late as LateBy}
 use Rattle.messages.specs.declared.message.Message.{Message}
-use Rattle.late_messages.specs.declared.late.Late.{Late}
+use Rattle.messages.specs.declared.late.Late.{Late}
 use Rattle.lane_journals.specs.Readers.{stopped}
 use Rattle.lane_journals.specs.Meanings.{history}
 use Rattle.lane_journals.specs.Places.{Setting}
@@ -14,7 +14,7 @@ use Rattle.lane_journals.specs.declared.event.LaneEvent.{LaneEvent}
 use Rattle.lane_journals.specs.declared.event.LaneEvent.TheVariants as event
 use Rattle.lane_carriage.specs.Carriage.{met}
 use Rattle.lane_carriage.specs.Waits.{kept_by}
-use Rattle.lane_states.specs.Growing.{IsNoStop}
+use Rattle.lane_keeping.specs.Tidings.{IsNoStop}
 use Rattle.lane_states.specs.LaneStates.{AreStopped}
 
 -- over an event by which no node stops or starts

@@ -18,11 +18,11 @@ use Rattle.lane_carriage.specs.Waits.{numbers}
 use Rattle.lane_keeping.specs.Asking.{IsJustSent}
 use Rattle.lane_keeping.specs.Laws.{IsNoAsk}
 use Rattle.lane_states.specs.declared.lane_state.LaneState.{LaneState}
-use Rattle.lane_states.specs.Growing.{met_at}
+use Rattle.lane_carriage.specs.Carrying.{met_at}
 use Rattle.lane_states.specs.LaneStates.{journal_of, Went}
 use Rattle.lane_states.specs.Tellings.{IsRowBody, IsAnsweredBy, IsFirstReply}
-use Rattle.lane_states.proofs.GivenOut.{over-all}
-use Rattle.lane_states.proofs.Staying.{IsOfMessage, stays-delivered, stays-dealt}
+use Rattle.lane_carriage.proofs.GivenOut.{over-all}
+use Rattle.lane_carriage.proofs.Staying.{IsOfMessage, stays-delivered, stays-dealt}
 
 pub row-no-ask : (b : Body) → IsRowBody b → IsNoAsk b
 row-no-ask body.Ask h = absurd h

@@ -13,15 +13,15 @@ use Rattle.lane_journals.specs.Meanings.{history}
 use Rattle.lane_journals.specs.KeptJournals.{past}
 use Rattle.lane_journals.specs.declared.event.LaneEvent.{LaneEvent}
 use Rattle.carriers.specs.declared.fate.Fate.{Fate}
-use Rattle.late_messages.specs.Waiting.{Each, NoneIsDue}
-use Rattle.late_messages.specs.declared.late.Late.{Late}
+use Rattle.messages.specs.Waiting.{Each, NoneIsDue}
+use Rattle.messages.specs.declared.late.Late.{Late}
 use Rattle.node_journals.specs.Flights.{IsInFlight}
 use Rattle.node_journals.specs.Replaying.{sending}
-use Rattle.node_spans.specs.Spans.{NodesGo}
-use Rattle.lane_carriage.specs.Carriage.{IsCarried, IsDealt}
-use Rattle.lane_carriage.specs.Waits.{IsWaiting, kept_by}
+use Rattle.node_journals.specs.Spans.{NodesGo}
+use Rattle.lane_carriage.specs.Carriage.{IsDealt}
+use Rattle.lane_carriage.specs.Waits.{kept_by}
 use Rattle.lane_states.specs.Accepting.{AreAccepted}
-use Rattle.lane_states.specs.Growing.{met_at, DeliversSome}
+use Rattle.lane_carriage.specs.Carrying.{met_at, DeliversSome, AreCarried}
 use Rattle.lane_states.specs.declared.lane_state.LaneState.{LaneState}
 use Rattle.lane_keeping.specs.LaneKeeping.{node_in, part_in, Keeps}
 use Rattle.lane_keeping.specs.Asking.{IsAsking}
@@ -88,11 +88,6 @@ abbrev pub Asks : LaneState → ℕ → Message → Type 0
 Asks c d m = IsAsking c.lane d (part_of c d) m
 
 -- ---- the carrier
-
--- each message had the events of the fate that was given, and just those late ones wait that are still to come
-pub record AreCarried (given : List Fate) (J : List LaneEvent) (last : ℕ) (late : List Late) : Type 0 where
-  pub carried : IsCarried given J
-  pub waiting : IsWaiting given last late
 
 abbrev pub IsCarriedBy : LaneState → List Fate → Type 0
 IsCarriedBy c given = AreCarried given (journal_of c) c.last c.late.late

@@ -1,8 +1,7 @@
 -- Nodes that want memory, over the messages that were sent behind a number.
-use Rattle.std.specs.Prelude.{◌≡◌, ◌<◌, ◌≤◌, ◌||◌, ℕ, Bool, false, List}
+use Rattle.std.specs.Prelude.{◌≡◌, ◌<◌, ◌≤◌, ℕ, Bool, false, List}
 use Rattle.lane_journals.specs.declared.event.LaneEvent.{LaneEvent}
 use Rattle.lane_states.specs.Growing.{IsSettled}
-use Rattle.lane_states.specs.declared.rounds.RoundRun.{RoundRun}
 use Rattle.lane_states.specs.declared.at_shortage.AtShortage.{AtShortage}
 use Rattle.lane_states.specs.declared.at_shortage.AtShortage.TheVariants as at_shortage
 
@@ -22,14 +21,3 @@ NoneIsShort last now J = (k : ℕ) → last < k → k ≤ now → IsSettled k J 
 -- only the last one may have: nothing was sent behind such a reply
 abbrev pub EndsAtOnce : ℕ → ℕ → List LaneEvent → Type 0
 EndsAtOnce last now J = (k : ℕ) → last < k → k < now → IsSettled k J false
-
--- ---- a round
-
--- whether a node has wanted memory for the round so far
-abbrev pub wants_memory : RoundRun → Bool
-wants_memory x = x.unread || x.unapplied
-
--- none has
-pub record HadMemory (x : RoundRun) : Type 0 where
-  pub read : x.unread ≡ false
-  pub applied : x.unapplied ≡ false

@@ -2,7 +2,7 @@
 use Rattle.std.specs.Prelude.{◌≡◌, ◌++◌, ℕ, Bool, true, false, List, Option, Some, None, slice_get}
 use Rattle.std.specs.List.{list_any}
 use Rattle.stamps.specs.declared.stamp.Stamp.{Stamp}
-use Rattle.entry_maps.specs.declared.entry.Entry.{Entry}
+use Rattle.documents.specs.declared.entry.Entry.{Entry}
 use Rattle.lane_journals.specs.Stamps.{same_stamp}
 use Rattle.lane_journals.specs.Readers.{only_if}
 use Rattle.lane_journals.specs.Meanings.{entry_at}

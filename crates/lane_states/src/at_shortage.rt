@@ -2,7 +2,7 @@ ghost use Rattle.std.specs.Prelude.{◌≡◌};
 ghost use Rattle.lane_states.specs.Shortages.{ends_at};
 
 /// What is done at a reply that says that the node wants memory.
-#[derive(Clone, Copy, Debug, PartialEq, Eq)]
+#[derive(Clone, Copy, PartialEq, Eq)]
 pub enum AtShortage {
     /// The others are asked all the same, and an operation answers by what all of them said.
     GoOn,

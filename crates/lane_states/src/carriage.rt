@@ -1,7 +1,7 @@
 ghost use Rattle.std.specs.Prelude.{◌≡◌, ◌≤◌, ◌<◌, ◌+◌, ◌∷◌, ℕ, true, false, OnOk, OnErr, IfSome, length, vec_len, vec_capacity};
 ghost use Rattle.messages.specs.Noting.{noted_body};
 ghost use Rattle.service_layer.specs.Takes.{IsKeyOf};
-ghost use Rattle.late_messages.specs.Waiting.{NoneIsDue, AreSentBefore};
+ghost use Rattle.messages.specs.Waiting.{NoneIsDue, AreSentBefore};
 ghost use Rattle.lane_journals.specs.Meanings.{entry_at};
 ghost use Rattle.lane_journals.specs.KeptJournals.{IsLegalStep};
 ghost use Rattle.lane_carriage.specs.Carriage.{IsGivenOut, is_cut_off};
@@ -12,14 +12,14 @@ ghost use Rattle.node_journals.specs.Replaying.{sending, delivered};
 ghost use Rattle.lane_keeping.specs.LaneKeeping.{setting_of, node_in};
 ghost use Rattle.lane_keeping.specs.Asking.{IsJustSent, IsTakenBy};
 ghost use Rattle.lane_states.specs.LaneStates.{journal_of, IsKept, IsComing, HasRoom, Receives, NodesOn};
-ghost use Rattle.lane_states.specs.Growing.{DeliversOne, DeliversSome};
+ghost use Rattle.lane_states.specs.Growing.{DeliversOne};
+ghost use Rattle.lane_carriage.specs.Carrying.{DeliversSome};
 
 use crate::lane_state::{LaneState, push_within};
 use crate::parts::make_nodes;
 use lane_journals::LaneEvent;
 use lane_keeping::laws::events_are_kept;
-use late_messages::Late;
-use messages::{Message, NotedBody, Reply};
+use messages::{Late, Message, NotedBody, Reply};
 use node_journals::laws::nodes_hold;
 use value_lists::NoMemory;
 

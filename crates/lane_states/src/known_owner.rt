@@ -6,12 +6,12 @@ ghost use Rattle.lane_states.specs.LaneStates.{journal_of, IsKept};
 use crate::lane_state::LaneState;
 use bucket_ids::Bucket;
 use cluster_states::ClusterState;
-use ideal_nodes::owner_among;
+use ideal_nodes::{owner, owner_among};
 use node_sets::NodeSet;
 use std::marker::Model;
 
 /// The owner of a lane among distributors, which is reckoned once.
-#[derive(Debug, Drop)]
+#[derive(Drop)]
 pub struct KnownOwner {
     lane: Bucket,
     distributors: NodeSet,
@@ -72,6 +72,18 @@ impl LaneState {
         match known.owner_of(self.lane, state) {
             Some(owner) => owner,
             None => self.owner_under(state),
+        }
+    }
+
+    /// The owner of the lane under a state that was published.
+    pub fn owner_under(&self, state: &ClusterState) -> u8
+        requires keeps { IsKept self.now }
+        requires published { state_in state.now.version (journal_of self.now) ≡ Some state.now }
+        ensures { IsOwner self.now.lane state.now result }
+    {
+        match owner(self.lane, state) {
+            Some(owner) => owner,
+            None => unreachable!(),
         }
     }
 }

@@ -1,10 +1,12 @@
 ghost use Rattle.std.specs.Prelude.{◌≡◌, ◌≤◌, ◌<◌, ◌+◌, ◌-◌, ◌^◌, ◌∷◌, [], None, Some, OnOk, vec_len, vec_capacity};
 ghost use Rattle.cluster_states.specs.Publishing.{publish_fault};
 ghost use Rattle.lane_journals.specs.Places.{told};
-ghost use Rattle.lane_journals.specs.KeptJournals.{past};
+ghost use Rattle.lane_journals.specs.KeptJournals.{past, IsLegalStep};
 ghost use Rattle.lane_journals.specs.declared.event.LaneEvent.TheVariants as event;
 ghost use Rattle.node_journals.specs.Replaying.{sending};
 ghost use Rattle.lane_keeping.specs.LaneKeeping.{setting_of};
+ghost use Rattle.lane_keeping.specs.Laws.{IsQuietEvent};
+ghost use Rattle.lane_keeping.specs.Tidings.{IsNoStop};
 ghost use Rattle.lane_states.specs.LaneStates.{journal_of, IsKept, Asks};
 ghost use Rattle.lane_keeping.specs.Asking.{IsJustSent};
 
@@ -13,9 +15,8 @@ use cluster_states::ClusterState;
 use distributor_part::{DistributorPart, Rules};
 use lane_journals::LaneEvent;
 use lane_journals::laws::states_are_published;
-use lane_keeping::laws::{asks_are_kept, lanes_begin, states_are_kept};
-use late_messages::LateList;
-use messages::{Message, NotedBody};
+use lane_keeping::laws::{asks_are_kept, events_are_kept, lanes_begin, states_are_kept};
+use messages::{LateList, Message, NotedBody};
 use node_sets::NodeSet;
 use service_layer::NodePart;
 use std::alloc::Global;
@@ -142,5 +143,21 @@ impl LaneState {
                 body: NotedBody::Ask,
             },
         );
+    }
+    /// Notes an event that leaves nodes and parts as they are, and by which no node stops or starts.
+    pub fn note(&mut self, event: LaneEvent)
+        requires keeps { IsKept self.old }
+        requires quiet { IsQuietEvent event }
+        requires no_stop { IsNoStop event }
+        requires legal { IsLegalStep (setting_of self.old.lane self.old.rules) (journal_of self.old) event }
+        requires room { vec_len self.old.journal + 1 ≤ vec_capacity self.old.journal }
+        ensures keeps { IsKept self.new }
+        ensures grows { journal_of self.new ≡ event ∷ journal_of self.old }
+        ensures after { self.new ≡ record self.old { journal = self.new.journal } }
+        ensures len { vec_len self.new.journal ≡ vec_len self.old.journal + 1 }
+        ensures capacity { vec_capacity self.old.journal ≤ vec_capacity self.new.journal }
+    {
+        events_are_kept();
+        push_within(&mut self.journal, event);
     }
 }

@@ -8,39 +8,29 @@
 //!
 //! Each call says by which events the journal grows. A distributor hears the newest state (`parts`). Nodes stop and
 //! start (`stopping`); a message to a stopped node is not delivered. A message is delivered, or kept and delivered
-//! when it falls due (`carriage`). An owner opens its state: it asks node
-//! after node, deals with each Ask by the fate that the carrier gives, and is told what came back (`opening`);
-//! so is each message of a round (`rounds`) and of an operation that is prepared (`steps`). Where a node wants memory an
-//! opening and a round go on, or end at once, as their caller says (`at_shortage`).
+//! when it falls due (`carriage`); one that says something of a row is sent and dealt with by the fate that the
+//! carrier gives (`saying`). What an owner does in several messages stands above: openings and rounds in
+//! `lane_rounds`, the operation of a line in `lane_lines`.
 //!
 //! ```text
 //! let mut lane = LaneState::new(alloc, bucket, rules);
 //! lane.room()?;
 //! lane.publish(&state);                   // Published { .. }
 //! lane.hear(distributor)?;                // Heard { .. }
-//! lane.open_state(distributor, key, &mut carrier, AtShortage::GoOn)?;    // Sent { .. }, Delivered { .. }, Returned { .. }, .., Opened { .. }
+//! lane.tell(message, &mut carrier)?;      // Sent { .. }, Delivered { .. }, Returned { .. }
 //! ```
 #![tactic(auto)]
 
 pub mod at_shortage;
 pub mod carriage;
-pub mod filled_rows;
 pub mod known_owner;
 pub mod lane_state;
-pub mod opened_lines;
-pub mod opening;
-pub mod operations;
 pub mod parts;
-pub mod readying;
-pub mod rounds;
 pub mod saying;
 pub mod shown;
-pub mod steps;
 pub mod stopping;
 pub mod written;
 
 pub use at_shortage::AtShortage;
 pub use known_owner::KnownOwner;
 pub use lane_state::LaneState;
-pub use readying::Shortage;
-pub use rounds::{RoundEnd, RoundRun};

@@ -8,7 +8,7 @@ ghost use Rattle.lane_keeping.specs.LaneKeeping.{IsIdle, node_in, part_in};
 ghost use Rattle.lane_keeping.specs.Acting.{IsActing};
 ghost use Rattle.lane_keeping.specs.Asking.{OthersStay};
 ghost use Rattle.lane_states.specs.LaneStates.{journal_of, IsKept, HasRoom, part_of, AreResting};
-ghost use Rattle.lane_states.specs.Growing.{is_older, version_held, heard_next, heard_below};
+ghost use Rattle.lane_keeping.specs.Tidings.{is_older, version_held, heard_next, heard_below};
 
 use crate::lane_state::{LaneState, push_within};
 use bucket_ids::Bucket;

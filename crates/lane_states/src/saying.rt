@@ -1,7 +1,7 @@
 ghost use Rattle.std.specs.Prelude.{◌≡◌, ◌≤◌, ◌<◌, ◌+◌, true, false, OnErr, IfOk, IfSome, IfNone, OnOk, length, vec_len, vec_capacity};
 ghost use Rattle.carriers.specs.declared.fate.Fate.TheVariants as fate;
 ghost use Rattle.messages.specs.Noting.{noted_body};
-ghost use Rattle.late_messages.specs.Waiting.{AreSentBefore};
+ghost use Rattle.messages.specs.Waiting.{AreSentBefore};
 ghost use Rattle.lane_journals.specs.Readers.{returned};
 ghost use Rattle.lane_journals.specs.Meanings.{history, entry_at};
 ghost use Rattle.lane_journals.specs.KeptJournals.{IsLegalStep};

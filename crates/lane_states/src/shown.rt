@@ -4,10 +4,11 @@ ghost use Rattle.std.specs.FinMap as fin;
 ghost use Rattle.distributor_part.specs.Parts.{rows_of};
 ghost use Rattle.lane_keeping.specs.LaneKeeping.{node_in};
 ghost use Rattle.lane_states.specs.LaneStates.{part_of};
-ghost use Rattle.lane_states.specs.Shown.{node_or_new};
+ghost use Rattle.lane_keeping.specs.Shown.{node_or_new};
 
 use crate::lane_state::LaneState;
 use bucket_db::Row;
+use cluster_states::ClusterState;
 use service_layer::NodePart;
 
 impl LaneState {
@@ -35,6 +36,16 @@ impl LaneState {
         match self.parts.get(usize::from(distributor)) {
             Some(part) => part.rows(),
             None => &[],
+        }
+    }
+
+    /// The state that a distributor holds, if it holds one.
+    pub fn state_at(&self, distributor: u8) -> Option<ClusterState>
+        ensures { result ≡ (part_of self.now distributor).state }
+    {
+        match self.parts.get(usize::from(distributor)) {
+            Some(part) => part.state(),
+            None => None,
         }
     }
 }

@@ -4,7 +4,7 @@ ghost use Rattle.lane_journals.specs.Meanings.{history};
 ghost use Rattle.lane_journals.specs.declared.event.LaneEvent.TheVariants as event;
 ghost use Rattle.lane_carriage.specs.Carriage.{met};
 ghost use Rattle.lane_carriage.specs.Readers.{IsPrompt};
-ghost use Rattle.lane_states.specs.Growing.{stopped_next, started_next};
+ghost use Rattle.lane_keeping.specs.Tidings.{stopped_next, started_next};
 ghost use Rattle.lane_states.specs.LaneStates.{journal_of, IsKept, AreResting, Receives};
 
 use crate::lane_state::{LaneState, push_within};

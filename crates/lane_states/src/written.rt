@@ -3,13 +3,12 @@ ghost use Rattle.std.specs.Option.{option_copied};
 ghost use Rattle.lane_journals.specs.Stamps.{same_stamp};
 ghost use Rattle.lane_journals.specs.Meanings.{entry_at};
 ghost use Rattle.lane_journals.specs.KeptJournals.{past};
-ghost use Rattle.stamp_places.specs.Places.{place_of};
+ghost use Rattle.stamps.specs.Places.{place_of};
 ghost use Rattle.lane_states.specs.Written.{entry_of, FindsEntries};
 
-use entry_maps::Entry;
+use documents::Entry;
 use lane_journals::LaneEvent;
-use stamp_places::StampPlaces;
-use stamps::Stamp;
+use stamps::{Stamp, StampPlaces};
 use std::alloc::Global;
 use value_lists::NoMemory;
 

@@ -7,7 +7,8 @@ use Rattle.std.proofs.lemmas.Nat.{mod_below}
 use Rattle.std.proofs.lemmas.List.Elements.{All-contains, All-from_recursion}
 use mathlib.Core.Bool.{true≢false}
 use Rattle.bucket_ids.specs.Buckets.{Low, IsBucket, IsIn, has_key, covers, first_child, second_child, parent_of, sibling_of}
-use Rattle.bucket_ids.proofs.KeySets.{low_of_low, children_parts, sibling_parts}
+use Rattle.bucket_ids.proofs.LowBits.{low_of_low}
+use Rattle.bucket_ids.proofs.KeySets.{children_parts, sibling_parts}
 use Rattle.bucket_db.specs.Rows.{Rows, AreRows, AreBuckets, buckets_of}
 use Rattle.bucket_db.specs.Changes.{with_rows, with_halves, with_row, first_half, second_half, split_at, with_joined, IsJoined, at_row, without_delete}
 use Rattle.bucket_db.proofs.RowLists.{bucket_at, valid_at}
@@ -26,7 +27,7 @@ use Rattle.lane_journals.specs.declared.event.LaneEvent.{LaneEvent}
 use Rattle.lane_journals.proofs.Basics.{replied-accepted}
 use Rattle.node_journals.proofs.Words.{contains-is}
 use Rattle.lane_states.specs.Accepting.{IsActiveAt, HasAccepted, IsAccepted, AreRowsAccepted, IsPartAccepted}
-use Rattle.lane_states.proofs.RowLists.{all-get, all-come, all-gone, all-kept, all-at, all-changed}
+use Rattle.lane_rounds.proofs.RowLists.{all-get, all-come, all-gone, all-kept, all-at, all-changed}
 use Rattle.lane_upkeep.specs.declared.owner.Owner.{Owner}
 use Rattle.lane_upkeep.specs.CameBack.{CameBack, is_taken}
 

@@ -19,26 +19,26 @@ use Rattle.node_journals.proofs.Holding.{regions-hold}
 use Rattle.lane_keeping.specs.LaneKeeping.{node_in, setting_of}
 use Rattle.row_keeping.proofs.Serving.{actives}
 use Rattle.lane_rest.specs.Targets.{is_active}
-use Rattle.lane_rest.specs.Nodes as rest_nodes
-use Rattle.lane_rest.specs.Rows as rest
-use Rattle.lane_rest.specs.Rows.{Settings}
-use Rattle.lane_rest.specs.Passes.{AllRows}
-use Rattle.lane_rest.specs.Shapes.{IsSound, IsActiveOn}
-use Rattle.lane_rest.specs.Resting.{IsRow, HasBegun}
-use Rattle.lane_rest.specs.Lanes.{seen_node}
-use Rattle.lane_rest.specs.Scripts.{Script, came}
+use Rattle.pass_model.specs.Nodes as rest_nodes
+use Rattle.pass_model.specs.Rows as rest
+use Rattle.pass_model.specs.Rows.{Settings}
+use Rattle.pass_model.specs.Passes.{AllRows}
+use Rattle.pass_model.specs.Shapes.{IsSound, IsActiveOn}
+use Rattle.pass_model.specs.Resting.{IsRow, HasBegun}
+use Rattle.pass_model.specs.Lanes.{seen_node}
+use Rattle.pass_model.specs.Scripts.{Script, came}
 use Rattle.lane_states.specs.declared.lane_state.LaneState.{LaneState}
 use Rattle.lane_states.specs.LaneStates.{journal_of, part_of}
 use Rattle.lane_states.specs.Accepting.{IsAccepted}
-use Rattle.lane_states.proofs.RowLists.{all-get}
+use Rattle.lane_rounds.proofs.RowLists.{all-get}
 use Rattle.lane_upkeep.specs.declared.owner.Owner.{Owner}
-use Rattle.upkeep_steps.specs.declared.notes.RowNote.{RowNote}
+use Rattle.pass_machine.specs.declared.notes.RowNote.{RowNote}
 use Rattle.lane_upkeep.specs.Passing.{IsPassing, rows_in, HasRow}
-use Rattle.upkeep_runs.proofs.Orders.{rows_apart}
-use Rattle.upkeep_steps.specs.Notes.{note_for, whole_in}
-use Rattle.upkeep_steps.specs.Abstract.{is_accepted}
-use Rattle.upkeep_runs.specs.Worlds.{row_by, row_of}
-use Rattle.upkeep_runs.proofs.Rows.{row_by_bucket, row_valid}
+use Rattle.pass_runs.proofs.Orders.{rows_apart}
+use Rattle.pass_machine.specs.Notes.{note_for, whole_in}
+use Rattle.pass_machine.specs.Abstract.{is_accepted}
+use Rattle.pass_runs.specs.Worlds.{row_by, row_of}
+use Rattle.pass_runs.proofs.Rows.{row_by_bucket, row_valid}
 use Rattle.lane_upkeep.specs.Quiet.{nodes_in, IsCurrent, world_in, AreSettingsIn}
 
 -- ---- rows of a list

@@ -11,11 +11,11 @@ use Rattle.lane_journals.specs.Readers.{held, running}
 use Rattle.lane_journals.specs.declared.event.LaneEvent.{LaneEvent}
 use Rattle.lane_keeping.specs.Asking.{OthersStay}
 use Rattle.lane_states.specs.declared.lane_state.LaneState.{LaneState}
-use Rattle.lane_states.specs.declared.opening.OpeningEnd.{OpeningEnd}
+use Rattle.lane_rounds.specs.declared.opening.OpeningEnd.{OpeningEnd}
 use Rattle.lane_states.specs.LaneStates.{journal_of, part_of, IsKept, HasRoom, IsCarriedBy, IsResting}
-use Rattle.lane_states.specs.Openings.{EndsBy, EndsOpening, StopsOpening}
-use Rattle.lane_states.specs.RoundRuns.{NoneRuns}
-use Rattle.upkeep_answers.specs.Spans.{AreUpkeep, Nothing, OfUpkeep}
+use Rattle.lane_rounds.specs.Openings.{EndsBy, EndsOpening, StopsOpening}
+use Rattle.round_runs.specs.RoundRuns.{NoneRuns}
+use Rattle.upkeep_spans.specs.Spans.{AreUpkeep, Nothing, OfUpkeep}
 use Rattle.lane_upkeep.specs.declared.owner.Owner.{Owner}
 use Rattle.lane_upkeep.specs.Passing.{IsPassing, PassesOn}
 use Rattle.lane_upkeep.specs.Maintaining.{IsBetween}

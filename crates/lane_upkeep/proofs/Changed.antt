@@ -22,13 +22,13 @@ use Rattle.distributor_part.specs.Upkeep.{SplitsRow, JoinsRows, AcceptsAt}
 use Rattle.lane_journals.specs.declared.event.LaneEvent.{LaneEvent}
 use Rattle.lane_states.specs.declared.lane_state.LaneState.{LaneState}
 use Rattle.lane_states.specs.LaneStates.{part_of}
-use Rattle.upkeep_steps.specs.declared.doing.Settle.TheVariants as settle
-use Rattle.upkeep_steps.specs.declared.doing.Doing.{Doing}
-use Rattle.upkeep_steps.specs.declared.doing.Doing.TheVariants.{ResentDelete, ResentActivate, Rounding, Joining, JoinRound, Splitting, SplitFirst, SplitSecond, Settling}
-use Rattle.upkeep_steps.specs.declared.notes.RowNote.{RowNote}
-use Rattle.upkeep_steps.specs.Turns.{View, decided, accepted, rounded}
-use Rattle.upkeep_steps.specs.Going.{IsDecided, IsAccepted, IsRounded, AreLeft, Forgets}
-use Rattle.upkeep_runs.specs.Steps.{IsDecidedBy}
+use Rattle.pass_machine.specs.declared.doing.Settle.TheVariants as settle
+use Rattle.pass_machine.specs.declared.doing.Doing.{Doing}
+use Rattle.pass_machine.specs.declared.doing.Doing.TheVariants.{ResentDelete, ResentActivate, Rounding, Joining, JoinRound, Splitting, SplitFirst, SplitSecond, Settling}
+use Rattle.pass_machine.specs.declared.notes.RowNote.{RowNote}
+use Rattle.pass_machine.specs.Turns.{View, decided, accepted, rounded}
+use Rattle.pass_machine.specs.Going.{IsDecided, IsAccepted, IsRounded, AreLeft, Forgets}
+use Rattle.pass_runs.specs.Steps.{IsDecidedBy}
 use Rattle.lane_upkeep.specs.declared.owner.Owner.{Owner}
 use Rattle.lane_upkeep.specs.Noted.{IsNoted, AreNotes}
 use Rattle.lane_upkeep.specs.Passing.{rows_in}

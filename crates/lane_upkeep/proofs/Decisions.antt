@@ -25,20 +25,22 @@ use Rattle.lane_keeping.specs.LaneKeeping.{part_in, Keeps}
 use Rattle.lane_keeping.specs.Acting.{IsActing}
 use Rattle.lane_keeping.specs.Asking.{OthersStay}
 use Rattle.lane_keeping.specs.Laws.{IsKeptNext}
-use Rattle.row_keeping.specs.Deciding.{IsDeciding, HasDelete, IsOver}
+use Rattle.row_keeping.specs.Deciding.{IsDeciding, HasDelete, IsDeleteOver}
 use Rattle.distributor_part.proofs.PartLaws.{row_at}
-use Rattle.lane_rounds.proofs.Waiting.{answered-stays}
+use Rattle.round_keeping.proofs.Waiting.{answered-stays}
 use Rattle.lane_states.specs.declared.lane_state.LaneState.{LaneState}
-use Rattle.lane_states.specs.LaneStates.{journal_of, part_of, IsKept, IsKeptBy, HasRoom, AreCarried, IsResting}
-use Rattle.lane_states.specs.RoundRuns.{NoneRuns}
+use Rattle.lane_states.specs.LaneStates.{journal_of, part_of, IsKept, IsKeptBy, HasRoom, IsResting}
+use Rattle.lane_carriage.specs.Carrying.{AreCarried}
+use Rattle.round_runs.specs.RoundRuns.{NoneRuns}
 use Rattle.lane_states.specs.Accepting.{IsPartAccepted, AreAccepted}
 use Rattle.lane_states.proofs.Accepting.{accepted-but}
 use Rattle.lane_states.proofs.Kept.{kept_more, kept_still}
-use Rattle.lane_states.proofs.Places.{part-at, part-own, part-others}
-use Rattle.lane_states.proofs.Runs.{carried-decided}
-use Rattle.upkeep_answers.specs.Spans.{AreUpkeep, OfUpkeep, Nothing, More}
+use Rattle.lane_states.proofs.Places.{part-at}
+use Rattle.lane_keeping.proofs.Parts.{part-own, part-others}
+use Rattle.round_runs.proofs.Runs.{carried-decided}
+use Rattle.upkeep_spans.specs.Spans.{AreUpkeep, OfUpkeep, Nothing, More}
 use Rattle.lane_upkeep.specs.declared.owner.Owner.{Owner}
-use Rattle.upkeep_steps.specs.declared.notes.RowNote.{RowNote}
+use Rattle.pass_machine.specs.declared.notes.RowNote.{RowNote}
 use Rattle.lane_upkeep.specs.Deciding.{HasEnded}
 use Rattle.lane_upkeep.specs.Noted.{StaysKnown}
 use Rattle.lane_upkeep.specs.Notes.{KnowsNote}
@@ -290,7 +292,7 @@ has-parent p q at slice read x whole same is =
 
 -- a Delete that is over is so under the names of the call
 pub delete-ends : (c : LaneState) (now : List Part) (o : Owner) (bucket : Low) (node : ℕ)
-    → ((delete : Deleting) (x : EndsDelete (part_of c o.distributor) (part_in c.lane c.rules now o.distributor) delete.bucket delete.node) → HasDelete x.rows delete → IsOver (history (journal_of c)) o.state delete
+    → ((delete : Deleting) (x : EndsDelete (part_of c o.distributor) (part_in c.lane c.rules now o.distributor) delete.bucket delete.node) → HasDelete x.rows delete → IsDeleteOver (history (journal_of c)) o.state delete
     → IsKeptNext c.lane c.rules (journal_of c) c.newest c.last c.nodes.items now (Decided o.distributor (o.state).version (DeleteOver delete.bucket delete.node)))
     → EndsDelete (part_of c o.distributor) (part_in c.lane c.rules now o.distributor) bucket node → HasEnded c o bucket node
     → IsKeptNext c.lane c.rules (journal_of c) c.newest c.last c.nodes.items now (Decided o.distributor (o.state).version (DeleteOver bucket node))

@@ -4,9 +4,9 @@ use Rattle.std.specs.List.{list_any}
 use Rattle.std.proofs.lemmas.Bool.{eqb-true, cases_lt}
 use Rattle.std.proofs.lemmas.List.Elements.{Contains-push_cases}
 use Rattle.std.proofs.lemmas.List.Folds.{list_any-append}
-use Rattle.lane_journals.proofs.Walking.{contains-none}
+use Rattle.proof_basics.proofs.Lists.{contains-none}
 use Rattle.merge_rounds.specs.Rounds.{RoundState, pieces_by}
-use Rattle.upkeep_steps.specs.declared.notes.Exact.{Exact}
+use Rattle.pass_machine.specs.declared.notes.Exact.{Exact}
 use Rattle.lane_upkeep.specs.RoundNotes.{serial_in, AreExactBelow}
 
 other-number : (a b : ℕ) → (a ≡ b → ⊥) → (a == b) ≡ false

@@ -11,9 +11,9 @@ use Rattle.lane_journals.specs.declared.event.LaneEvent.TheVariants.{Published, 
 use Rattle.lane_keeping.specs.Asking.{OthersStay}
 use Rattle.lane_states.specs.declared.lane_state.LaneState.{LaneState}
 use Rattle.lane_states.specs.LaneStates.{journal_of}
-use Rattle.upkeep_answers.specs.Spans.{IsUpkeepEvent, AreUpkeep, Nothing, More}
+use Rattle.upkeep_spans.specs.Spans.{IsUpkeepEvent, AreUpkeep, Nothing, More}
 use Rattle.lane_upkeep.specs.declared.owner.Owner.{Owner}
-use Rattle.upkeep_steps.specs.declared.notes.RowNote.{RowNote}
+use Rattle.pass_machine.specs.declared.notes.RowNote.{RowNote}
 use Rattle.lane_upkeep.specs.Passing.{PassesOn}
 use Rattle.lane_upkeep.specs.Noted.{StaysKnown, AreNotes}
 

@@ -1,35 +1,35 @@
 -- Lemmas of a pass: of a message and a round, of decisions, of what is known of rows, and of how a pass goes on.
-pub mod Upkept
-pub mod Tellings
-pub mod NotesStay
-pub mod Exacts
-pub mod Passing
-pub mod RoundsLeft
-pub mod Going
-pub mod Betweens
-pub mod Decisions
-pub mod Replies
-pub mod UnderWay
-pub mod Permitted
-pub mod Told
-pub mod NextSteps
-pub mod Changed
-pub mod Decided
-pub mod Rounded
-pub mod Noting
-pub mod QuietOpenings
-pub mod QuietTellings
-pub mod QuietDecisions
-pub mod QuietSteps
-pub mod QuietRounds
-pub mod Accepted
-pub mod Begun
-pub mod RestingStates
-pub mod RestingRows
-pub mod Resting
-pub mod QuietEnds
-pub mod QuietNoted
-pub mod QuietMade
-pub mod QuietRan
-pub mod Standings
-pub mod Taken
+mod Upkept
+mod Tellings
+mod NotesStay
+mod Exacts
+mod Passing
+mod RoundsLeft
+mod Going
+mod Betweens
+mod Decisions
+mod Replies
+mod UnderWay
+mod Permitted
+mod Told
+mod NextSteps
+mod Changed
+mod Decided
+mod Rounded
+mod Noting
+mod QuietOpenings
+mod QuietTellings
+mod QuietDecisions
+mod QuietSteps
+mod QuietRounds
+mod Accepted
+mod Begun
+mod RestingStates
+mod RestingRows
+mod Resting
+mod QuietEnds
+mod QuietNoted
+mod QuietMade
+mod QuietRan
+mod Standings
+mod Taken

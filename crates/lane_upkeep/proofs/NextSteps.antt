@@ -4,14 +4,14 @@ use Rattle.std.proofs.lemmas.Option.{slice_get_within}
 use Rattle.bucket_ids.specs.Buckets.{Low}
 use Rattle.messages.specs.declared.body.Body.{Body}
 use Rattle.messages.specs.declared.decision.Decision.{Decision}
-use Rattle.rest_settings.proofs.Ordering.{ideal-there}
+use Rattle.pass_model.proofs.Ordering.{ideal-there}
 use Rattle.lane_states.specs.declared.lane_state.LaneState.{LaneState}
-use Rattle.upkeep_steps.specs.declared.pass.UpkeepPass.{UpkeepPass}
-use Rattle.upkeep_steps.specs.declared.doing.UpkeepStep.{UpkeepStep}
-use Rattle.upkeep_steps.specs.declared.doing.UpkeepStep.TheVariants.{Tell, Decide}
-use Rattle.upkeep_steps.specs.declared.doing.Turn.TheVariants.{Says}
-use Rattle.upkeep_steps.specs.Turns.{turn_at}
-use Rattle.upkeep_steps.proofs.Allowing.{says_allowed}
+use Rattle.pass_machine.specs.declared.pass.UpkeepPass.{UpkeepPass}
+use Rattle.pass_machine.specs.declared.doing.UpkeepStep.{UpkeepStep}
+use Rattle.pass_machine.specs.declared.doing.UpkeepStep.TheVariants.{Tell, Decide}
+use Rattle.pass_machine.specs.declared.doing.Turn.TheVariants.{Says}
+use Rattle.pass_machine.specs.Turns.{turn_at}
+use Rattle.pass_machine.proofs.Allowing.{says_allowed}
 use Rattle.lane_upkeep.specs.declared.owner.Owner.{Owner}
 use Rattle.lane_upkeep.specs.Passing.{rows_in}
 use Rattle.lane_upkeep.specs.UnderWay.{view_in, AreIdeal, IsUnderWay, IsNextStep, Comes}

@@ -6,8 +6,9 @@ use Rattle.node_sets.specs.Members.{has_node}
 use Rattle.pieces.specs.declared.piece.Piece.{Piece}
 use Rattle.messages.specs.declared.step.NodePieces.{NodePieces}
 use Rattle.merge_rounds.specs.Rounds.{pieces_by}
-use Rattle.laid_pieces.proofs.PieceLaws.{bucket-same}
-use Rattle.lane_journals.proofs.Walking.{contains-none}
+use Rattle.pieces.proofs.PieceLaws.{bucket-same}
+use Rattle.proof_basics.proofs.Lists.{contains-none}
+use Rattle.lane_journals.proofs.Basics.{answer-stays}
 use Rattle.bucket_ids.specs.Buckets.{Low}
 use Rattle.cluster_states.specs.declared.cluster_state.ClusterState.{ClusterState}
 use Rattle.lane_journals.specs.Buckets.{same_bucket}
@@ -17,12 +18,11 @@ use Rattle.lane_journals.specs.Meanings.{history, meaning}
 use Rattle.lane_journals.specs.declared.event.LaneEvent.{LaneEvent}
 use Rattle.lane_journals.specs.declared.event.LaneEvent.TheVariants.{Sent, Delivered, Returned, Decided}
 use Rattle.messages.specs.declared.decision.Decision.TheVariants.{RoundBegun, RoundEnded}
-use Rattle.lane_journals.proofs.Basics.{answer-stays}
 use Rattle.lane_journals.proofs.BucketLaws.{same_bucket-true}
-use Rattle.lane_rounds.proofs.Waiting.{answered-stays}
-use Rattle.lane_states.proofs.Staying.{IsOfMessage}
-use Rattle.upkeep_steps.specs.declared.notes.RowNote.{RowNote}
-use Rattle.upkeep_steps.specs.declared.notes.Exact.{Exact}
+use Rattle.round_keeping.proofs.Waiting.{answered-stays}
+use Rattle.lane_carriage.proofs.Staying.{IsOfMessage}
+use Rattle.pass_machine.specs.declared.notes.RowNote.{RowNote}
+use Rattle.pass_machine.specs.declared.notes.Exact.{Exact}
 use Rattle.lane_upkeep.specs.Notes.{ShowedExactly, KnowsNote}
 use Rattle.lane_upkeep.specs.RoundNotes.{is_exact, serial_in, NotesRound}
 

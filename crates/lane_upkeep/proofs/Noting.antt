@@ -12,7 +12,7 @@ use Rattle.bucket_ids.specs.Buckets.{IsBucket}
 use Rattle.bucket_ids.specs.Printed.{number_of}
 use Rattle.cluster_states.specs.declared.cluster_state.ClusterState.{ClusterState}
 use Rattle.lane_journals.specs.declared.event.LaneEvent.{LaneEvent}
-use Rattle.upkeep_steps.specs.declared.notes.RowNote.{RowNote}
+use Rattle.pass_machine.specs.declared.notes.RowNote.{RowNote}
 use Rattle.lane_upkeep.specs.Notes.{KnowsNote}
 use Rattle.lane_upkeep.specs.Noted.{IsNoted, AreNotes}
 

@@ -13,18 +13,19 @@ use Rattle.lane_journals.specs.Meanings.{history}
 use Rattle.lane_journals.specs.Places.{state_in}
 use Rattle.lane_journals.specs.declared.event.LaneEvent.{LaneEvent}
 use Rattle.lane_journals.specs.declared.event.LaneEvent.TheVariants.{Sent, Delivered, Returned}
-use Rattle.late_messages.specs.declared.late.Late.{Late}
+use Rattle.messages.specs.declared.late.Late.{Late}
 use Rattle.lane_keeping.specs.LaneKeeping.{part_in}
 use Rattle.lane_keeping.specs.Acting.{IsActing}
-use Rattle.lane_rounds.specs.RoundKeeping.{origin_in}
+use Rattle.round_keeping.specs.RoundKeeping.{origin_in}
 use Rattle.row_keeping.specs.Telling.{IsTelling}
 use Rattle.lane_states.specs.declared.lane_state.LaneState.{LaneState}
-use Rattle.lane_states.specs.LaneStates.{journal_of, part_of, IsKept, HasRoom, IsCarriedBy, AreCarried, IsResting, Went}
-use Rattle.lane_states.specs.RoundRuns.{NoneRuns}
+use Rattle.lane_states.specs.LaneStates.{journal_of, part_of, IsKept, HasRoom, IsCarriedBy, IsResting, Went}
+use Rattle.lane_carriage.specs.Carrying.{AreCarried}
+use Rattle.round_runs.specs.RoundRuns.{NoneRuns}
 use Rattle.lane_states.specs.Tellings.{IsRowBody}
-use Rattle.lane_states.proofs.Staying.{IsOfMessage}
+use Rattle.lane_carriage.proofs.Staying.{IsOfMessage}
 use Rattle.lane_states.proofs.Tellings.{stays-went}
-use Rattle.upkeep_answers.specs.Spans.{AreUpkeep, OfUpkeep, Nothing}
+use Rattle.upkeep_spans.specs.Spans.{AreUpkeep, OfUpkeep, Nothing}
 use Rattle.lane_upkeep.specs.declared.owner.Owner.{Owner}
 use Rattle.lane_upkeep.specs.Passing.{IsPassing, PassesOn, MayTell}
 use Rattle.lane_upkeep.specs.RoundNotes.{GainsMarks}

@@ -15,7 +15,7 @@ use Rattle.bucket_ids.specs.Buckets.{Low, IsBucket}
 use Rattle.bucket_ids.specs.Printed.{number_of}
 use Rattle.node_sets.specs.Members.{has_node, size_of}
 use Rattle.node_sets.proofs.Bits.{has_and, has_or, has_and_not, has_one, has_none}
-use Rattle.laid_pieces.proofs.PieceLaws.{bucket-same}
+use Rattle.pieces.proofs.PieceLaws.{bucket-same}
 use Rattle.cluster_states.specs.declared.cluster_state.ClusterState.{ClusterState}
 use Rattle.cluster_states.specs.Publishing.{serves}
 use Rattle.ideal_nodes.specs.Placement.{IsIdeal}
@@ -37,31 +37,31 @@ use Rattle.lane_journals.specs.Readers.{answer, round_of}
 use Rattle.lane_journals.specs.Facts.{AnsweredApply}
 use Rattle.lane_journals.specs.Meanings.{history}
 use Rattle.lane_rest.specs.Targets.{is_member, is_active, is_target_in}
-use Rattle.lane_rest.proofs.Tests.{or_true, or_left, or_right}
-use Rattle.rest_settings.proofs.Counting.{has-member, member-has}
+use Rattle.proof_basics.proofs.Tests.{or_true, or_left, or_right}
+use Rattle.pass_model.proofs.Counting.{has-member, member-has}
 use Rattle.node_journals.specs.Flights.{NamesBucket}
-use Rattle.row_keeping.specs.Deciding.{IsKeeper, IsOver}
+use Rattle.row_keeping.specs.Deciding.{IsKeeper, IsDeleteOver}
 use Rattle.row_keeping.specs.Telling.{IsOfRow}
 use Rattle.row_keeping.proofs.Serving.{actives}
 use Rattle.lane_states.specs.declared.lane_state.LaneState.{LaneState}
 use Rattle.lane_states.specs.LaneStates.{journal_of, part_of}
-use Rattle.upkeep_steps.proofs.Siblings.{to-sibling}
-use Rattle.upkeep_steps.specs.declared.doing.Settle.TheVariants as settle
-use Rattle.upkeep_steps.specs.declared.doing.Doing.{Doing}
-use Rattle.upkeep_steps.specs.declared.doing.Doing.TheVariants.{ResendingDelete, ResentDelete, ResendingActivate, ResentActivate, Rounding, Joining, JoinTold, JoinRound, Splitting, SplitTold, SplitFirst, SplitSecond, Settling, Finished}
-use Rattle.upkeep_steps.specs.declared.doing.UpkeepStep.{UpkeepStep}
-use Rattle.upkeep_steps.specs.declared.doing.UpkeepStep.TheVariants as step
-use Rattle.upkeep_steps.specs.declared.doing.Turn.TheVariants.{Says}
-use Rattle.upkeep_steps.specs.declared.notes.Exact.{Exact}
-use Rattle.upkeep_steps.specs.declared.notes.RowNote.{RowNote}
-use Rattle.upkeep_steps.specs.Notes.{of_bucket, note_for, whole_in}
-use Rattle.upkeep_steps.specs.Places.{can_join}
-use Rattle.upkeep_steps.specs.Settling.{serial_of, serial_among}
-use Rattle.upkeep_steps.specs.Turns.{View, Sees, turn_at}
-use Rattle.upkeep_steps.specs.Allowed.{IsReady, IsAnswered, IsEnded, IsActivation, IsDeletion, IsSaidOf, IsSaid, Allows}
-use Rattle.upkeep_steps.proofs.Allowing.{says_allowed, less}
-use Rattle.upkeep_steps.proofs.Ideals.{is-to-be, asked_serves, be_serves}
-use Rattle.upkeep_steps.proofs.Keepers.{enough_are}
+use Rattle.pass_machine.proofs.Siblings.{to-sibling}
+use Rattle.pass_machine.specs.declared.doing.Settle.TheVariants as settle
+use Rattle.pass_machine.specs.declared.doing.Doing.{Doing}
+use Rattle.pass_machine.specs.declared.doing.Doing.TheVariants.{ResendingDelete, ResentDelete, ResendingActivate, ResentActivate, Rounding, Joining, JoinTold, JoinRound, Splitting, SplitTold, SplitFirst, SplitSecond, Settling, Finished}
+use Rattle.pass_machine.specs.declared.doing.UpkeepStep.{UpkeepStep}
+use Rattle.pass_machine.specs.declared.doing.UpkeepStep.TheVariants as step
+use Rattle.pass_machine.specs.declared.doing.Turn.TheVariants.{Says}
+use Rattle.pass_machine.specs.declared.notes.Exact.{Exact}
+use Rattle.pass_machine.specs.declared.notes.RowNote.{RowNote}
+use Rattle.pass_machine.specs.Notes.{of_bucket, note_for, whole_in}
+use Rattle.pass_machine.specs.Places.{can_join}
+use Rattle.pass_machine.specs.Settling.{serial_of, serial_among}
+use Rattle.pass_machine.specs.Turns.{View, Sees, turn_at}
+use Rattle.pass_machine.specs.Allowed.{IsReady, IsAnswered, IsEnded, IsActivation, IsDeletion, IsSaidOf, IsSaid, Allows}
+use Rattle.pass_machine.proofs.Allowing.{says_allowed, less}
+use Rattle.pass_machine.proofs.Ideals.{is-to-be, asked_serves, be_serves}
+use Rattle.pass_machine.proofs.Keepers.{enough_are}
 use Rattle.lane_upkeep.specs.declared.owner.Owner.{Owner}
 use Rattle.lane_upkeep.specs.Notes.{KnowsNote, ShowedExactly}
 use Rattle.lane_upkeep.specs.Noted.{AreNotes}
@@ -387,8 +387,8 @@ module _ (c : LaneState) (o : Owner) (ideal : Low → List ℕ) (p : Passes c o)
       at-most : (a b : ℕ) → nat_le a b ≡ true → a ≤ b
       at-most a b g = grind (arith, nat_tests)
 
-  is-over : (at : ℕ) (row : Row) (delete : Delete) → HasRow c o at row → OfRow c o at (IsRowOver c o) → row.deleting ≡ Some delete → IsOver (history (journal_of c)) o.state delete
-  is-over at row delete found over is = subst (λ (x : Option Delete). IfSome x (λ d. IsOver (history (journal_of c)) o.state d)) is (over row found)
+  is-over : (at : ℕ) (row : Row) (delete : Delete) → HasRow c o at row → OfRow c o at (IsRowOver c o) → row.deleting ≡ Some delete → IsDeleteOver (history (journal_of c)) o.state delete
+  is-over at row delete found over is = subst (λ (x : Option Delete). IfSome x (λ d. IsDeleteOver (history (journal_of c)) o.state d)) is (over row found)
 
   may-decide : (d : Doing) (notes : BTreeMap ℕ RowNote) (at : ℕ) (x : Decision) → AreNotes (journal_of c) o.state notes → KnowsDoing c o d → DecidesAt d at x → (row : Row) → HasRow c o at row → Allows v notes row d x → MayDecide c o at x
   may-decide d notes at (decision.RowSplit b) known k is row found h = (row, found, sym h.bucket, h.fewer)

@@ -5,8 +5,8 @@ use Rattle.lane_journals.specs.Readers.{version}
 use Rattle.lane_journals.specs.Meanings.{history}
 use Rattle.lane_keeping.specs.LaneKeeping.{node_in}
 use Rattle.lane_states.specs.declared.lane_state.LaneState.{LaneState}
-use Rattle.lane_rest.specs.Lanes.{seen_node}
-use Rattle.lane_rest.specs.Scripts.{Script, came}
+use Rattle.pass_model.specs.Lanes.{seen_node}
+use Rattle.pass_model.specs.Scripts.{Script, came}
 use Rattle.lane_upkeep.specs.declared.owner.Owner.{Owner}
 use Rattle.lane_upkeep.specs.Deciding.{Decides, DecidesNothing}
 use Rattle.lane_upkeep.specs.Quiet.{nodes_in, VersionsStay}

@@ -15,7 +15,7 @@ use Rattle.lane_journals.specs.Places.{Setting}
 use Rattle.lane_journals.specs.declared.event.LaneEvent.{LaneEvent}
 use Rattle.lane_journals.proofs.Basics.{sent_before, replied-sent, first_reply-cases}
 use Rattle.lane_journals.proofs.Meant.{meant-legal}
-use Rattle.lane_durability.proofs.BelowLines.{told-version}
+use Rattle.lane_journals.proofs.Versions.{told-version}
 use Rattle.lane_upkeep.specs.declared.owner.Owner.{Owner}
 use Rattle.lane_upkeep.specs.CameBack.{CameBack, is_end}
 

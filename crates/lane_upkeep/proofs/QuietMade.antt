@@ -18,22 +18,22 @@ use Rattle.lane_keeping.specs.LaneKeeping.{node_in}
 use Rattle.lane_states.specs.declared.lane_state.LaneState.{LaneState}
 use Rattle.lane_states.specs.LaneStates.{journal_of, part_of}
 use Rattle.lane_rest.specs.Rest.{documents}
-use Rattle.lane_rest.specs.Rows as rest
-use Rattle.lane_rest.specs.Rows.{Settings, is_target, united, round_node, round_row}
-use Rattle.lane_rest.specs.Scripts.{Script}
+use Rattle.pass_model.specs.Rows as rest
+use Rattle.pass_model.specs.Rows.{Settings, is_target, united, round_node, round_row}
+use Rattle.pass_model.specs.Scripts.{Script}
 use Rattle.lane_rest.specs.Sets.{newest_of}
-use Rattle.lane_rest.specs.Shapes.{Shape, Nothing, shape_of}
+use Rattle.pass_model.specs.Shapes.{Shape, Nothing, shape_of}
 use Rattle.lane_rest.specs.Targets.{is_target_in}
-use Rattle.quiet_ends.specs.Rounding.{applied_if}
-use Rattle.quiet_ends.specs.Noting.{newest_in}
-use Rattle.quiet_ends.specs.Ending.{HasEnded}
+use Rattle.undisturbed_rounds.specs.Rounding.{applied_if}
+use Rattle.undisturbed_rounds.specs.Noting.{newest_in}
+use Rattle.undisturbed_rounds.specs.Ending.{HasEnded}
 use Rattle.lane_upkeep.specs.declared.owner.Owner.{Owner}
-use Rattle.upkeep_steps.specs.declared.notes.RowNote.{RowNote}
+use Rattle.pass_machine.specs.declared.notes.RowNote.{RowNote}
 use Rattle.lane_upkeep.specs.Passing.{rows_in, HasRow}
 use Rattle.lane_upkeep.specs.RoundNotes.{IsNoteOf, GainsMarks}
-use Rattle.upkeep_steps.specs.Abstract.{shown_in, row_with, IsParted}
-use Rattle.upkeep_runs.specs.Worlds.{shown_at, row_by}
-use Rattle.upkeep_runs.proofs.Rows.{set_at_row}
+use Rattle.pass_machine.specs.Abstract.{shown_in, row_with, IsParted}
+use Rattle.pass_runs.specs.Worlds.{shown_at, row_by}
+use Rattle.pass_runs.proofs.Rows.{set_at_row}
 use Rattle.lane_upkeep.specs.Quiet.{nodes_in, AreSettingsIn, NodesBecome, OthersStay, IsRoundQuietly}
 use Rattle.lane_upkeep.proofs.QuietNoted.{note-whole, note-documents, note-holders, note-shape, note-over, note-inside, note-exact}
 

@@ -14,15 +14,15 @@ use Rattle.service_layer.specs.Nodes as lane
 use Rattle.merge_rounds.specs.Rounds.{RoundState, did_show, pieces_by}
 use Rattle.lane_journals.specs.declared.event.LaneEvent.{LaneEvent}
 use Rattle.lane_rest.specs.Rest.{documents}
-use Rattle.lane_rest.specs.Scripts.{Script}
-use Rattle.lane_rest.specs.Shapes.{Shape, Same, Over, Inside, shape_of}
-use Rattle.shown_shapes.specs.Shown.{lies_over, lies_inside, shape_with, shape_shown}
-use Rattle.quiet_ends.specs.Noting.{newest_in}
-use Rattle.quiet_ends.specs.Ending.{HasEnded}
-use Rattle.upkeep_steps.specs.declared.notes.Exact.{Exact}
-use Rattle.upkeep_steps.specs.declared.notes.RowNote.{RowNote}
+use Rattle.pass_model.specs.Scripts.{Script}
+use Rattle.pass_model.specs.Shapes.{Shape, Same, Over, Inside, shape_of}
+use Rattle.pass_model.specs.Shown.{lies_over, lies_inside, shape_with, shape_shown}
+use Rattle.undisturbed_rounds.specs.Noting.{newest_in}
+use Rattle.undisturbed_rounds.specs.Ending.{HasEnded}
+use Rattle.pass_machine.specs.declared.notes.Exact.{Exact}
+use Rattle.pass_machine.specs.declared.notes.RowNote.{RowNote}
 use Rattle.lane_upkeep.specs.RoundNotes.{serial_in, IsNoteOf}
-use Rattle.upkeep_steps.specs.Abstract.{shown_in}
+use Rattle.pass_machine.specs.Abstract.{shown_in}
 use Rattle.lane_upkeep.proofs.QuietRounds.{serial-same, note-shows}
 
 -- ---- members and answers

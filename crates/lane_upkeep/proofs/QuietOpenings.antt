@@ -25,22 +25,23 @@ use Rattle.lane_journals.specs.declared.event.LaneEvent.{LaneEvent}
 use Rattle.lane_journals.specs.declared.event.LaneEvent.TheVariants as event
 use Rattle.lane_journals.specs.declared.event.LaneEvent.TheVariants.{Delivered, Returned}
 use Rattle.lane_journals.proofs.Basics.{sent-stays, first_reply-stays, returned-replied}
+use Rattle.proof_basics.proofs.Options.{some-none}
 use Rattle.lane_journals.proofs.Meant.{meant-legal}
-use Rattle.lane_durability.proofs.BelowLines.{some-none}
 use Rattle.node_journals.specs.Replaying.{sending}
 use Rattle.lane_keeping.specs.LaneKeeping.{setting_of, IsNewest, PartKeeps, Holds, KnowsOpening}
 use Rattle.lane_keeping.specs.Acting.{IsActing}
-use Rattle.lane_states.specs.Replies.{IsOwed, known-owed, not-fenced}
-use Rattle.lane_states.specs.Hearing.{answer-given, ask-counts}
+use Rattle.lane_journals.proofs.Replies.{IsOwed, known-owed, not-fenced}
+use Rattle.lane_journals.proofs.Hearing.{answer-given, ask-counts}
 use Rattle.lane_states.specs.declared.lane_state.LaneState.{LaneState}
-use Rattle.lane_states.specs.declared.opening.OpeningEnd.{OpeningEnd}
+use Rattle.lane_rounds.specs.declared.opening.OpeningEnd.{OpeningEnd}
 use Rattle.lane_states.specs.LaneStates.{journal_of, part_of, IsKept}
 use Rattle.lane_states.specs.Growing.{CameShort, IsSettled}
-use Rattle.lane_states.specs.Openings.{IsGone, IsAsked, Nobody, More, LacksAfter, EndsBy, EndsOpening}
-use Rattle.lane_states.proofs.OpeningRuns.{carried, legal-sent}
-use Rattle.lane_states.proofs.Staying.{IsOfMessage, stays-asked}
-use Rattle.upkeep_answers.specs.Spans.{AreUpkeep, OfUpkeep, later}
-use Rattle.upkeep_answers.specs.Causes.{first_absent}
+use Rattle.lane_rounds.specs.Openings.{IsGone, IsAsked, Nobody, More, LacksAfter, EndsBy, EndsOpening}
+use Rattle.lane_rounds.proofs.OpeningSends.{carried, legal-sent}
+use Rattle.lane_carriage.proofs.Staying.{IsOfMessage}
+use Rattle.lane_rounds.proofs.Staying.{stays-asked}
+use Rattle.upkeep_spans.specs.Spans.{AreUpkeep, OfUpkeep, later}
+use Rattle.upkeep_spans.specs.Causes.{first_absent}
 
 abbrev Events : Type 0
 Events = List LaneEvent

@@ -4,7 +4,7 @@ use Rattle.bucket_ids.specs.Buckets.{Low}
 use Rattle.cluster_states.specs.declared.cluster_state.ClusterState.{ClusterState}
 use Rattle.cluster_states.specs.Publishing.{serves}
 use Rattle.carriers.specs.declared.fate.Fate.{Fate}
-use Rattle.late_messages.specs.declared.late.Late.{Late}
+use Rattle.messages.specs.declared.late.Late.{Late}
 use Rattle.bucket_db.specs.Rows.{Rows}
 use Rattle.bucket_db.specs.declared.row.Row.{Row}
 use Rattle.distributor_part.specs.declared.rules.Rules.{Rules}
@@ -18,16 +18,16 @@ use Rattle.lane_journals.specs.Meanings.{history}
 use Rattle.lane_journals.specs.declared.event.LaneEvent.{LaneEvent}
 use Rattle.lane_keeping.specs.LaneKeeping.{node_in, setting_of}
 use Rattle.lane_states.specs.declared.lane_state.LaneState.{LaneState}
-use Rattle.lane_states.specs.declared.rounds.RoundRun.{RoundRun}
-use Rattle.lane_states.specs.declared.rounds.RoundEnd.{RoundEnd}
+use Rattle.round_runs.specs.declared.round_run.RoundRun.{RoundRun}
+use Rattle.round_runs.specs.declared.round_run.RoundEnd.{RoundEnd}
 use Rattle.lane_states.specs.LaneStates.{journal_of, part_of}
-use Rattle.lane_states.specs.RoundRuns.{Begins}
-use Rattle.lane_rest.specs.Rows.{Settings}
-use Rattle.lane_rest.specs.Scripts.{Script}
-use Rattle.quiet_spans.specs.Quiet.{Extends}
-use Rattle.quiet_ends.specs.Ending.{IsWholeRound, HasEnded}
+use Rattle.round_runs.specs.RoundRuns.{Begins}
+use Rattle.pass_model.specs.Rows.{Settings}
+use Rattle.pass_model.specs.Scripts.{Script}
+use Rattle.undisturbed_spans.specs.Undisturbed.{Extends}
+use Rattle.undisturbed_rounds.specs.Ending.{IsWholeRound, HasEnded}
 use Rattle.lane_upkeep.specs.declared.owner.Owner.{Owner}
-use Rattle.upkeep_steps.specs.declared.notes.RowNote.{RowNote}
+use Rattle.pass_machine.specs.declared.notes.RowNote.{RowNote}
 use Rattle.lane_upkeep.specs.Passing.{IsPassing, PassesOn, HasRow}
 use Rattle.lane_upkeep.specs.RoundNotes.{NotesRun, GainsMarks}
 use Rattle.lane_upkeep.specs.Quiet.{Goes, IsCurrent, AreSettingsIn, DoesQuietly, IsRoundQuietly}

@@ -7,11 +7,11 @@ use Rattle.bucket_ids.specs.Buckets.{Low}
 use Rattle.node_sets.specs.Members.{has_node}
 use Rattle.pieces.specs.declared.piece.Piece.{Piece}
 use Rattle.merge_rounds.specs.Rounds.{RoundState, pieces_by}
-use Rattle.shown_shapes.specs.Shown.{lies_over, lies_inside, serial_shown, shape_with, shape_shown}
-use Rattle.upkeep_steps.specs.declared.notes.Exact.{Exact}
-use Rattle.upkeep_steps.specs.declared.notes.RowNote.{RowNote}
+use Rattle.pass_model.specs.Shown.{lies_over, lies_inside, serial_shown, shape_with, shape_shown}
+use Rattle.pass_machine.specs.declared.notes.Exact.{Exact}
+use Rattle.pass_machine.specs.declared.notes.RowNote.{RowNote}
 use Rattle.lane_upkeep.specs.RoundNotes.{is_exact, serial_in, IsNoteOf}
-use Rattle.upkeep_steps.specs.Abstract.{shape_in, shown_in}
+use Rattle.pass_machine.specs.Abstract.{shape_in, shown_in}
 
 pub serial-same : (row : Low) (ps : List Piece) → serial_in row ps ≡ serial_shown row ps
 serial-same row [] = refl

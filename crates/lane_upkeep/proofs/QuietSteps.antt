@@ -17,12 +17,12 @@ use Rattle.lane_keeping.specs.LaneKeeping.{setting_of}
 use Rattle.lane_states.specs.declared.lane_state.LaneState.{LaneState}
 use Rattle.lane_states.specs.LaneStates.{journal_of}
 use Rattle.lane_rest.specs.Rest.{documents}
-use Rattle.lane_rest.specs.Nodes.{Node}
-use Rattle.lane_rest.specs.Rows.{Settings}
-use Rattle.lane_rest.specs.Scripts.{Script, told_body, told_node}
-use Rattle.lane_rest.specs.Worlds.{AreSettingsOf}
-use Rattle.upkeep_answers.specs.Spans.{IsUpkeepEvent, AreUpkeep, Nothing, More}
-use Rattle.quiet_spans.specs.Quiet.{GoesQuietly, Extends}
+use Rattle.pass_model.specs.Nodes.{Node}
+use Rattle.pass_model.specs.Rows.{Settings}
+use Rattle.pass_model.specs.Scripts.{Script, told_body, told_node}
+use Rattle.pass_model.specs.Worlds.{AreSettingsOf}
+use Rattle.upkeep_spans.specs.Spans.{IsUpkeepEvent, AreUpkeep, Nothing, More}
+use Rattle.undisturbed_spans.specs.Undisturbed.{GoesUndisturbed, Extends}
 use Rattle.lane_upkeep.specs.declared.owner.Owner.{Owner}
 use Rattle.lane_upkeep.specs.Passing.{IsPassing, PassesOn}
 use Rattle.lane_upkeep.specs.Deciding.{Decides, DecidesNothing}
@@ -90,19 +90,19 @@ extends_none given e = ([], e)
 
 -- ---- two steps
 
-module _ (first : (e v : ℕ) (d : Script) (given more : List Fate) (J K L : List LaneEvent) → AreUpkeep e v J K → AreUpkeep e v K L → IsCarried given K → IsCarried (given ++ more) L → GoesQuietly d (given ++ more) J L → GoesQuietly d given J K)
-    (second : (e v : ℕ) (d : Script) (given more : List Fate) (J K L : List LaneEvent) → AreUpkeep e v J K → AreUpkeep e v K L → IsCarried given K → IsCarried (given ++ more) L → GoesQuietly d (given ++ more) J L → GoesQuietly d (given ++ more) K L)
+module _ (first : (e v : ℕ) (d : Script) (given more : List Fate) (J K L : List LaneEvent) → AreUpkeep e v J K → AreUpkeep e v K L → IsCarried given K → IsCarried (given ++ more) L → GoesUndisturbed d (given ++ more) J L → GoesUndisturbed d given J K)
+    (second : (e v : ℕ) (d : Script) (given more : List Fate) (J K L : List LaneEvent) → AreUpkeep e v J K → AreUpkeep e v K L → IsCarried given K → IsCarried (given ++ more) L → GoesUndisturbed d (given ++ more) J L → GoesUndisturbed d (given ++ more) K L)
     (c m e : LaneState) (o : Owner) (mid end : List Fate) (a : PassesOn c m o) (b : PassesOn m e o) (p : IsPassing m o mid) (q : IsPassing e o end) (x : Extends mid end) where
   carried-on : IsCarried (mid ++ x.0) (journal_of e)
   carried-on = subst (λ (g : List Fate). IsCarried g (journal_of e)) x.1 (q.carried).carried
 
   -- each is quiet where both together are
   pub goes_first : (d : Script) → Goes d end c e → Goes d mid c m
-  goes_first d g = first o.distributor (o.state).version d mid x.0 (journal_of c) (journal_of m) (journal_of e) a.grows b.grows (p.carried).carried carried-on (subst (λ (f : List Fate). GoesQuietly d f (journal_of c) (journal_of e)) x.1 g)
+  goes_first d g = first o.distributor (o.state).version d mid x.0 (journal_of c) (journal_of m) (journal_of e) a.grows b.grows (p.carried).carried carried-on (subst (λ (f : List Fate). GoesUndisturbed d f (journal_of c) (journal_of e)) x.1 g)
 
   pub goes_second : (d : Script) → Goes d end c e → Goes d end m e
-  goes_second d g = subst (λ (f : List Fate). GoesQuietly d f (journal_of m) (journal_of e)) (sym x.1)
-      (second o.distributor (o.state).version d mid x.0 (journal_of c) (journal_of m) (journal_of e) a.grows b.grows (p.carried).carried carried-on (subst (λ (f : List Fate). GoesQuietly d f (journal_of c) (journal_of e)) x.1 g))
+  goes_second d g = subst (λ (f : List Fate). GoesUndisturbed d f (journal_of m) (journal_of e)) (sym x.1)
+      (second o.distributor (o.state).version d mid x.0 (journal_of c) (journal_of m) (journal_of e) a.grows b.grows (p.carried).carried carried-on (subst (λ (f : List Fate). GoesUndisturbed d f (journal_of c) (journal_of e)) x.1 g))
 
   -- what each does is done by both
   pub quiet_then : (L M : Script → Settings → Type 0) → ((d : Script) (s : Settings) → L d s → VersionsStay c m) → InQuiet mid c m o L → InQuiet end m e o M → InQuiet end c e o (λ d s. L d s × M d s)
@@ -201,10 +201,10 @@ does_say c e o node b given now reply on says = record {
 
 -- the clauses of the law that quiet spans part
 abbrev pub FirstIsQuiet : Type 0
-FirstIsQuiet = (e v : ℕ) (d : Script) (given more : List Fate) (J K L : List LaneEvent) → AreUpkeep e v J K → AreUpkeep e v K L → IsCarried given K → IsCarried (given ++ more) L → GoesQuietly d (given ++ more) J L → GoesQuietly d given J K
+FirstIsQuiet = (e v : ℕ) (d : Script) (given more : List Fate) (J K L : List LaneEvent) → AreUpkeep e v J K → AreUpkeep e v K L → IsCarried given K → IsCarried (given ++ more) L → GoesUndisturbed d (given ++ more) J L → GoesUndisturbed d given J K
 
 abbrev pub SecondIsQuiet : Type 0
-SecondIsQuiet = (e v : ℕ) (d : Script) (given more : List Fate) (J K L : List LaneEvent) → AreUpkeep e v J K → AreUpkeep e v K L → IsCarried given K → IsCarried (given ++ more) L → GoesQuietly d (given ++ more) J L → GoesQuietly d (given ++ more) K L
+SecondIsQuiet = (e v : ℕ) (d : Script) (given more : List Fate) (J K L : List LaneEvent) → AreUpkeep e v J K → AreUpkeep e v K L → IsCarried given K → IsCarried (given ++ more) L → GoesUndisturbed d (given ++ more) J L → GoesUndisturbed d (given ++ more) K L
 
 pub does_then : FirstIsQuiet → SecondIsQuiet → (c m e : LaneState) (o : Owner) (given mid end : List Fate) (L M : Script → Settings → Type 0) → PassesOn c m o → PassesOn m e o → IsPassing m o mid → IsPassing e o end
     → DoesQuietly given mid c m o L → DoesQuietly mid end m e o M → DoesQuietly given end c e o (λ d s. L d s × M d s)

@@ -20,14 +20,14 @@ use Rattle.lane_carriage.specs.Carriage.{met, IsDealt, AreDelivered, due}
 use Rattle.lane_carriage.specs.Waits.{numbers}
 use Rattle.lane_carriage.specs.Laws.{OfTaken}
 use Rattle.lane_keeping.specs.LaneKeeping.{node_in, setting_of}
-use Rattle.lane_rounds.specs.RoundKeeping.{origin_in}
+use Rattle.round_keeping.specs.RoundKeeping.{origin_in}
 use Rattle.lane_states.specs.declared.lane_state.LaneState.{LaneState}
 use Rattle.lane_states.specs.LaneStates.{journal_of, IsKept, Went, NodesOn}
 use Rattle.lane_states.specs.Tellings.{IsRowBody, IsFirstReply}
-use Rattle.lane_rest.specs.Lanes.{IsPassBody, is_answer}
-use Rattle.lane_rest.specs.Scripts.{Script}
-use Rattle.quiet_spans.specs.Quiet.{GoesQuietly}
-use Rattle.quiet_passes.specs.Telling.{IsSaid, IsToldIn}
+use Rattle.pass_model.specs.Lanes.{IsPassBody, is_answer}
+use Rattle.pass_model.specs.Scripts.{Script}
+use Rattle.undisturbed_spans.specs.Undisturbed.{GoesUndisturbed}
+use Rattle.undisturbed_spans.specs.Telling.{IsSaid, IsToldIn}
 use Rattle.lane_upkeep.specs.declared.owner.Owner.{Owner}
 use Rattle.lane_upkeep.specs.CameBack.{CameBack}
 use Rattle.lane_upkeep.specs.Passing.{IsPassing, MayTell}
@@ -111,7 +111,7 @@ module _ (waits : OfTaken (λ given last late f taken rest. numbers taken ≡ du
         (subst (λ (ns : List ℕ). AreDelivered ns w.between (journal_of e))
         (waits given c.last c.late.late w.fate m (w.late).taken e.late.late (p.carried).waiting (w.late).are_taken w.none_left) (w.late).delivered);
     nodes = took;
-    quiet = subst (λ (fates : List Fate). GoesQuietly d fates J (journal_of e)) w.fates goes;
+    quiet = subst (λ (fates : List Fate). GoesUndisturbed d fates J (journal_of e)) w.fates goes;
   }
 
   -- where a reply comes that isn't want of memory

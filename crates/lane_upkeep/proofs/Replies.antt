@@ -17,7 +17,7 @@ use Rattle.lane_journals.specs.Legal.{is_ending}
 use Rattle.lane_journals.specs.Meanings.{history}
 use Rattle.lane_journals.specs.declared.event.LaneEvent.{LaneEvent}
 use Rattle.lane_keeping.specs.LaneKeeping.{part_in}
-use Rattle.row_keeping.specs.Deciding.{IsOver}
+use Rattle.row_keeping.specs.Deciding.{IsDeleteOver}
 use Rattle.lane_states.specs.declared.lane_state.LaneState.{LaneState}
 use Rattle.lane_upkeep.specs.declared.owner.Owner.{Owner}
 use Rattle.lane_upkeep.specs.CameBack.{CameBack, is_taken, is_end}
@@ -62,7 +62,7 @@ ready_of J o node b (Some reply.Differs) t c = absurd (true≢false (sym t))
 ready_of J o node b (Some reply.NoMemory) t c = absurd (true≢false (sym t))
 ready_of J o node b (Some (reply.Answer ps es)) t c = taken J o node b (reply.Answer ps es) c c.noted_reply
 
-ends : (J : List LaneEvent) (o : Owner) (x : Deleting) (r : Reply) (c : CameBack J o x.node (body.Delete x.bucket x.serial) r) → is_ending c.given ≡ true → IsOver (history J) o.state x
+ends : (J : List LaneEvent) (o : Owner) (x : Deleting) (r : Reply) (c : CameBack J o x.node (body.Delete x.bucket x.serial) r) → is_ending c.given ≡ true → IsDeleteOver (history J) o.state x
 ends J o x r c e = record {
   number = c.number;
   message = c.message;
@@ -80,7 +80,7 @@ answers-end : (given : plain.Reply) → ((content : plain.Content) × (names : B
 answers-end given (content, names, is) = ap is_ending is
 
 -- a Delete that is over
-pub over_of : (J : List LaneEvent) (o : Owner) (x : Deleting) (r : Option Reply) → is_end r ≡ true → IfSome r (λ y. CameBack J o x.node (body.Delete x.bucket x.serial) y) → IsOver (history J) o.state x
+pub over_of : (J : List LaneEvent) (o : Owner) (x : Deleting) (r : Option Reply) → is_end r ≡ true → IfSome r (λ y. CameBack J o x.node (body.Delete x.bucket x.serial) y) → IsDeleteOver (history J) o.state x
 over_of J o x None t c = absurd (true≢false (sym t))
 over_of J o x (Some (reply.Newer v)) t c = absurd (true≢false (sym t))
 over_of J o x (Some reply.NoMemory) t c = absurd (true≢false (sym t))

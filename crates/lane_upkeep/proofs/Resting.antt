@@ -24,19 +24,19 @@ use Rattle.lane_keeping.specs.Laws.{OfKept}
 use Rattle.lane_keeping.specs.Acting.{IsActing}
 use Rattle.lane_states.specs.declared.lane_state.LaneState.{LaneState}
 use Rattle.lane_states.specs.LaneStates.{journal_of, part_of, IsSetUp}
-use Rattle.lane_rest.specs.Rows.{Settings, united}
-use Rattle.lane_rest.specs.Passes.{World, Resends, Passes}
-use Rattle.lane_rest.specs.Resting.{AreSettings, HasBegun, IsResting}
+use Rattle.pass_model.specs.Rows.{Settings, united}
+use Rattle.pass_model.specs.Passes.{World, Resends, Passes}
+use Rattle.pass_model.specs.Resting.{AreSettings, HasBegun, IsResting}
 use Rattle.lane_rest.specs.Rest.{documents, IsAtRest}
-use Rattle.lane_rest.specs.Worlds.{AreSettingsOf, IsSaid, IsWorldOf}
-use Rattle.lane_rest.specs.Lanes.{seen_node}
-use Rattle.lane_rest.specs.Nodes.{Node}
-use Rattle.lane_rest.specs.Scripts.{Script}
-use Rattle.rest_settings.specs.Found.{settings_of}
-use Rattle.quiet_spans.specs.Quiet.{IsQuiet, GoesQuietly}
-use Rattle.upkeep_answers.specs.Spans.{AreUpkeep}
+use Rattle.pass_model.specs.Worlds.{AreSettingsOf, IsSaid, IsWorldOf}
+use Rattle.pass_model.specs.Lanes.{seen_node}
+use Rattle.pass_model.specs.Nodes.{Node}
+use Rattle.pass_model.specs.Scripts.{Script}
+use Rattle.pass_model.specs.Found.{settings_of}
+use Rattle.undisturbed_spans.specs.Undisturbed.{IsUndisturbed, GoesUndisturbed}
+use Rattle.upkeep_spans.specs.Spans.{AreUpkeep}
 use Rattle.lane_upkeep.specs.declared.owner.Owner.{Owner}
-use Rattle.upkeep_steps.specs.declared.notes.RowNote.{RowNote}
+use Rattle.pass_machine.specs.declared.notes.RowNote.{RowNote}
 use Rattle.std.specs.BTreeMap.{BTreeMap}
 use Rattle.lane_upkeep.specs.Passing.{IsPassing, PassesOn, rows_in}
 use Rattle.lane_upkeep.specs.Rests.{OpensAndPasses, RestsWhereQuiet}
@@ -175,11 +175,11 @@ rest-same l r e lane rules h =
 
 -- each quiet span has a script
 abbrev pub HaveScripts : Type 0
-HaveScripts = (S : Setting) (e v : ℕ) (given : List Fate) (J K : List LaneEvent) → IsLegal S K → AreUpkeep e v J K → IsQuiet given J K → (d : Script) × GoesQuietly d given J K
+HaveScripts = (S : Setting) (e v : ℕ) (given : List Fate) (J K : List LaneEvent) → IsLegal S K → AreUpkeep e v J K → IsUndisturbed given J K → (d : Script) × GoesUndisturbed d given J K
 
 -- and the second part of one is quiet
 abbrev pub SecondIsQuiet : Type 0
-SecondIsQuiet = (e v : ℕ) (d : Script) (given more : List Fate) (J K L : List LaneEvent) → AreUpkeep e v J K → AreUpkeep e v K L → IsCarried given K → IsCarried (given ++ more) L → GoesQuietly d (given ++ more) J L → GoesQuietly d (given ++ more) K L
+SecondIsQuiet = (e v : ℕ) (d : Script) (given more : List Fate) (J K L : List LaneEvent) → AreUpkeep e v J K → AreUpkeep e v K L → IsCarried given K → IsCarried (given ++ more) L → GoesUndisturbed d (given ++ more) J L → GoesUndisturbed d (given ++ more) K L
 
 module _ (found : AreFound) (bring : BringRest) (owners : OwnersKnow) (begins : Begins) (scripts : HaveScripts) (second : SecondIsQuiet) (c m e : LaneState) (o : Owner) (given now : List Fate) where
   pub maintained-rests : OpensAndPasses c m e o given now → RestsWhereQuiet now c e
@@ -195,16 +195,16 @@ module _ (found : AreFound) (bring : BringRest) (owners : OwnersKnow) (begins : 
       let script = scripts (setting_of e.lane e.rules) o.distributor (o.state).version now (journal_of c) (journal_of e) (q.keeps.keeps).legal all quiet in
       let more = (does.fates).0 in
       let are : now ≡ given ++ more = (does.fates).1 in
-      let goes : GoesQuietly script.0 (given ++ more) (journal_of m) (journal_of e) =
+      let goes : GoesUndisturbed script.0 (given ++ more) (journal_of m) (journal_of e) =
       second o.distributor (o.state).version script.0 given more (journal_of c) (journal_of m) (journal_of e) opening.grows on.grows (p.carried).carried
       (subst (λ (f : List Fate). IsCarried f (journal_of e)) are (q.carried).carried)
-      (subst (λ (f : List Fate). GoesQuietly script.0 f (journal_of c) (journal_of e)) are script.1) in
+      (subst (λ (f : List Fate). GoesUndisturbed script.0 f (journal_of c) (journal_of e)) are script.1) in
       rest-same m.lane m.rules e lane rules
       (pass-rests found bring owners begins m e o given now p q x.whole on
       (subst (λ (r : Rules). IsSetUp m.lane r) rules (subst (λ (l : Low). IsSetUp l e.rules) lane set_up))
       (subst (λ (r : Rules). r.searchable ≤ r.redundancy) rules few)
       (ap (λ (z : LaneState). z.newest) opening.after ∙ x.newest) does script.0
-      (subst (λ (f : List Fate). GoesQuietly script.0 f (journal_of m) (journal_of e)) (sym are) goes))
+      (subst (λ (f : List Fate). GoesUndisturbed script.0 f (journal_of m) (journal_of e)) (sym are) goes))
 
 -- where the pass was made
 pub rests-if : {X E : Type 0} (r : Result X E) (P Q : Type 0) → (P → Q) → OnOk r P → OnOk r Q

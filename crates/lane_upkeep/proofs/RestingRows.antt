@@ -17,20 +17,20 @@ use Rattle.node_journals.specs.NodeKeeping.{NodeKeeps}
 use Rattle.lane_keeping.specs.LaneKeeping.{node_in, row_by, IsRow, IsRowOf}
 use Rattle.lane_states.specs.declared.lane_state.LaneState.{LaneState}
 use Rattle.lane_states.specs.LaneStates.{journal_of, IsKept}
-use Rattle.lane_rest.specs.Nodes.{Node}
-use Rattle.lane_rest.specs.Rows as rest
-use Rattle.lane_rest.specs.Passes.{In}
-use Rattle.lane_rest.specs.Worlds.{IsSaid, HasMarks, IsWorldOf}
-use Rattle.lane_rest.specs.Lanes.{seen_node}
-use Rattle.lane_rest.specs.Scripts.{Script, came}
+use Rattle.pass_model.specs.Nodes.{Node}
+use Rattle.pass_model.specs.Rows as rest
+use Rattle.pass_model.specs.Passes.{In}
+use Rattle.pass_model.specs.Worlds.{IsSaid, HasMarks, IsWorldOf}
+use Rattle.pass_model.specs.Lanes.{seen_node}
+use Rattle.pass_model.specs.Scripts.{Script, came}
 use Rattle.lane_upkeep.specs.declared.owner.Owner.{Owner}
-use Rattle.upkeep_steps.specs.declared.notes.RowNote.{RowNote}
+use Rattle.pass_machine.specs.declared.notes.RowNote.{RowNote}
 use Rattle.lane_upkeep.specs.Passing.{rows_in}
 use Rattle.cluster_states.specs.declared.cluster_state.ClusterState.{ClusterState}
-use Rattle.lane_rest.specs.Rows.{Settings}
-use Rattle.upkeep_steps.specs.Notes.{note_for, whole_in}
-use Rattle.upkeep_runs.specs.Worlds.{row_of}
-use Rattle.upkeep_runs.specs.Worlds as worlds
+use Rattle.pass_model.specs.Rows.{Settings}
+use Rattle.pass_machine.specs.Notes.{note_for, whole_in}
+use Rattle.pass_runs.specs.Worlds.{row_of}
+use Rattle.pass_runs.specs.Worlds as worlds
 use Rattle.lane_upkeep.specs.Quiet.{world_in}
 
 -- ---- rows of a list

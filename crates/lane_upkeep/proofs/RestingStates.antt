@@ -14,10 +14,10 @@ use Rattle.lane_journals.specs.declared.event.LaneEvent.{LaneEvent}
 use Rattle.lane_journals.specs.declared.event.LaneEvent.TheVariants as event
 use Rattle.lane_journals.proofs.Basics.{or_else-cases, only_if-some}
 use Rattle.lane_journals.proofs.Meant.{meant-legal, state-published}
-use Rattle.lane_durability.proofs.Bases.{opened-version}
-use Rattle.lane_states.specs.Replies.{version-below}
+use Rattle.lane_journals.proofs.Versions.{opened-version}
+use Rattle.lane_journals.proofs.Replies.{version-below}
 use Rattle.lane_rest.specs.Rest.{documents}
-use Rattle.upkeep_answers.specs.Spans.{IsUpkeepEvent, AreUpkeep, Nothing, More}
+use Rattle.upkeep_spans.specs.Spans.{IsUpkeepEvent, AreUpkeep, Nothing, More}
 
 -- ---- the newest state
 

@@ -10,7 +10,7 @@ use Rattle.bucket_db.specs.declared.row.Row.{Row}
 use Rattle.bucket_db.proofs.RowLists.{some_at}
 use Rattle.lane_states.specs.declared.lane_state.LaneState.{LaneState}
 use Rattle.lane_states.specs.LaneStates.{journal_of}
-use Rattle.upkeep_steps.specs.declared.notes.RowNote.{RowNote}
+use Rattle.pass_machine.specs.declared.notes.RowNote.{RowNote}
 use Rattle.lane_upkeep.specs.declared.owner.Owner.{Owner}
 use Rattle.lane_upkeep.specs.Notes.{KnowsNote}
 use Rattle.lane_upkeep.specs.Noted.{AreNotes}

@@ -4,7 +4,7 @@ use Rattle.bucket_ids.specs.Buckets.{Low}
 use Rattle.node_sets.specs.Members.{has_node}
 use Rattle.cluster_states.specs.declared.cluster_state.ClusterState.{ClusterState}
 use Rattle.carriers.specs.declared.fate.Fate.{Fate}
-use Rattle.late_messages.specs.declared.late.Late.{Late}
+use Rattle.messages.specs.declared.late.Late.{Late}
 use Rattle.bucket_db.specs.Changes.{at_row}
 use Rattle.bucket_db.specs.Rows.{Rows, buckets_of}
 use Rattle.bucket_db.specs.declared.row.Row.{Row}
@@ -16,22 +16,22 @@ use Rattle.distributor_part.specs.Steps.{with_marks}
 use Rattle.distributor_part.specs.Upkeep.{BeginsRoundAt}
 use Rattle.merge_rounds.specs.Rounds.{RoundState}
 use Rattle.service_layer.specs.Nodes.{Node}
-use Rattle.node_spans.specs.Spans.{NodesGo}
+use Rattle.node_journals.specs.Spans.{NodesGo}
 use Rattle.lane_journals.specs.declared.event.LaneEvent.{LaneEvent}
 use Rattle.lane_keeping.specs.LaneKeeping.{node_in, part_in}
 use Rattle.lane_keeping.specs.Acting.{IsActing}
 use Rattle.lane_keeping.specs.Asking.{OthersStay}
-use Rattle.lane_rounds.specs.RoundKeeping.{KnowsAnswers}
-use Rattle.lane_states.specs.declared.rounds.RoundRun.{RoundRun}
-use Rattle.lane_states.specs.declared.rounds.RoundEnd.{RoundEnd}
+use Rattle.round_keeping.specs.RoundKeeping.{KnowsAnswers}
+use Rattle.round_runs.specs.declared.round_run.RoundRun.{RoundRun}
+use Rattle.round_runs.specs.declared.round_run.RoundEnd.{RoundEnd}
 use Rattle.lane_states.specs.declared.lane_state.LaneState.{LaneState}
 use Rattle.lane_states.specs.LaneStates.{journal_of, part_of, NodesOn, IsResting}
-use Rattle.lane_states.specs.RoundRuns.{GoesOn, Begins, EndsRun, IsEnd, IsWholeRun}
-use Rattle.lane_states.proofs.RoundLines.{stays-round}
+use Rattle.round_runs.specs.RoundRuns.{GoesOn, Begins, EndsRun, IsEnd, IsWholeRun}
+use Rattle.round_runs.proofs.Staying.{stays-round}
 use Rattle.lane_states.proofs.SameStates.{same-state}
-use Rattle.upkeep_answers.specs.Spans.{AreUpkeep}
+use Rattle.upkeep_spans.specs.Spans.{AreUpkeep}
 use Rattle.lane_upkeep.specs.declared.owner.Owner.{Owner}
-use Rattle.upkeep_steps.specs.declared.notes.RowNote.{RowNote}
+use Rattle.pass_machine.specs.declared.notes.RowNote.{RowNote}
 use Rattle.lane_upkeep.specs.Passing.{IsPassing}
 use Rattle.lane_upkeep.specs.Notes.{KnowsNote}
 use Rattle.lane_upkeep.specs.RoundNotes.{GainsMarks, RanRound}

@@ -19,28 +19,28 @@ use Rattle.distributor_part.specs.Upkeep.{AcceptsAt}
 use Rattle.distributor_part.specs.declared.rules.Rules.{Rules}
 use Rattle.node_journals.specs.Flights.{NamesBucket}
 use Rattle.row_keeping.proofs.Serving.{actives, deletes}
-use Rattle.lane_rest.specs.Nodes.{Node}
-use Rattle.lane_rest.specs.Shapes.{Shape, shape_of}
-use Rattle.lane_rest.specs.Rows.{Settings}
-use Rattle.lane_rest.specs.Passes.{World, Resends, Passes}
-use Rattle.lane_rest.specs.Resting.{AreSettings}
-use Rattle.lane_rest.specs.Lanes as rest_lanes
-use Rattle.lane_rest.specs.Scripts.{Script, told_node}
+use Rattle.pass_model.specs.Nodes.{Node}
+use Rattle.pass_model.specs.Shapes.{Shape, shape_of}
+use Rattle.pass_model.specs.Rows.{Settings}
+use Rattle.pass_model.specs.Passes.{World, Resends, Passes}
+use Rattle.pass_model.specs.Resting.{AreSettings}
+use Rattle.pass_model.specs.Lanes as rest_lanes
+use Rattle.pass_model.specs.Scripts.{Script, told_node}
 use Rattle.lane_states.specs.declared.lane_state.LaneState.{LaneState}
 use Rattle.lane_states.specs.LaneStates.{journal_of, part_of}
-use Rattle.upkeep_steps.specs.declared.doing.Doing.{Doing}
-use Rattle.upkeep_steps.specs.declared.doing.Doing.TheVariants.{ResendingDelete, Finished}
-use Rattle.upkeep_steps.specs.declared.doing.UpkeepStep.{UpkeepStep}
-use Rattle.upkeep_steps.specs.declared.doing.UpkeepStep.TheVariants.{Tell, Decide, Accept, Round}
-use Rattle.upkeep_steps.specs.declared.doing.Turn.TheVariants.{Says}
-use Rattle.upkeep_steps.specs.declared.notes.RowNote.{RowNote}
-use Rattle.upkeep_steps.specs.declared.pass.UpkeepPass.{UpkeepPass}
-use Rattle.upkeep_steps.specs.Turns.{View, Sees, turn_at, answered, decided, accepted, rounded}
-use Rattle.upkeep_steps.specs.Going.{GoesOver, Forgets, Makes, made_in, rows_made}
-use Rattle.upkeep_steps.specs.Abstract.{answer_of, shown_in, row_with}
-use Rattle.upkeep_runs.specs.Worlds.{IsUnder, shown_at, world_of}
-use Rattle.upkeep_runs.specs.Steps.{Changes, IsDecidedBy, IsRoundAt}
-use Rattle.upkeep_runs.specs.Standing.{NoNotes, Stands}
+use Rattle.pass_machine.specs.declared.doing.Doing.{Doing}
+use Rattle.pass_machine.specs.declared.doing.Doing.TheVariants.{ResendingDelete, Finished}
+use Rattle.pass_machine.specs.declared.doing.UpkeepStep.{UpkeepStep}
+use Rattle.pass_machine.specs.declared.doing.UpkeepStep.TheVariants.{Tell, Decide, Accept, Round}
+use Rattle.pass_machine.specs.declared.doing.Turn.TheVariants.{Says}
+use Rattle.pass_machine.specs.declared.notes.RowNote.{RowNote}
+use Rattle.pass_machine.specs.declared.pass.UpkeepPass.{UpkeepPass}
+use Rattle.pass_machine.specs.Turns.{View, Sees, turn_at, answered, decided, accepted, rounded}
+use Rattle.pass_machine.specs.Going.{GoesOver, Forgets, Makes, made_in, rows_made}
+use Rattle.pass_machine.specs.Abstract.{answer_of, shown_in, row_with}
+use Rattle.pass_runs.specs.Worlds.{IsUnder, shown_at, world_of}
+use Rattle.pass_runs.specs.Steps.{Changes, IsDecidedBy, IsRoundAt}
+use Rattle.pass_runs.specs.Standing.{NoNotes, Stands}
 use Rattle.lane_upkeep.specs.declared.owner.Owner.{Owner}
 use Rattle.lane_upkeep.specs.CameBack.{is_taken, is_end}
 use Rattle.lane_upkeep.specs.Passing.{IsPassing, PassesOn, rows_in, HasRow}

@@ -2,10 +2,10 @@
 use Rattle.std.proofs.Common.{◌≡◌, true, false, List, sym, subst}
 use Rattle.carriers.specs.declared.fate.Fate.{Fate}
 use Rattle.lane_states.specs.declared.lane_state.LaneState.{LaneState}
-use Rattle.upkeep_steps.specs.declared.doing.Doing.TheVariants as doing
-use Rattle.upkeep_steps.specs.declared.doing.UpkeepStep.{UpkeepStep}
-use Rattle.upkeep_steps.specs.declared.doing.UpkeepStep.TheVariants.{Finished}
-use Rattle.upkeep_steps.specs.declared.pass.UpkeepPass.{UpkeepPass}
+use Rattle.pass_machine.specs.declared.doing.Doing.TheVariants as doing
+use Rattle.pass_machine.specs.declared.doing.UpkeepStep.{UpkeepStep}
+use Rattle.pass_machine.specs.declared.doing.UpkeepStep.TheVariants.{Finished}
+use Rattle.pass_machine.specs.declared.pass.UpkeepPass.{UpkeepPass}
 use Rattle.lane_upkeep.specs.declared.owner.Owner.{Owner}
 use Rattle.lane_upkeep.specs.Taking.{GoesOneOn, NoStep, MoreSteps, IsNew, HasRun, IsPass}
 use Rattle.lane_upkeep.specs.UnderWay.{Comes}

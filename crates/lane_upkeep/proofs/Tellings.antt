@@ -13,7 +13,7 @@ use Rattle.lane_journals.specs.declared.event.LaneEvent.{LaneEvent}
 use Rattle.node_journals.specs.Flights.{meant}
 use Rattle.row_keeping.specs.Telling.{IsOfRow}
 use Rattle.lane_states.specs.Tellings.{IsRowBody, IsAnsweredBy}
-use Rattle.upkeep_answers.specs.Spans.{IsUpkeepBody}
+use Rattle.upkeep_spans.specs.Spans.{IsUpkeepBody}
 use Rattle.lane_upkeep.specs.declared.owner.Owner.{Owner}
 use Rattle.lane_upkeep.specs.CameBack.{IsNotedAs, IsNotedReply, CameBack}
 

@@ -12,15 +12,15 @@ use Rattle.distributor_part.specs.Targets.{IsToBeActive}
 use Rattle.lane_journals.specs.Facts.{AnsweredReady}
 use Rattle.lane_journals.specs.Meanings.{history}
 use Rattle.lane_rest.specs.Targets.{is_active}
-use Rattle.row_keeping.specs.Deciding.{IsOver}
+use Rattle.row_keeping.specs.Deciding.{IsDeleteOver}
 use Rattle.lane_states.specs.declared.lane_state.LaneState.{LaneState}
 use Rattle.lane_states.specs.LaneStates.{journal_of}
-use Rattle.upkeep_steps.specs.declared.doing.Settle.TheVariants as settle
-use Rattle.upkeep_steps.specs.declared.doing.Doing.{Doing}
-use Rattle.upkeep_steps.specs.declared.doing.Doing.TheVariants.{ResendingDelete, ResentDelete, ResendingActivate, JoinTold, SplitTold, Settling}
-use Rattle.upkeep_steps.specs.Turns.{View, to_be_active_in, is_to_be_active, answered}
-use Rattle.upkeep_steps.specs.Going.{IsTold}
-use Rattle.upkeep_steps.proofs.Ideals.{to-be}
+use Rattle.pass_machine.specs.declared.doing.Settle.TheVariants as settle
+use Rattle.pass_machine.specs.declared.doing.Doing.{Doing}
+use Rattle.pass_machine.specs.declared.doing.Doing.TheVariants.{ResendingDelete, ResentDelete, ResendingActivate, JoinTold, SplitTold, Settling}
+use Rattle.pass_machine.specs.Turns.{View, to_be_active_in, is_to_be_active, answered}
+use Rattle.pass_machine.specs.Going.{IsTellingRow}
+use Rattle.pass_machine.proofs.Ideals.{to-be}
 use Rattle.lane_upkeep.specs.declared.owner.Owner.{Owner}
 use Rattle.lane_upkeep.specs.CameBack.{CameBack, is_taken, is_end}
 use Rattle.lane_upkeep.specs.Passing.{PassesOn, rows_in, HasRow}
@@ -49,9 +49,9 @@ module _ (ideal : Low → List ℕ) (c e : LaneState) (o : Owner) (are : AreIdea
   over-then : (at : ℕ) → IsDeleteAt c o at n b → taken ≡ true → OfRow e o at (IsRowOver e o)
   over-then at (r, found, d, deleting, to, what) t s after =
       let ends : is_end reply ≡ true = sym (is ∙ ap (λ (x : Body). is_taken_as x reply) what) ∙ t in
-      let over : IsOver (history (journal_of e)) o.state d = over_of (journal_of e) o d reply ends (came-of d.node (body.Delete d.bucket d.serial) to what) in
-      subst (λ (x : Row). IfSome x.deleting (λ y. IsOver (history (journal_of e)) o.state y)) (row-was at r s found after)
-      (subst (λ (x : Option Delete). IfSome x (λ y. IsOver (history (journal_of e)) o.state y)) (sym deleting) over)
+      let over : IsDeleteOver (history (journal_of e)) o.state d = over_of (journal_of e) o d reply ends (came-of d.node (body.Delete d.bucket d.serial) to what) in
+      subst (λ (x : Row). IfSome x.deleting (λ y. IsDeleteOver (history (journal_of e)) o.state y)) (row-was at r s found after)
+      (subst (λ (x : Option Delete). IfSome x (λ y. IsDeleteOver (history (journal_of e)) o.state y)) (sym deleting) over)
 
   accepted-then : (at : ℕ) → IsActivateAt c o at n b → taken ≡ true → OfRow e o at (IsRowAccepted e o)
   accepted-then at (r, found, active, what) t s after =
@@ -98,7 +98,7 @@ module _ (ideal : Low → List ℕ) (c e : LaneState) (o : Owner) (are : AreIdea
       by_test false f = l
 
   -- what the machine knows then
-  pub told_known : (many : ℕ) (d : Doing) → IsTold many d → KnowsDoing c o d → TellsOf c o d n b → KnowsDoing e o (answered v taken d)
+  pub told_known : (many : ℕ) (d : Doing) → IsTellingRow many d → KnowsDoing c o d → TellsOf c o d n b → KnowsDoing e o (answered v taken d)
   told_known many (ResendingDelete at) i k of = delete-then at (ResentDelete at) (ResendingDelete (at + 1)) (over-then at of) tt
   told_known many (ResendingActivate at) i k of = accepted-then at of
   told_known many (JoinTold t bits at q m) i k of = has-bucket q k

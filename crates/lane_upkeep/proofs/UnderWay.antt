@@ -12,23 +12,23 @@ use Rattle.messages.specs.declared.decision.Decision.TheVariants as decision
 use Rattle.bucket_db.specs.declared.row.Row.{Row}
 use Rattle.bucket_db.specs.declared.row.Deleting.{Deleting as Delete}
 use Rattle.lane_states.specs.declared.lane_state.LaneState.{LaneState}
-use Rattle.upkeep_steps.specs.declared.doing.Time.{Time}
-use Rattle.upkeep_steps.specs.declared.doing.Time.TheVariants.{First, Again}
-use Rattle.upkeep_steps.specs.declared.doing.Settle.{Settle}
-use Rattle.upkeep_steps.specs.declared.doing.Settle.TheVariants as settle
-use Rattle.upkeep_steps.specs.declared.doing.Doing.{Doing}
-use Rattle.upkeep_steps.specs.declared.doing.Doing.TheVariants.{ResendingDelete, ResentDelete, ResendingActivate, ResentActivate, Rounding, Joining, JoinTold, JoinRound, Splitting, SplitTold, SplitFirst, SplitSecond, Settling, Finished}
-use Rattle.upkeep_steps.specs.declared.doing.UpkeepStep.TheVariants as step
-use Rattle.upkeep_steps.specs.declared.doing.Turn.{Turn}
-use Rattle.upkeep_steps.specs.declared.doing.Turn.TheVariants.{Over, Says}
-use Rattle.upkeep_steps.specs.declared.notes.RowNote.{RowNote}
-use Rattle.upkeep_steps.specs.Notes.{note_for, whole_in, documents_in}
-use Rattle.upkeep_steps.specs.Places.{first_with, place_of, next_place, is_full_by, was_sent}
-use Rattle.upkeep_steps.specs.Settling as row
-use Rattle.upkeep_steps.specs.Settling.{next_row, alignment_in, tell_or, activate_or, tell_active, delete_or, tell_delete, end_delete, unanswered, next_node, serial_to_lose}
-use Rattle.upkeep_steps.specs.Turns.{View, is_due, beginning, is_asked, is_target, to_be_active, settle_turn, by_note, by_row, resend_delete, resending_delete, resent_delete, resending_activate, resent_activate, round_or, begin_joins, end_joins, end_settling, fewer_bits, does_join, joining, tell_all, splitting, turn_at}
-use Rattle.upkeep_steps.specs.Going.{GoesOver, Stays, Goes}
-use Rattle.upkeep_steps.proofs.Allowing.{if-some}
+use Rattle.pass_machine.specs.declared.doing.Time.{Time}
+use Rattle.pass_machine.specs.declared.doing.Time.TheVariants.{First, Again}
+use Rattle.pass_machine.specs.declared.doing.Settle.{Settle}
+use Rattle.pass_machine.specs.declared.doing.Settle.TheVariants as settle
+use Rattle.pass_machine.specs.declared.doing.Doing.{Doing}
+use Rattle.pass_machine.specs.declared.doing.Doing.TheVariants.{ResendingDelete, ResentDelete, ResendingActivate, ResentActivate, Rounding, Joining, JoinTold, JoinRound, Splitting, SplitTold, SplitFirst, SplitSecond, Settling, Finished}
+use Rattle.pass_machine.specs.declared.doing.UpkeepStep.TheVariants as step
+use Rattle.pass_machine.specs.declared.doing.Turn.{Turn}
+use Rattle.pass_machine.specs.declared.doing.Turn.TheVariants.{Over, Says}
+use Rattle.pass_machine.specs.declared.notes.RowNote.{RowNote}
+use Rattle.pass_machine.specs.Notes.{note_for, whole_in, documents_in}
+use Rattle.pass_machine.specs.Places.{first_with, place_of, next_place, is_full_by, was_sent}
+use Rattle.pass_machine.specs.Settling as row
+use Rattle.pass_machine.specs.Settling.{next_row, alignment_in, tell_or, activate_or, tell_active, delete_or, tell_delete, end_delete, unanswered, next_node, serial_to_lose}
+use Rattle.pass_machine.specs.Turns.{View, is_due, beginning, is_asked, is_target, to_be_active, settle_turn, by_note, by_row, resend_delete, resending_delete, resent_delete, resending_activate, resent_activate, round_or, begin_joins, end_joins, end_settling, fewer_bits, does_join, joining, tell_all, splitting, turn_at}
+use Rattle.pass_machine.specs.Going.{GoesOver, Stays, Goes}
+use Rattle.proof_basics.proofs.Options.{if-some}
 use Rattle.lane_upkeep.specs.declared.owner.Owner.{Owner}
 use Rattle.lane_upkeep.specs.Passing.{HasRow}
 use Rattle.lane_upkeep.specs.UnderWay.{KnowsDoing, view_in}

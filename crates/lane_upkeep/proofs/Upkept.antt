@@ -9,7 +9,7 @@ use Rattle.messages.specs.declared.body.Body.{Body}
 use Rattle.messages.specs.declared.decision.Decision.TheVariants.{RoundBegun, RoundEnded}
 use Rattle.messages.specs.declared.message.Message.{Message}
 use Rattle.messages.specs.declared.message.Origin.{Origin}
-use Rattle.late_messages.specs.declared.late.Late.{Late}
+use Rattle.messages.specs.declared.late.Late.{Late}
 use Rattle.distributor_part.specs.declared.rules.Rules.{Rules}
 use Rattle.distributor_part.specs.Parts.{Part}
 use Rattle.merge_rounds.specs.Rounds.{RoundState, IsNext}
@@ -18,19 +18,19 @@ use Rattle.lane_journals.specs.declared.event.LaneEvent.TheVariants as event
 use Rattle.node_journals.specs.Replaying.{sending}
 use Rattle.lane_carriage.specs.Carriage.{IsDealt, AreDelivered}
 use Rattle.lane_carriage.specs.Waits.{numbers}
-use Rattle.lane_rounds.specs.RoundKeeping.{origin_in}
+use Rattle.round_keeping.specs.RoundKeeping.{origin_in}
 use Rattle.lane_states.specs.declared.lane_state.LaneState.{LaneState}
-use Rattle.lane_states.specs.declared.opening.OpeningEnd.{OpeningEnd}
-use Rattle.lane_states.specs.declared.rounds.RoundRun.{RoundRun}
-use Rattle.lane_states.specs.declared.rounds.RoundEnd.{RoundEnd}
-use Rattle.lane_states.specs.Growing.{met_at}
+use Rattle.lane_rounds.specs.declared.opening.OpeningEnd.{OpeningEnd}
+use Rattle.round_runs.specs.declared.round_run.RoundRun.{RoundRun}
+use Rattle.round_runs.specs.declared.round_run.RoundEnd.{RoundEnd}
+use Rattle.lane_carriage.specs.Carrying.{met_at}
 use Rattle.lane_states.specs.LaneStates.{journal_of, part_of, Went}
-use Rattle.lane_states.specs.Openings.{IsGone, IsAsked, Nobody, More, EndsBy, EndsOpening, StopsOpening}
-use Rattle.lane_states.specs.RoundRuns as runs
-use Rattle.lane_states.specs.RoundRuns.{Sends, SendsNext, IsRoundRun, Begins, IsWholeRun, IsCutShort, GoesOn}
-use Rattle.lane_states.proofs.GivenOut.{over-all}
-use Rattle.upkeep_answers.specs.Spans as spans
-use Rattle.upkeep_answers.specs.Spans.{IsUpkeepBody, IsUpkeepEvent, AreUpkeep}
+use Rattle.lane_rounds.specs.Openings.{IsGone, IsAsked, Nobody, More, EndsBy, EndsOpening, StopsOpening}
+use Rattle.round_runs.specs.RoundRuns as runs
+use Rattle.round_runs.specs.RoundRuns.{Sends, SendsNext, IsRoundRun, Begins, IsWholeRun, IsCutShort, GoesOn}
+use Rattle.lane_carriage.proofs.GivenOut.{over-all}
+use Rattle.upkeep_spans.specs.Spans as spans
+use Rattle.upkeep_spans.specs.Spans.{IsUpkeepBody, IsUpkeepEvent, AreUpkeep}
 
 -- ---- one message
 

@@ -8,7 +8,7 @@ use Rattle.bucket_db.specs.declared.row.Row.{Row}
 use Rattle.distributor_part.specs.Upkeep.{SplitsRow, JoinsRows, ActivatesAt, AcceptsAt, BeginsDelete, EndsDelete}
 use Rattle.lane_journals.specs.Meanings.{history}
 use Rattle.lane_journals.specs.declared.event.LaneEvent.TheVariants.{Decided}
-use Rattle.row_keeping.specs.Deciding.{IsOver}
+use Rattle.row_keeping.specs.Deciding.{IsDeleteOver}
 use Rattle.lane_states.specs.declared.lane_state.LaneState.{LaneState}
 use Rattle.lane_states.specs.LaneStates.{journal_of, part_of}
 use Rattle.lane_upkeep.specs.declared.owner.Owner.{Owner}
@@ -52,4 +52,4 @@ pub record DidEndDelete (c e : LaneState) (o : Owner) (bucket : Low) (node : ℕ
 -- a row of the owner has a Delete of the bucket to the node, and it is over
 abbrev pub HasEnded : LaneState → Owner → Low → ℕ → Type 0
 HasEnded c o bucket node = (delete : Deleting) × (delete.bucket ≡ bucket) × (delete.node ≡ node)
-    × ((at : ℕ) × (row : Row) × HasRow c o at row × (row.deleting ≡ Some delete)) × IsOver (history (journal_of c)) o.state delete
+    × ((at : ℕ) × (row : Row) × HasRow c o at row × (row.deleting ≡ Some delete)) × IsDeleteOver (history (journal_of c)) o.state delete

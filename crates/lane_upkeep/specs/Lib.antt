@@ -15,5 +15,3 @@ pub mod Quiet
 pub mod Sending
 pub mod Taking
 pub mod Rests
--- Passed on, so that the crates above need not list those below.
-pub use Rattle.quiet_spans.specs.Quiet as QuietSpansQuiet

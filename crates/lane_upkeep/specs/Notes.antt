@@ -6,8 +6,8 @@ use Rattle.lane_journals.specs.Readers.{Given, answer, round_of}
 use Rattle.lane_journals.specs.Facts.{AnsweredApply}
 use Rattle.lane_journals.specs.Meanings.{history}
 use Rattle.lane_journals.specs.declared.event.LaneEvent.{LaneEvent}
-use Rattle.upkeep_steps.specs.declared.notes.RowNote.{RowNote}
-use Rattle.upkeep_steps.specs.declared.notes.Exact.{Exact}
+use Rattle.pass_machine.specs.declared.notes.RowNote.{RowNote}
+use Rattle.pass_machine.specs.declared.notes.Exact.{Exact}
 
 -- the node showed just the row, with this serial
 pub record ShowedExactly (J : List LaneEvent) (s : ClusterState) (note : RowNote) (x : Exact) : Type 0 where

@@ -16,8 +16,8 @@ use Rattle.lane_keeping.specs.Asking.{OthersStay}
 use Rattle.row_keeping.specs.Telling.{IsOfRow}
 use Rattle.lane_states.specs.declared.lane_state.LaneState.{LaneState}
 use Rattle.lane_states.specs.LaneStates.{journal_of, part_of, IsKept, HasRoom, IsCarriedBy, IsResting}
-use Rattle.lane_states.specs.RoundRuns.{NoneRuns}
-use Rattle.upkeep_answers.specs.Spans.{AreUpkeep}
+use Rattle.round_runs.specs.RoundRuns.{NoneRuns}
+use Rattle.upkeep_spans.specs.Spans.{AreUpkeep}
 use Rattle.lane_upkeep.specs.declared.owner.Owner.{Owner}
 
 -- the owner opened its state; no round is under way in the lane, no operation is prepared, and no job of the owner is

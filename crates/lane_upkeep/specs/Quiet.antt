@@ -12,20 +12,20 @@ use Rattle.lane_journals.specs.Meanings.{history}
 use Rattle.lane_keeping.specs.LaneKeeping.{node_in, setting_of}
 use Rattle.lane_states.specs.declared.lane_state.LaneState.{LaneState}
 use Rattle.lane_states.specs.LaneStates.{journal_of}
-use Rattle.lane_rest.specs.Nodes.{Node}
-use Rattle.lane_rest.specs.Shapes.{Nothing}
-use Rattle.lane_rest.specs.Rows.{Settings, round_node, round_row}
-use Rattle.lane_rest.specs.Passes.{World, Resends, Passes}
-use Rattle.lane_rest.specs.Resting.{AreSettings}
-use Rattle.lane_rest.specs.Worlds.{AreSettingsOf}
-use Rattle.lane_rest.specs.Lanes.{seen_node, is_taken, is_answer}
-use Rattle.lane_rest.specs.Scripts.{Script, came, told_node}
-use Rattle.quiet_spans.specs.Quiet.{GoesQuietly, Extends}
-use Rattle.upkeep_steps.specs.declared.notes.RowNote.{RowNote}
-use Rattle.upkeep_steps.specs.declared.pass.UpkeepPass.{UpkeepPass}
-use Rattle.upkeep_steps.specs.Abstract.{IsParted, row_with}
-use Rattle.upkeep_runs.specs.Worlds.{row_by, world_of}
-use Rattle.upkeep_runs.specs.Standing.{Stands}
+use Rattle.pass_model.specs.Nodes.{Node}
+use Rattle.pass_model.specs.Shapes.{Nothing}
+use Rattle.pass_model.specs.Rows.{Settings, round_node, round_row}
+use Rattle.pass_model.specs.Passes.{World, Resends, Passes}
+use Rattle.pass_model.specs.Resting.{AreSettings}
+use Rattle.pass_model.specs.Worlds.{AreSettingsOf}
+use Rattle.pass_model.specs.Lanes.{seen_node, is_taken, is_answer}
+use Rattle.pass_model.specs.Scripts.{Script, came, told_node}
+use Rattle.undisturbed_spans.specs.Undisturbed.{GoesUndisturbed, Extends}
+use Rattle.pass_machine.specs.declared.notes.RowNote.{RowNote}
+use Rattle.pass_machine.specs.declared.pass.UpkeepPass.{UpkeepPass}
+use Rattle.pass_machine.specs.Abstract.{IsParted, row_with}
+use Rattle.pass_runs.specs.Worlds.{row_by, world_of}
+use Rattle.pass_runs.specs.Standing.{Stands}
 use Rattle.lane_upkeep.specs.declared.owner.Owner.{Owner}
 use Rattle.lane_upkeep.specs.CameBack.{is_end}
 use Rattle.lane_upkeep.specs.Passing.{rows_in}
@@ -35,7 +35,7 @@ use Rattle.lane_upkeep.specs.UnderWay.{view_in}
 
 -- the lane went on quietly, and the script says which messages were taken twice
 abbrev pub Goes : Script → List Fate → LaneState → LaneState → Type 0
-Goes d given c e = GoesQuietly d given (journal_of c) (journal_of e)
+Goes d given c e = GoesUndisturbed d given (journal_of c) (journal_of e)
 
 -- ---- the lane as a pass sees it
 

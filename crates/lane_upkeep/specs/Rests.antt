@@ -6,7 +6,7 @@ use Rattle.lane_keeping.specs.LaneKeeping.{setting_of}
 use Rattle.lane_states.specs.declared.lane_state.LaneState.{LaneState}
 use Rattle.lane_states.specs.LaneStates.{journal_of, IsSetUp}
 use Rattle.lane_rest.specs.Rest.{IsAtRest}
-use Rattle.quiet_spans.specs.Quiet.{IsQuiet}
+use Rattle.undisturbed_spans.specs.Undisturbed.{IsUndisturbed}
 use Rattle.lane_upkeep.specs.declared.owner.Owner.{Owner}
 use Rattle.lane_upkeep.specs.Passing.{IsPassing, PassesOn, rows_in}
 use Rattle.lane_upkeep.specs.Quiet.{DoesQuietly, PassesQuietly}
@@ -17,7 +17,7 @@ IsLaneAtRest e = IsAtRest (setting_of e.lane e.rules) (e.rules).searchable (e.ru
 
 -- where its setting can be kept, it is so behind a span in which nothing was lost or late
 abbrev pub RestsWhereQuiet : List Fate → LaneState → LaneState → Type 0
-RestsWhereQuiet now c e = IsSetUp e.lane e.rules → (e.rules).searchable ≤ (e.rules).redundancy → IsQuiet now (journal_of c) (journal_of e) → IsLaneAtRest e
+RestsWhereQuiet now c e = IsSetUp e.lane e.rules → (e.rules).searchable ≤ (e.rules).redundancy → IsUndisturbed now (journal_of c) (journal_of e) → IsLaneAtRest e
 
 -- the owner opened its state under the newest one, if it wasn't opened, and then made a pass
 pub record OpensAndPasses (c m e : LaneState) (o : Owner) (given now : List Fate) : Type 0 where

@@ -15,16 +15,16 @@ use Rattle.distributor_part.specs.Upkeep.{BeginsRoundAt}
 use Rattle.merge_rounds.specs.Rounds.{RoundState, HaveAllShown, pieces_by}
 use Rattle.lane_journals.specs.declared.event.LaneEvent.{LaneEvent}
 use Rattle.lane_keeping.specs.LaneKeeping.{node_in}
-use Rattle.lane_rounds.specs.RoundKeeping.{KnowsAnswers}
-use Rattle.node_spans.specs.Spans.{NodesGo}
+use Rattle.round_keeping.specs.RoundKeeping.{KnowsAnswers}
+use Rattle.node_journals.specs.Spans.{NodesGo}
 use Rattle.lane_states.specs.declared.lane_state.LaneState.{LaneState}
-use Rattle.lane_states.specs.declared.rounds.RoundEnd.{RoundEnd}
-use Rattle.lane_states.specs.declared.rounds.RoundRun.{RoundRun}
+use Rattle.round_runs.specs.declared.round_run.RoundEnd.{RoundEnd}
+use Rattle.round_runs.specs.declared.round_run.RoundRun.{RoundRun}
 use Rattle.lane_states.specs.LaneStates.{journal_of, part_of}
-use Rattle.lane_states.specs.RoundRuns.{Begins, GoesOn, IsEnd, IsWholeRun}
+use Rattle.round_runs.specs.RoundRuns.{Begins, GoesOn, IsEnd, IsWholeRun}
 use Rattle.lane_upkeep.specs.declared.owner.Owner.{Owner}
-use Rattle.upkeep_steps.specs.declared.notes.Exact.{Exact}
-use Rattle.upkeep_steps.specs.declared.notes.RowNote.{RowNote}
+use Rattle.pass_machine.specs.declared.notes.Exact.{Exact}
+use Rattle.pass_machine.specs.declared.notes.RowNote.{RowNote}
 
 -- the piece lies strictly over the row, or strictly inside it
 abbrev pub is_over : Low → Piece → Bool

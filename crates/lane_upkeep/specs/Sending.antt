@@ -6,10 +6,10 @@ use Rattle.messages.specs.declared.body.Body.{Body}
 use Rattle.messages.specs.declared.reply.Reply.{Reply}
 use Rattle.lane_journals.specs.Readers.{returned}
 use Rattle.lane_journals.specs.Meanings.{history}
-use Rattle.lane_rounds.specs.RoundKeeping.{origin_in}
+use Rattle.round_keeping.specs.RoundKeeping.{origin_in}
 use Rattle.lane_states.specs.declared.lane_state.LaneState.{LaneState}
 use Rattle.lane_states.specs.LaneStates.{journal_of, Went}
-use Rattle.quiet_spans.specs.Quiet.{Extends}
+use Rattle.undisturbed_spans.specs.Undisturbed.{Extends}
 use Rattle.lane_upkeep.specs.declared.owner.Owner.{Owner}
 use Rattle.lane_upkeep.specs.CameBack.{CameBack}
 use Rattle.lane_upkeep.specs.Quiet.{InQuiet, IsToldQuietly}

@@ -10,13 +10,13 @@ use Rattle.messages.specs.declared.body.Body.{Body}
 use Rattle.messages.specs.declared.decision.Decision.{Decision}
 use Rattle.messages.specs.declared.reply.Reply.{Reply}
 use Rattle.lane_states.specs.declared.lane_state.LaneState.{LaneState}
-use Rattle.upkeep_steps.specs.declared.doing.Doing.TheVariants as doing
-use Rattle.upkeep_steps.specs.declared.doing.UpkeepStep.{UpkeepStep}
-use Rattle.upkeep_steps.specs.declared.doing.UpkeepStep.TheVariants.{Tell, Decide, Accept, Round, Finished}
-use Rattle.upkeep_steps.specs.declared.notes.RowNote.{RowNote}
-use Rattle.upkeep_steps.specs.declared.pass.UpkeepPass.{UpkeepPass}
-use Rattle.upkeep_steps.specs.Turns.{answered, decided, accepted, rounded}
-use Rattle.upkeep_steps.specs.Going.{Forgets, Makes, made_in, rows_made}
+use Rattle.pass_machine.specs.declared.doing.Doing.TheVariants as doing
+use Rattle.pass_machine.specs.declared.doing.UpkeepStep.{UpkeepStep}
+use Rattle.pass_machine.specs.declared.doing.UpkeepStep.TheVariants.{Tell, Decide, Accept, Round, Finished}
+use Rattle.pass_machine.specs.declared.notes.RowNote.{RowNote}
+use Rattle.pass_machine.specs.declared.pass.UpkeepPass.{UpkeepPass}
+use Rattle.pass_machine.specs.Turns.{answered, decided, accepted, rounded}
+use Rattle.pass_machine.specs.Going.{Forgets, Makes, made_in, rows_made}
 use Rattle.lane_upkeep.specs.declared.owner.Owner.{Owner}
 use Rattle.lane_upkeep.specs.Deciding.{DidAccept}
 use Rattle.lane_upkeep.specs.Maintaining.{AreReturned}
@@ -54,12 +54,12 @@ pub record DoesRound (c e : LaneState) (o : Owner) (p q : UpkeepPass) (at : ℕ)
   pub makes : Makes (made_in p.doing) p.made q.made
 
 -- a step was taken
-abbrev pub Takes : UpkeepStep → LaneState → LaneState → Owner → UpkeepPass → UpkeepPass → List Fate → List Fate → Type 0
-Takes (Tell n b) c e o p q given now = DoesTell c e o p q n b given now
-Takes (Decide at x) c e o p q given now = (now ≡ given) × DoesDecide c e o p q at x
-Takes (Accept at) c e o p q given now = (now ≡ given) × DoesAccept c e o p q at
-Takes (Round at) c e o p q given now = DoesRound c e o p q at given now
-Takes Finished c e o p q given now = ⊥
+abbrev pub TakesStep : UpkeepStep → LaneState → LaneState → Owner → UpkeepPass → UpkeepPass → List Fate → List Fate → Type 0
+TakesStep (Tell n b) c e o p q given now = DoesTell c e o p q n b given now
+TakesStep (Decide at x) c e o p q given now = (now ≡ given) × DoesDecide c e o p q at x
+TakesStep (Accept at) c e o p q given now = (now ≡ given) × DoesAccept c e o p q at
+TakesStep (Round at) c e o p q given now = DoesRound c e o p q at given now
+TakesStep Finished c e o p q given now = ⊥
 
 -- the next step of the machine was taken, which the lane permitted; or there was none
 pub record GoesOneOn (c e : LaneState) (o : Owner) (p q : UpkeepPass) (given now : List Fate) (more : Bool) : Type 0 where
@@ -67,7 +67,7 @@ pub record GoesOneOn (c e : LaneState) (o : Owner) (p q : UpkeepPass) (given now
   pub next : UpkeepPass
   pub comes : Comes c o p next step
   pub may : MayComeNext c o step
-  pub does : MatchBool more (Takes step c e o next q given now) ((step ≡ Finished) × (e ≡ c) × (now ≡ given) × (q ≡ next))
+  pub does : MatchBool more (TakesStep step c e o next q given now) ((step ≡ Finished) × (e ≡ c) × (now ≡ given) × (q ≡ next))
 
 -- one step of the machine after the other
 pub data Runs (o : Owner) : LaneState → UpkeepPass → List Fate → LaneState → UpkeepPass → List Fate → Type 0 where

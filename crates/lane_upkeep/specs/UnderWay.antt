@@ -13,21 +13,21 @@ use Rattle.distributor_part.specs.Targets.{IsToBeActive}
 use Rattle.distributor_part.specs.Upkeep.{CanJoinAt}
 use Rattle.lane_journals.specs.Facts.{AnsweredReady}
 use Rattle.lane_journals.specs.Meanings.{history}
-use Rattle.row_keeping.specs.Deciding.{MayActivate, MayDelete, IsOver}
+use Rattle.row_keeping.specs.Deciding.{MayActivate, MayDelete, IsDeleteOver}
 use Rattle.lane_states.specs.declared.lane_state.LaneState.{LaneState}
 use Rattle.lane_states.specs.Accepting.{HasAccepted}
 use Rattle.lane_states.specs.LaneStates.{journal_of, part_of}
-use Rattle.upkeep_steps.specs.declared.pass.UpkeepPass.{UpkeepPass}
-use Rattle.upkeep_steps.specs.declared.doing.Doing.{Doing}
-use Rattle.upkeep_steps.specs.declared.doing.Doing.TheVariants.{ResentDelete, ResentActivate, JoinTold, SplitTold, Settling}
-use Rattle.upkeep_steps.specs.declared.doing.Settle.{Settle}
-use Rattle.upkeep_steps.specs.declared.doing.Settle.TheVariants.{Readying, Deciding, Accepting, DeleteOver as DeleteIsOver}
-use Rattle.upkeep_steps.specs.declared.doing.UpkeepStep.{UpkeepStep}
-use Rattle.upkeep_steps.specs.declared.doing.UpkeepStep.TheVariants.{Tell, Decide, Accept, Round, Finished}
-use Rattle.upkeep_steps.specs.declared.doing.Turn.TheVariants.{Says}
-use Rattle.upkeep_steps.specs.Turns.{View, turn_at}
-use Rattle.upkeep_steps.specs.Going.{GoesOver, left}
-use Rattle.upkeep_runs.specs.Steps.{IsDecidedBy}
+use Rattle.pass_machine.specs.declared.pass.UpkeepPass.{UpkeepPass}
+use Rattle.pass_machine.specs.declared.doing.Doing.{Doing}
+use Rattle.pass_machine.specs.declared.doing.Doing.TheVariants.{ResentDelete, ResentActivate, JoinTold, SplitTold, Settling}
+use Rattle.pass_machine.specs.declared.doing.Settle.{Settle}
+use Rattle.pass_machine.specs.declared.doing.Settle.TheVariants.{Readying, Deciding, Accepting, DeleteOver as DeleteIsOver}
+use Rattle.pass_machine.specs.declared.doing.UpkeepStep.{UpkeepStep}
+use Rattle.pass_machine.specs.declared.doing.UpkeepStep.TheVariants.{Tell, Decide, Accept, Round, Finished}
+use Rattle.pass_machine.specs.declared.doing.Turn.TheVariants.{Says}
+use Rattle.pass_machine.specs.Turns.{View, turn_at}
+use Rattle.pass_machine.specs.Going.{GoesOver, left}
+use Rattle.pass_runs.specs.Steps.{IsDecidedBy}
 use Rattle.lane_upkeep.specs.declared.owner.Owner.{Owner}
 use Rattle.lane_upkeep.specs.CameBack.{is_taken, is_end}
 use Rattle.lane_upkeep.specs.Deciding.{Decides, HasEnded}
@@ -51,7 +51,7 @@ OfRow c o at P = (row : Row) → HasRow c o at row → P row
 
 -- the unanswered Delete of the row came back with a reply that ends it
 abbrev pub IsRowOver : LaneState → Owner → Row → Type 0
-IsRowOver c o row = IfSome row.deleting (λ d. IsOver (history (journal_of c)) o.state d)
+IsRowOver c o row = IfSome row.deleting (λ d. IsDeleteOver (history (journal_of c)) o.state d)
 
 -- the node that is to be active answered a Ready of the row
 abbrev pub IsReadied : LaneState → Owner → Row → Type 0

@@ -21,7 +21,7 @@ use row_keeping::laws::{
     acceptances_are_kept, deletes_begin, deletes_end, rows_are_activated, rows_are_joined,
     rows_are_split,
 };
-use upkeep_answers::laws::upkeep_leaves_lines;
+use upkeep_spans::laws::upkeep_leaves_lines;
 use value_lists::NoMemory;
 
 /// Makes room for one decision. The only error is want of memory.

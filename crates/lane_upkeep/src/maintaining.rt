@@ -12,10 +12,10 @@ use crate::rest_laws::passes_bring_rest;
 use crate::row_places::rows_are_whole;
 use carriers::Carrier;
 use lane_keeping::laws::owners_act;
+use lane_rounds::opening::{OpeningEnd, open_state};
 use lane_states::at_shortage::AtShortage;
 use lane_states::lane_state::LaneState;
-use lane_states::opening::OpeningEnd;
-use upkeep_answers::laws::{upkeep_goes_on, upkeep_leaves_lines, upkeep_leaves_states};
+use upkeep_spans::laws::{upkeep_goes_on, upkeep_leaves_lines, upkeep_leaves_states};
 use value_lists::NoMemory;
 
 /// Whether the state is opened at the end of an opening.
@@ -53,7 +53,7 @@ fn open_owner<C: Carrier>(
         return Ok(true);
     }
     let key = lane.lane.low();
-    match lane.open_state(owner.distributor, key, carrier, AtShortage::End) {
+    match open_state(lane, owner.distributor, key, carrier, AtShortage::End) {
         Ok(end) => Ok(is_open(end)),
         Err(error) => Err(error),
     }

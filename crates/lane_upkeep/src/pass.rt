@@ -1,5 +1,5 @@
 ghost use Rattle.std.specs.Prelude.{◌≡◌, ℕ, true, false, OnOk, IfOk, length, ◌<◌};
-ghost use Rattle.upkeep_steps.specs.declared.doing.Doing.TheVariants.{Finished};
+ghost use Rattle.pass_machine.specs.declared.doing.Doing.TheVariants.{Finished};
 ghost use Rattle.lane_upkeep.specs.Passing.{IsPassing, PassesOn};
 ghost use Rattle.lane_upkeep.specs.Quiet.{DoesQuietly, PassesQuietly, StandsOn};
 ghost use Rattle.lane_upkeep.specs.Taking.{GoesOneOn, IsPass};
@@ -10,9 +10,9 @@ use crate::row_places::{row_count, rows_are_whole};
 use crate::steps::{decide, next_of, note_acceptance, round, say};
 use carriers::Carrier;
 use lane_states::LaneState;
-use quiet_spans::laws::quiet_spans_part;
-use upkeep_runs::laws::{passes_end, passes_stand};
-use upkeep_steps::{UpkeepPass, UpkeepStep};
+use pass_machine::{UpkeepPass, UpkeepStep};
+use pass_runs::laws::{passes_end, passes_stand};
+use undisturbed_spans::spans::undisturbed_spans_part;
 use value_lists::NoMemory;
 
 /// Takes the next step of a pass; whether there was one. The only error is want of memory, of the lane or of a node.
@@ -37,7 +37,7 @@ fn go_on<C: Carrier>(
         (λ d s. StandsOn d s lane.old lane.new owner.now pass.old pass.new)) }
 {
     passes_stand();
-    quiet_spans_part();
+    undisturbed_spans_part();
     rows_are_whole(lane, owner);
     match next_of(lane, owner, pass) {
         UpkeepStep::Tell { node, body } => say(lane, carrier, owner, pass, node, body)?,
@@ -67,7 +67,7 @@ pub fn make_pass<C: Carrier>(
 {
     passes_stand();
     passes_end();
-    quiet_spans_part();
+    undisturbed_spans_part();
     rows_are_whole(lane, owner);
     // that they can be counted bounds what is left of the pass
     let _many = row_count(lane, owner);

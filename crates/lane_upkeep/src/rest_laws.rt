@@ -7,10 +7,10 @@ ghost use Rattle.lane_upkeep.specs.declared.owner.Owner.{Owner};
 ghost use Rattle.lane_upkeep.specs.Rests.{OpensAndPasses, RestsWhereQuiet};
 
 use lane_keeping::laws::owners_act;
-use lane_rest::laws::{a_pass_brings_rest, nodes_are_seen, rest_is_read_off_the_journal};
-use quiet_scripts::laws::quiet_spans_have_scripts;
-use quiet_spans::laws::quiet_spans_part;
-use rest_settings::laws::settings_are_found;
+use pass_model::laws::{a_pass_brings_rest, nodes_are_seen, rest_is_read_off_the_journal};
+use pass_model::settings::settings_are_found;
+use undisturbed_spans::span_scripts::undisturbed_spans_have_scripts;
+use undisturbed_spans::spans::undisturbed_spans_part;
 
 /// The owner opens its state, where it isn't opened, and makes a pass: where nothing was lost or late in all of it,
 /// the lane is at rest.
@@ -23,6 +23,6 @@ pub fn passes_bring_rest()
     a_pass_brings_rest();
     rest_is_read_off_the_journal();
     nodes_are_seen();
-    quiet_spans_have_scripts();
-    quiet_spans_part();
+    undisturbed_spans_have_scripts();
+    undisturbed_spans_part();
 }

@@ -5,11 +5,12 @@ ghost use Rattle.entry_maps.specs.Entries.{documents_of};
 ghost use Rattle.bucket_db.specs.Rows.{buckets_of};
 ghost use Rattle.bucket_db.specs.declared.row.Row.{Row};
 ghost use Rattle.merge_rounds.specs.Rounds.{HaveAllShown, pieces_by};
-ghost use Rattle.quiet_spans.specs.Quiet.{Extends};
-ghost use Rattle.lane_rounds.specs.RoundKeeping.{KnowsAnswers};
+ghost use Rattle.undisturbed_spans.specs.Undisturbed.{Extends};
+ghost use Rattle.round_keeping.specs.RoundKeeping.{KnowsAnswers};
 ghost use Rattle.lane_states.specs.LaneStates.{journal_of, part_of};
-ghost use Rattle.lane_states.specs.Shortages.{NoneIsShort, EndsAtOnce, HadMemory};
-ghost use Rattle.upkeep_steps.specs.declared.notes.RowNote.{RowNote as Note};
+ghost use Rattle.lane_states.specs.Shortages.{NoneIsShort, EndsAtOnce};
+ghost use Rattle.round_runs.specs.RoundShortages.{HadMemory};
+ghost use Rattle.pass_machine.specs.declared.notes.RowNote.{RowNote as Note};
 ghost use Rattle.lane_upkeep.specs.Passing.{IsPassing, PassesOn, rows_in, HasRow};
 ghost use Rattle.lane_upkeep.specs.Notes.{KnowsNote};
 ghost use Rattle.lane_upkeep.specs.RoundNotes.{is_over, is_inside, serial_in, AreExactBelow, IsNoteOf, NotesRound, NotesRun, RanRound, GainsMarks};
@@ -18,15 +19,17 @@ ghost use Rattle.lane_upkeep.specs.Quiet.{DoesQuietly, IsRoundQuietly};
 use crate::owner::Owner;
 use bucket_ids::Bucket;
 use carriers::Carrier;
-use lane_states::{AtShortage, LaneState, RoundRun};
+use lane_rounds::rounds::{begin_round_at, run_round};
+use lane_states::{AtShortage, LaneState};
 use merge_rounds::Round;
 use node_sets::NodeSet;
+use pass_machine::{Exact, RowNote};
+use pass_model::shown_rows::targets_are_of_the_list;
 use pieces::Piece;
-use quiet_ends::laws::quiet_rounds_end;
-use shown_shapes::laws::targets_are_of_the_list;
+use round_runs::RoundRun;
 use std::alloc::Global;
-use upkeep_answers::laws::{upkeep_goes_on, upkeep_leaves_lines, upkeep_leaves_states};
-use upkeep_steps::{Exact, RowNote};
+use undisturbed_rounds::ending::undisturbed_rounds_end;
+use upkeep_spans::laws::{upkeep_goes_on, upkeep_leaves_lines, upkeep_leaves_states};
 use value_lists::NoMemory;
 
 /// Whether one of these pieces lies strictly over a row.
@@ -177,8 +180,8 @@ fn run_at<C: Carrier>(
     upkeep_leaves_states();
     upkeep_goes_on();
     lane.journal.reserve(2 + lane.spare)?;
-    let mut run = lane.begin_round_at(owner.distributor, at);
-    lane.run_round(carrier, &mut run, AtShortage::End)?;
+    let mut run = begin_round_at(lane, owner.distributor, at);
+    run_round(lane, carrier, &mut run, AtShortage::End)?;
     Ok(run)
 }
 
@@ -211,7 +214,7 @@ pub fn run_round_at<C: Carrier>(
     ensures quiet { IfOk result (λ note. DoesQuietly (C.given carrier.old) (C.given carrier.new) lane.old lane.new owner.now
         (λ d s. (row : Row) → HasRow lane.old owner.now at row → IsRoundQuietly d s lane.old lane.new owner.now at row note)) }
 {
-    quiet_rounds_end();
+    undisturbed_rounds_end();
     targets_are_of_the_list();
     let run = run_at(lane, carrier, owner, at)?;
     note_of(lane.alloc, &run.round)

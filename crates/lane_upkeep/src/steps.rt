@@ -2,8 +2,8 @@ ghost use Rattle.std.specs.Prelude.{◌≡◌, ◌≤◌, ◌<◌, ℕ, true, Li
 ghost use Rattle.cluster_states.specs.Publishing.{serves};
 ghost use Rattle.carriers.specs.declared.fate.Fate.{Fate};
 ghost use Rattle.messages.specs.declared.reply.Reply.{Reply as GivenReply};
-ghost use Rattle.upkeep_steps.specs.declared.doing.UpkeepStep.TheVariants.{Tell, Decide, Accept, Round};
-ghost use Rattle.upkeep_steps.specs.Going.{Awaits, IsTold, IsDecided, IsAccepted, IsRounded, left};
+ghost use Rattle.pass_machine.specs.declared.doing.UpkeepStep.TheVariants.{Tell, Decide, Accept, Round};
+ghost use Rattle.pass_machine.specs.Going.{Awaits, IsTellingRow, IsDecided, IsAccepted, IsRounded, left};
 ghost use Rattle.lane_upkeep.specs.CameBack.{is_taken, is_end};
 ghost use Rattle.lane_upkeep.specs.Deciding.{DecidesNothing};
 ghost use Rattle.lane_upkeep.specs.Noted.{StaysKnown};
@@ -20,8 +20,8 @@ use crate::telling::tell_node;
 use carriers::Carrier;
 use lane_states::LaneState;
 use messages::{Body, Decision, Reply};
-use upkeep_runs::laws::passes_stand;
-use upkeep_steps::{UpkeepPass, UpkeepStep};
+use pass_machine::{UpkeepPass, UpkeepStep};
+use pass_runs::laws::passes_stand;
 use value_lists::NoMemory;
 
 // ---- what comes next
@@ -121,7 +121,7 @@ pub fn say<C: Carrier>(
     requires passing { IsPassing lane.old owner.now (C.given carrier.old) }
     requires under_way { IsUnderWay lane.old owner.now pass.old }
     requires may { MayTell lane.old owner.now node body }
-    requires told { IsTold (length (rows_in lane.old owner.now)) pass.old.doing }
+    requires told { IsTellingRow (length (rows_in lane.old owner.now)) pass.old.doing }
     requires next { IsNextStep lane.old owner.now pass.old (Tell node body) }
     ensures passing { IsPassing lane.new owner.now (C.given carrier.new) }
     ensures on { PassesOn lane.old lane.new owner.now }

@@ -3,9 +3,9 @@ ghost use Rattle.messages.specs.Noting.{message_of};
 ghost use Rattle.messages.specs.declared.reply.Reply.TheVariants as replies;
 ghost use Rattle.lane_journals.specs.Readers.{returned};
 ghost use Rattle.lane_journals.specs.Meanings.{history};
-ghost use Rattle.lane_rounds.specs.RoundKeeping.{origin_in};
+ghost use Rattle.round_keeping.specs.RoundKeeping.{origin_in};
 ghost use Rattle.lane_states.specs.LaneStates.{journal_of, Went};
-ghost use Rattle.quiet_spans.specs.Quiet.{Extends};
+ghost use Rattle.undisturbed_spans.specs.Undisturbed.{Extends};
 ghost use Rattle.lane_upkeep.specs.CameBack.{CameBack};
 ghost use Rattle.lane_upkeep.specs.Noted.{StaysKnown};
 ghost use Rattle.lane_upkeep.specs.Passing.{IsPassing, PassesOn, MayTell};
@@ -17,9 +17,9 @@ use carriers::Carrier;
 use lane_carriage::laws::late_messages_wait;
 use lane_states::LaneState;
 use messages::{Body, Message, Origin, Reply};
-use quiet_passes::laws::quiet_tellings_are_told;
 use row_keeping::laws::rows_are_told;
-use upkeep_answers::laws::{upkeep_goes_on, upkeep_leaves_lines, upkeep_leaves_states};
+use undisturbed_spans::tellings::undisturbed_tellings_are_told;
+use upkeep_spans::laws::{upkeep_goes_on, upkeep_leaves_lines, upkeep_leaves_states};
 use value_lists::NoMemory;
 
 /// The message of the owner of a lane to a node; takes no memory.
@@ -81,7 +81,7 @@ pub fn tell_node<C: Carrier>(
     upkeep_leaves_lines();
     upkeep_leaves_states();
     late_messages_wait();
-    quiet_tellings_are_told();
+    undisturbed_tellings_are_told();
     let message = message_to(lane.lane, owner, node, body);
     let reply = lane.tell(message, carrier)?;
     unless_short(reply)

@@ -12,8 +12,6 @@
 
 mod numbers;
 pub mod read_fault;
-#[cfg(test)]
-mod tests;
 mod tokens;
 pub mod value_reader;
 

@@ -1,2 +1,2 @@
-pub mod Members
-pub mod RunLaws
+mod Members
+mod RunLaws

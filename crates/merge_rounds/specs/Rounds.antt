@@ -6,7 +6,7 @@ use Rattle.bucket_ids.specs.Buckets.{Low}
 use Rattle.node_sets.specs.Members.{has_node, size_of, size_below}
 use Rattle.pieces.specs.declared.piece.Piece.{Piece}
 use Rattle.entry_maps.specs.EntryCodes.{Entries}
-use Rattle.entry_joins.specs.Joins.{joined}
+use Rattle.entry_maps.specs.Joins.{joined}
 use Rattle.messages.specs.Noting.{message_of}
 use Rattle.messages.specs.declared.message.Message.{Message}
 use Rattle.messages.specs.declared.message.Origin.{Origin}

@@ -2,10 +2,9 @@ ghost use Rattle.std.specs.Prelude.{◌≡◌, ◌&&◌, not, ℕ, ◌<◌, true
 ghost use Rattle.std.specs.Option.{option_copied};
 ghost use Rattle.node_sets.specs.Members.{has_node};
 ghost use Rattle.merge_rounds.specs.Rounds.{did_show, did_give, HaveAllShown, pieces_by, shown_by, shown_after, union_after, is_answer};
-ghost use Rattle.entry_joins.specs.Joins.{joined};
+ghost use Rattle.entry_maps.specs.Joins.{joined};
 
-use entry_joins::join;
-use entry_maps::EntryMap;
+use entry_maps::{EntryMap, join};
 use messages::{NodePieces, Reply};
 use node_sets::NodeSet;
 use pieces::{Piece, PieceList};

@@ -1,10 +1,10 @@
 -- What an operation means, by the document that it sees; where a remove was seen there is none.
 use Rattle.std.specs.Prelude.{ℕ, Bool, false, List, Option, Some, None, Result, Ok, Err, if◌then◌else◌}
 use Rattle.std.specs.FinMap as fin
-use Rattle.doc_updates.specs.Fields.{Contents, FieldMap}
+use Rattle.documents.specs.Fields.{Contents, FieldMap}
 use Rattle.doc_updates.specs.Updates.{Changes, updated}
 use Rattle.doc_updates.specs.declared.fault.UpdateFault.{UpdateFault}
-use Rattle.doc_selection.specs.Formulas.{Formula}
+use Rattle.conditions.specs.Formulas.{Formula}
 use Rattle.doc_selection.specs.declared.terms.Term.{Term}
 use Rattle.doc_selection.specs.Truth.{selects}
 use Rattle.messages.specs.declared.operation.Decided.{Decided}

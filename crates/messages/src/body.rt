@@ -2,7 +2,8 @@ ghost use Rattle.std.specs.Prelude.{◌≡◌, IfOk};
 
 use bucket_ids::Bucket;
 use document_ids::DocId;
-use entry_maps::{EntryMap, SharedEntry};
+use documents::SharedEntry;
+use entry_maps::EntryMap;
 use std::alloc::Global;
 use value_lists::{NoMemory, TryCopy};
 

@@ -41,7 +41,7 @@ impl TryCopy for Message {
 }
 
 /// What a distributor puts into each message that it sends in a lane under a version.
-#[derive(Clone, Copy, Debug, PartialEq, Eq)]
+#[derive(Clone, Copy, PartialEq, Eq)]
 pub struct Origin {
     pub version: u32,
     pub lane: u8,

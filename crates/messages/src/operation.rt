@@ -3,13 +3,14 @@ ghost use Rattle.doc_updates.specs.declared.fault.UpdateFault.TheVariants as rea
 ghost use Rattle.messages.specs.Meaning.{makes_one, is_met, decide_plain, decide_by, decide, or_empty, updated_of, effect};
 
 use doc_selection::Selection;
-use doc_updates::{Document, Update, UpdateFault};
+use doc_updates::{Update, UpdateFault};
 use document_ids::DocId;
+use documents::Document;
 use std::alloc::Global;
 use value_lists::{NoMemory, TryCopy};
 
 /// What an operation does with its document.
-#[derive(Debug, Drop)]
+#[derive(Drop)]
 pub enum OpKind {
     /// This document is stored.
     Put(Document),
@@ -33,7 +34,7 @@ impl TryCopy for OpKind {
 }
 
 /// What is asked of one document.
-#[derive(Debug, Drop)]
+#[derive(Drop)]
 pub struct Operation {
     pub id: DocId,
     pub kind: OpKind,
@@ -45,7 +46,7 @@ pub struct Operation {
 }
 
 /// What becomes of an operation, by the document that it sees.
-#[derive(Clone, Copy, Debug, PartialEq, Eq)]
+#[derive(Clone, Copy, PartialEq, Eq)]
 pub enum Decided {
     /// It has its effect.
     GoesAhead,

@@ -5,7 +5,7 @@ use node_sets::NodeSet;
 use pieces::PieceList;
 
 /// What the owner of a lane is to do there.
-#[derive(Clone, Copy, Debug, PartialEq, Eq)]
+#[derive(Clone, Copy, PartialEq, Eq)]
 pub enum Job {
     /// The row of a key is made fit for an operation.
     Prepare { key: u64 },
@@ -27,7 +27,7 @@ pub enum Step {
 }
 
 /// What one node's answer in a round showed.
-#[derive(Debug, Drop)]
+#[derive(Drop)]
 pub struct NodePieces {
     pub node: u8,
     pub pieces: PieceList,

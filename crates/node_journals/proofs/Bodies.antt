@@ -5,9 +5,9 @@ use Rattle.std.specs.FinMap as fin
 use Rattle.global_ids.specs.Keys.{key_of}
 use Rattle.entry_maps.specs.Entries.{with_entry, in_bucket}
 use Rattle.entry_maps.specs.EntryCodes.{Entries}
-use Rattle.service_layer.specs.Joins.{joined}
+use Rattle.entry_maps.specs.Joins.{joined}
 use Rattle.pieces.specs.declared.piece.Piece.{Piece}
-use Rattle.laid_pieces.specs.Pieces.{has_key_of, does_meet, renewed, ready_at, split_at, join_at, apply_at, without}
+use Rattle.pieces.specs.Pieces.{has_key_of, does_meet, renewed, ready_at, split_at, join_at, apply_at, without}
 use Rattle.messages.specs.declared.body.Body.{Body}
 use Rattle.messages.specs.declared.body.Body.TheVariants as body
 use Rattle.service_layer.specs.Nodes.{Node, adopt, after_body}

@@ -1,7 +1,7 @@
 -- A message is on its way once it is sent, and stays so.
 use Rattle.std.proofs.Common.{◌≡◌, ◌==◌, ℕ, List, ◌∷◌, Some, None, refl, ap, ◌∙◌, eq-eqb}
 use Rattle.std.specs.FinMap as fin
-use Rattle.entry_maps.specs.declared.entry.Entry.{Entry}
+use Rattle.documents.specs.declared.entry.Entry.{Entry}
 use Rattle.entry_maps.specs.Stamps.{stamps_of}
 use Rattle.messages.specs.declared.message.Message.{Message}
 use Rattle.messages.specs.declared.body.Body.{Body}

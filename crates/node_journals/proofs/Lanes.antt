@@ -1,7 +1,7 @@
 -- A lane goes on replaying to its nodes.
 use Rattle.std.proofs.Common.{◌≡◌, ℕ, Bool, true, false, cond, List, [], ◌∷◌, refl, sym, ◌∙◌, subst, eqb, eqb-true, eq-eqb}
 use mathlib.Core.Bool.{true≢false}
-use Rattle.laid_pieces.specs.Runs.{AreRuns}
+use Rattle.pieces.specs.Runs.{AreRuns}
 use Rattle.messages.specs.declared.message.Message.{Message}
 use Rattle.messages.specs.declared.reply.Reply.{Reply}
 use Rattle.messages.specs.Noting.{noted_reply}

@@ -1,19 +1,22 @@
+-- Shared: other crates cite these.
 pub mod Words
-pub mod Lists
-pub mod Bodies
-pub mod Standing
 pub mod Shapes
 pub mod Stamping
-pub mod Reading
-pub mod Replays
-pub mod Members
-pub mod Permits
-pub mod Taking
 pub mod Flying
 pub mod Regions
 pub mod Holding
-pub mod Validity
 pub mod Sending
-pub mod Lanes
-pub mod Writing
 pub mod Uniting
+pub mod Going
+-- Of this crate alone.
+mod Lists
+mod Bodies
+mod Standing
+mod Reading
+mod Replays
+mod Members
+mod Permits
+mod Taking
+mod Validity
+mod Lanes
+mod Writing

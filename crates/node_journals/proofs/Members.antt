@@ -6,12 +6,13 @@ use Rattle.bucket_ids.specs.Buckets as ids
 use Rattle.bucket_ids.specs.Buckets.{IsBucket}
 use Rattle.bucket_ids.specs.Paths.{last_path}
 use Rattle.pieces.specs.declared.piece.Piece.{Piece}
-use Rattle.laid_pieces.specs.Pieces as laid
-use Rattle.laid_pieces.specs.Pieces.{is_over, is_exactly, does_meet}
-use Rattle.laid_pieces.specs.Runs.{IsLaid, AreRuns}
-use Rattle.laid_pieces.specs.Told.{Told, Accepted, NoBucket, Differs, by_mark}
-use Rattle.laid_pieces.proofs.PieceLaws.{or_false, both, bucket-same, same-refl, meets-refl}
-use Rattle.laid_pieces.proofs.Laid.{none_past}
+use Rattle.pieces.specs.Pieces as laid
+use Rattle.pieces.specs.Pieces.{is_over, is_exactly, does_meet}
+use Rattle.pieces.specs.Runs.{IsLaid, AreRuns}
+use Rattle.pieces.specs.Told.{Told, Accepted, NoBucket, Differs, by_mark}
+use Rattle.proof_basics.proofs.Tests.{or_false, both}
+use Rattle.pieces.proofs.PieceLaws.{bucket-same, same-refl, meets-refl}
+use Rattle.pieces.proofs.Laid.{none_past}
 use Rattle.lane_journals.specs.Buckets.{Bucket, covers}
 use Rattle.lane_journals.specs.Pieces.{NodePiece, IsPieceIn, any_covers, ready_covers}
 use Rattle.lane_journals.specs.Naming.{ShowsPieces}

@@ -7,16 +7,17 @@ use Rattle.std.specs.FinMap as fin
 use Rattle.std.specs.FinMap.{get-insert, get-empty}
 use Rattle.global_ids.specs.Keys as keys
 use Rattle.bucket_ids.specs.Buckets as ids
-use Rattle.entry_maps.specs.declared.entry.Entry.{Entry}
-use Rattle.entry_maps.specs.EntryCodes.{Entries, id_cmp}
+use Rattle.documents.specs.declared.entry.Entry.{Entry}
+use Rattle.documents.specs.EntryCodes.{id_cmp}
+use Rattle.entry_maps.specs.EntryCodes.{Entries}
 use Rattle.entry_maps.specs.Entries.{in_bucket}
 use Rattle.entry_maps.specs.Stamps.{stamps_of}
 use Rattle.entry_maps.proofs.StampLaws.{stamps_of-rising}
 use Rattle.pieces.specs.declared.piece.Piece.{Piece}
-use Rattle.laid_pieces.specs.Pieces as laid
-use Rattle.laid_pieces.specs.Pieces.{is_piece, is_over, is_inside, is_exactly, does_meet, has_key_of}
-use Rattle.laid_pieces.specs.Runs.{AreRuns}
-use Rattle.laid_pieces.specs.Told.{Told, Accepted, NoBucket, Differs, where_some}
+use Rattle.pieces.specs.Pieces as laid
+use Rattle.pieces.specs.Pieces.{is_piece, is_over, is_inside, is_exactly, does_meet, has_key_of}
+use Rattle.pieces.specs.Runs.{AreRuns}
+use Rattle.pieces.specs.Told.{Told, Accepted, NoBucket, Differs, where_some}
 use Rattle.messages.specs.declared.body.Body.{Body}
 use Rattle.messages.specs.declared.body.Body.TheVariants as body
 use Rattle.service_layer.specs.Nodes.{Node, only_entry}
@@ -26,7 +27,7 @@ use Rattle.lane_journals.specs.Buckets as words
 use Rattle.lane_journals.specs.Buckets.{Bucket, Id, key_of}
 use Rattle.lane_journals.specs.Events as plain
 use Rattle.lane_journals.specs.Readers.{Journal, Message, sent, version, store, acceptable, was_named, stands, holds, Given}
-use Rattle.lane_journals.specs.Pieces.{NodePiece, any_contains, any_covers, any_inside, any_meets, ready_covers, pieces, Takes}
+use Rattle.lane_journals.specs.Pieces.{NodePiece, any_contains, any_covers, any_inside, any_meets, ready_covers, pieces, MayTake}
 use Rattle.lane_journals.specs.Pieces as listed
 use Rattle.lane_journals.specs.Legal.{Legal, MayShow, Lacks, Differ, Has, NotAcceptable, Replies}
 use Rattle.lane_journals.specs.States.{state_of}
@@ -198,7 +199,7 @@ module _ (laws : AreRuns) (S : Setting) (J : List LaneEvent) (legal : IsLegal S 
   has (body.Ready b) e = tt
   has (body.Activate b) e = tt
 
-  takes : (B : Body) → told B ps ≡ Accepted → Takes qs (meant B)
+  takes : (B : Body) → told B ps ≡ Accepted → MayTake qs (meant B)
   takes (body.Delete b s) e = exact-at b ∙ there-exact b s ps (accepted-delete b s ps e)
   takes (body.Split b) e = covers-at b ∙ accepted-split b ps e
   takes (body.Join b) e = inside-at b ∙ accepted-join b ps e
@@ -311,7 +312,7 @@ module _ (laws : AreRuns) (S : Setting) (J : List LaneEvent) (legal : IsLegal S 
     replies-answer e = record {
       low = low;
       has = at-body (λ i y. Has H i y) (has B e);
-      takes = at-body (λ i y. Takes (pieces i H) y) (takes B e);
+      takes = at-body (λ i y. MayTake (pieces i H) y) (takes B e);
       show = λ b is. subst (λ i. MayShow H i b (given B)) (sym to) (subst (λ C. MayShow H n b (given C)) (sym (same_read B b (sym body_is ∙ is))) (show b));
       show_one = λ id is. let one = same_one B id (sym body_is ∙ is) in
           subst (λ i. (given B).content id ≡ store i id H) (sym to) (subst (λ C. (given C).content id ≡ store n id H) (sym one.1) (show_one one.0 id));

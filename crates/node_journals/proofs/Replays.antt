@@ -5,17 +5,17 @@ use Rattle.std.proofs.lemmas.Bool.Decides.{nat_tests}
 use Rattle.std.specs.List.{list_any}
 use Rattle.std.specs.FinMap as fin
 use Rattle.std.specs.FinMap.{get-empty}
-use Rattle.entry_maps.specs.EntryCodes.{id_cmp}
+use Rattle.documents.specs.EntryCodes.{id_cmp}
 use Rattle.pieces.specs.declared.piece.Piece.{Piece}
-use Rattle.laid_pieces.specs.Pieces.{is_piece, does_meet}
-use Rattle.laid_pieces.specs.Holdings.{AreUpTo}
-use Rattle.laid_pieces.specs.Runs.{IsLaid, AreRuns}
-use Rattle.laid_pieces.specs.Told.{Accepted}
+use Rattle.pieces.specs.Pieces.{is_piece, does_meet}
+use Rattle.pieces.specs.Holdings.{AreUpTo}
+use Rattle.pieces.specs.Runs.{IsLaid, AreRuns}
+use Rattle.pieces.specs.Told.{Accepted}
 use Rattle.messages.specs.declared.body.Body.{Body}
 use Rattle.messages.specs.declared.body.Body.TheVariants as body
 use Rattle.messages.specs.declared.noted.NotedReply.{NotedReply}
 use Rattle.messages.specs.declared.noted.NotedReply.TheVariants as noted
-use Rattle.service_layer.specs.Replicas.{Replica, IsReplica}
+use Rattle.replica_store.specs.Replicas.{Replica, IsReplica}
 use Rattle.service_layer.specs.Nodes.{Node, new_node, adopt, after_body, stored}
 use Rattle.service_layer.specs.Takes.{told, shown_pieces, IsInside}
 use Rattle.lane_journals.specs.Stamps.{Stamp}

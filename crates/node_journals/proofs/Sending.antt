@@ -2,13 +2,13 @@
 use Rattle.std.proofs.Common.{◌≡◌, ℕ, Bool, true, false, cond, List, Option, Some, None, inl, inr, refl, sym, ap, ◌∙◌, subst}
 use Rattle.std.proofs.lemmas.Bool.{cases_lt}
 use Rattle.std.specs.FinMap as fin
-use Rattle.entry_maps.specs.declared.entry.Entry.{Entry}
+use Rattle.documents.specs.declared.entry.Entry.{Entry}
 use Rattle.entry_maps.specs.EntryCodes.{Entries}
 use Rattle.entry_maps.specs.Entries.{in_bucket, newer_of, is_newer}
 use Rattle.entry_maps.specs.Stamps.{stamps_of}
 use Rattle.entry_maps.proofs.StampLaws.{stamps_of-rising}
-use Rattle.service_layer.specs.Joins.{joined}
-use Rattle.service_layer.specs.JoinLaws.{get-joined}
+use Rattle.entry_maps.specs.Joins.{joined}
+use Rattle.entry_maps.proofs.JoinLaws.{get-joined}
 use Rattle.pieces.specs.declared.piece.Piece.{Piece}
 use Rattle.messages.specs.declared.message.Message.{Message}
 use Rattle.messages.specs.declared.body.Body.{Body}
@@ -16,7 +16,7 @@ use Rattle.messages.specs.declared.body.Body.TheVariants as body
 use Rattle.messages.specs.declared.reply.Reply.{Reply}
 use Rattle.messages.specs.declared.reply.Reply.TheVariants as reply
 use Rattle.messages.specs.Noting.{noted_body}
-use Rattle.service_layer.specs.Replicas.{LieIn}
+use Rattle.replica_store.specs.Replicas.{LieIn}
 use Rattle.service_layer.specs.Nodes.{Node, adopt}
 use Rattle.service_layer.specs.Takes.{Treats, shown_entries}
 use Rattle.lane_journals.specs.Stamps.{Stamp, newer}

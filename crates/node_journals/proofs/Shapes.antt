@@ -7,12 +7,12 @@ use Rattle.bucket_ids.specs.Buckets as ids
 use Rattle.bucket_ids.specs.Buckets.{IsBucket, has_key}
 use Rattle.bucket_ids.specs.Paths.{first_path, last_path}
 use Rattle.pieces.specs.declared.piece.Piece.{Piece}
-use Rattle.laid_pieces.specs.Pieces as laid
-use Rattle.laid_pieces.specs.Pieces.{is_over, is_inside, is_exactly, does_meet, has_key_of, with_serial, renewed, make_ready, ready_at, parts, split_at, join_at, with_piece, apply_at, without}
-use Rattle.laid_pieces.specs.Runs.{IsLaid, AreRuns}
-use Rattle.laid_pieces.proofs.PieceLaws.{or_false}
-use Rattle.laid_pieces.proofs.Laid.{none_past}
-use Rattle.laid_pieces.specs.Told.{Accepted}
+use Rattle.pieces.specs.Pieces as laid
+use Rattle.pieces.specs.Pieces.{is_over, is_inside, is_exactly, does_meet, has_key_of, with_serial, renewed, make_ready, ready_at, parts, split_at, join_at, with_piece, apply_at, without}
+use Rattle.pieces.specs.Runs.{IsLaid, AreRuns}
+use Rattle.proof_basics.proofs.Tests.{or_false}
+use Rattle.pieces.proofs.Laid.{none_past}
+use Rattle.pieces.specs.Told.{Accepted}
 use Rattle.messages.specs.declared.body.Body.{Body as Message}
 use Rattle.messages.specs.declared.body.Body.TheVariants as message
 use Rattle.service_layer.specs.Takes.{told}

@@ -8,14 +8,15 @@ use Rattle.std.specs.Ordering.{eq_by_cmp, is_eq}
 use Rattle.std.specs.FinMap as fin
 use Rattle.std.specs.FinMap.{get-insert, get-retain_keys, slice_cmp-IsAntisymmetric, nat_cmp-IsAntisymmetric, IsAntisymmetric}
 use Rattle.stamps.specs.Order.{is_before}
-use Rattle.entry_maps.specs.declared.entry.Entry.{Entry}
-use Rattle.entry_maps.specs.EntryCodes.{Entries, id_cmp}
+use Rattle.documents.specs.declared.entry.Entry.{Entry}
+use Rattle.documents.specs.EntryCodes.{id_cmp}
+use Rattle.entry_maps.specs.EntryCodes.{Entries}
 use Rattle.entry_maps.specs.Entries.{is_newer, with_entry, newer_of, in_bucket}
 use Rattle.entry_maps.specs.Stamps.{stamp_in, stamps_of}
 use Rattle.entry_maps.proofs.StampLaws.{stamps_of-members}
-use Rattle.service_layer.specs.Joins.{joined}
-use Rattle.service_layer.specs.JoinLaws.{get-joined}
-use Rattle.service_layer.specs.Replicas.{LieIn}
+use Rattle.entry_maps.specs.Joins.{joined}
+use Rattle.entry_maps.proofs.JoinLaws.{get-joined}
+use Rattle.replica_store.specs.Replicas.{LieIn}
 use Rattle.messages.specs.declared.body.Body.{Body}
 use Rattle.messages.specs.declared.body.Body.TheVariants as body
 use Rattle.service_layer.specs.Takes.{IsInside}

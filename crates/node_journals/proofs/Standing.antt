@@ -9,16 +9,17 @@ use Rattle.bucket_ids.specs.Buckets as ids
 use Rattle.bucket_ids.specs.Buckets.{Low, IsBucket, has_key}
 use Rattle.bucket_ids.specs.Paths.{last_path}
 use Rattle.pieces.specs.declared.piece.Piece.{Piece}
-use Rattle.laid_pieces.specs.Pieces as laid
-use Rattle.laid_pieces.specs.Pieces.{is_piece, is_exactly, is_over, is_inside, has_key_of, does_meet, holds, without}
-use Rattle.laid_pieces.specs.Holdings.{AreUpTo}
-use Rattle.laid_pieces.specs.Lives.{stale, stale_at}
-use Rattle.laid_pieces.specs.Runs.{IsLaid, AreRuns}
-use Rattle.laid_pieces.specs.Told.{Accepted, NoBucket, Differs, where_some, unless_met}
-use Rattle.laid_pieces.proofs.PieceLaws.{or_false, both, bucket-same}
-use Rattle.laid_pieces.proofs.FreshLaws.{fresh-store, fresh-apply, fresh-split, fresh-join, fresh-ready, fresh-renewed}
-use Rattle.laid_pieces.proofs.KeptLaws.{kept-renewed, kept-apply, kept-split, kept-join, kept-made_ready, kept-activate, kept-delete}
-use Rattle.laid_pieces.proofs.KeyLaws.{holds-delete}
+use Rattle.pieces.specs.Pieces as laid
+use Rattle.pieces.specs.Pieces.{is_piece, is_exactly, is_over, is_inside, has_key_of, does_meet, holds, without}
+use Rattle.pieces.specs.Holdings.{AreUpTo}
+use Rattle.pieces.specs.Lives.{stale, stale_at}
+use Rattle.pieces.specs.Runs.{IsLaid, AreRuns}
+use Rattle.pieces.specs.Told.{Accepted, NoBucket, Differs, where_some, unless_met}
+use Rattle.proof_basics.proofs.Tests.{or_false, both}
+use Rattle.pieces.proofs.PieceLaws.{bucket-same}
+use Rattle.pieces.proofs.FreshLaws.{fresh-store, fresh-apply, fresh-split, fresh-join, fresh-ready, fresh-renewed}
+use Rattle.pieces.proofs.KeptLaws.{kept-renewed, kept-apply, kept-split, kept-join, kept-made_ready, kept-activate, kept-delete}
+use Rattle.pieces.proofs.KeyLaws.{holds-delete}
 use Rattle.messages.specs.declared.body.Body.{Body}
 use Rattle.messages.specs.declared.body.Body.TheVariants as body
 use Rattle.service_layer.specs.Takes.{told}

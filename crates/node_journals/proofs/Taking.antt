@@ -1,8 +1,8 @@
 -- A message that is taken: its delivery may come next, and the node is what the journal says then.
 use Rattle.std.proofs.Common.{◌≡◌, ℕ, ◌<◌, ◌≤◌, false, List, ◌∷◌, Some, inl, inr, refl, sym, ap, ◌∙◌, subst}
 use Rattle.std.proofs.lemmas.Bool.{cases_lt}
-use Rattle.laid_pieces.specs.Runs.{AreRuns}
-use Rattle.laid_pieces.specs.Told.{Accepted}
+use Rattle.pieces.specs.Runs.{AreRuns}
+use Rattle.pieces.specs.Told.{Accepted}
 use Rattle.entry_maps.specs.Stamps.{stamps_of}
 use Rattle.messages.specs.declared.message.Message.{Message}
 use Rattle.messages.specs.declared.reply.Reply.{Reply}
@@ -10,7 +10,7 @@ use Rattle.messages.specs.declared.reply.Reply.TheVariants as reply
 use Rattle.messages.specs.declared.noted.NotedReply.{NotedReply}
 use Rattle.messages.specs.declared.noted.NotedReply.TheVariants as noted
 use Rattle.messages.specs.Noting.{noted_reply}
-use Rattle.service_layer.specs.Replicas.{IsReplica}
+use Rattle.replica_store.specs.Replicas.{IsReplica}
 use Rattle.service_layer.specs.Nodes.{Node, adopt, stored}
 use Rattle.service_layer.specs.Takes.{Treats, told, shown_entries, shown_pieces}
 use Rattle.lane_journals.specs.Readers as readers

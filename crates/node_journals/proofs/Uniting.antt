@@ -3,12 +3,13 @@ use Rattle.std.proofs.Common.{◌≡◌, ◌==◌, ◌||◌, inl, inr, ℕ, Bool
 use mathlib.Core.Bool.{true≢false}
 use Rattle.std.specs.FinMap as fin
 use Rattle.std.specs.FinMap.{get-empty}
-use Rattle.entry_maps.specs.EntryCodes.{Entries, id_cmp}
-use Rattle.entry_maps.specs.declared.entry.Entry.{Entry}
+use Rattle.documents.specs.EntryCodes.{id_cmp}
+use Rattle.entry_maps.specs.EntryCodes.{Entries}
+use Rattle.documents.specs.declared.entry.Entry.{Entry}
 use Rattle.entry_maps.specs.Entries.{in_bucket, newer_of, is_newer}
-use Rattle.service_layer.specs.Joins.{joined}
-use Rattle.service_layer.specs.JoinLaws.{get-joined}
-use Rattle.service_layer.specs.Replicas.{LieIn}
+use Rattle.entry_maps.specs.Joins.{joined}
+use Rattle.entry_maps.proofs.JoinLaws.{get-joined}
+use Rattle.replica_store.specs.Replicas.{LieIn}
 use Rattle.lane_journals.specs.Stamps.{Stamp, Le, newer}
 use Rattle.lane_journals.specs.Buckets.{Bucket, Id}
 use Rattle.lane_journals.specs.Events.{Event}

@@ -2,21 +2,21 @@
 use Rattle.std.proofs.Common.{◌≡◌, inl, inr, ℕ, ◌+◌, ◌^◌, ◌<◌, List, sym, ◌∙◌, subst, arith}
 use Rattle.bucket_ids.specs.Buckets.{has_key}
 use Rattle.global_ids.specs.Keys.{key_of}
-use Rattle.service_layer.specs.JoinLaws.{get-joined}
-use Rattle.laid_pieces.specs.Pieces.{holds, has_key_of, does_meet}
-use Rattle.laid_pieces.specs.Runs.{AreRuns}
-use Rattle.laid_pieces.specs.Told.{Accepted}
-use Rattle.laid_pieces.proofs.Laid.{IsLaid-renewed, IsLaid-ready, IsLaid-filter, IsLaid-split, IsLaid-join}
-use Rattle.laid_pieces.proofs.Serials.{AreUpTo-renewed, AreUpTo-ready, AreUpTo-filter, AreUpTo-split, AreUpTo-join}
-use Rattle.laid_pieces.proofs.ApplyLaws.{IsLaid-apply, AreUpTo-apply}
-use Rattle.laid_pieces.proofs.KeyLaws.{holds-renewed, holds-ready, holds-split, holds-join, holds-apply, holds-delete}
+use Rattle.entry_maps.proofs.JoinLaws.{get-joined}
+use Rattle.pieces.specs.Pieces.{holds, has_key_of, does_meet}
+use Rattle.pieces.specs.Runs.{AreRuns}
+use Rattle.pieces.specs.Told.{Accepted}
+use Rattle.pieces.proofs.Laid.{IsLaid-renewed, IsLaid-ready, IsLaid-filter, IsLaid-split, IsLaid-join}
+use Rattle.pieces.proofs.Serials.{AreUpTo-renewed, AreUpTo-ready, AreUpTo-filter, AreUpTo-split, AreUpTo-join}
+use Rattle.pieces.proofs.ApplyLaws.{IsLaid-apply, AreUpTo-apply}
+use Rattle.pieces.proofs.KeyLaws.{holds-renewed, holds-ready, holds-split, holds-join, holds-apply, holds-delete}
 use Rattle.messages.specs.declared.body.Body.{Body}
 use Rattle.messages.specs.declared.body.Body.TheVariants as body
 use Rattle.messages.specs.declared.reply.Reply.{Reply}
 use Rattle.messages.specs.declared.reply.Reply.TheVariants as reply
 use Rattle.messages.specs.declared.message.Message.{Message}
-use Rattle.service_layer.specs.Replicas.{Replica, IsReplica}
-use Rattle.service_layer.specs.HeldEntries.{AreHeld-store, AreHeld-more, AreHeld-join, AreHeld-delete}
+use Rattle.replica_store.specs.Replicas.{Replica, IsReplica}
+use Rattle.replica_store.proofs.HeldEntries.{AreHeld-store, AreHeld-more, AreHeld-join, AreHeld-delete}
 use Rattle.service_layer.specs.Nodes.{Node, adopt, after_body, stored}
 use Rattle.service_layer.specs.Takes.{Takes, Treats, told}
 use Rattle.std.proofs.lemmas.Bool.{cases_lt}

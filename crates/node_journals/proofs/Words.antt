@@ -6,8 +6,8 @@ use Rattle.bucket_ids.specs.Buckets as ids
 use Rattle.bucket_ids.specs.Buckets.{has_key}
 use Rattle.entry_maps.specs.Entries.{in_bucket}
 use Rattle.pieces.specs.declared.piece.Piece.{Piece}
-use Rattle.laid_pieces.specs.Pieces as laid
-use Rattle.laid_pieces.specs.Pieces.{is_piece}
+use Rattle.pieces.specs.Pieces as laid
+use Rattle.pieces.specs.Pieces.{is_piece}
 use Rattle.lane_journals.specs.Buckets.{Bucket, Id, contains, same_bucket, covers, meets, first_child, second_child, key_of}
 use Rattle.lane_journals.specs.Meanings.{names}
 

@@ -2,7 +2,7 @@
 use Rattle.std.proofs.Common.{◌≡◌, ◌==◌, ℕ, true, false, cond, List, [], ◌∷◌, Option, Some, None, inl, inr, refl, sym, ap, ◌∙◌, arith, eq-eqb}
 use mathlib.Core.Bool.{true≢false}
 use Rattle.std.proofs.lemmas.Bool.Decides.{nat_tests}
-use Rattle.entry_maps.specs.declared.entry.Entry.{Entry}
+use Rattle.documents.specs.declared.entry.Entry.{Entry}
 use Rattle.lane_journals.specs.Stamps.{Stamp, same_stamp}
 use Rattle.lane_journals.specs.Events.{Event}
 use Rattle.lane_journals.specs.Readers.{Journal, or_else, only_if, Beginning, began, wrote}
@@ -16,7 +16,7 @@ use Rattle.lane_journals.specs.declared.event.LaneEvent.TheVariants.{Wrote}
 use Rattle.lane_journals.proofs.Basics.{or_else-cases, only_if-some, began-stays}
 use Rattle.lane_journals.proofs.Order.{same_stamp-true}
 use Rattle.lane_journals.proofs.Meant.{meant-legal}
-use Rattle.lane_durability.proofs.Kept.{stamp-line}
+use Rattle.lane_journals.proofs.Kept.{stamp-line}
 
 same_stamp-refl : (s : Stamp) → same_stamp s s ≡ true
 unfolding same_stamp

@@ -3,11 +3,11 @@
 use Rattle.std.specs.Prelude.{◌≡◌, ◌≤◌, ◌+◌, ◌==◌, ℕ, Bool, true, false, nat_lt, List, [], ◌∷◌, map, Option, None, Some, if◌then◌else◌}
 use Rattle.std.specs.List.{list_any}
 use Rattle.std.specs.FinMap as fin
-use Rattle.entry_maps.specs.declared.entry.Entry.{Entry}
+use Rattle.documents.specs.declared.entry.Entry.{Entry}
 use Rattle.entry_maps.specs.EntryCodes.{Entries}
 use Rattle.pieces.specs.declared.piece.Piece.{Piece}
-use Rattle.laid_pieces.specs.Pieces.{is_piece}
-use Rattle.service_layer.specs.Replicas.{IsReplica}
+use Rattle.pieces.specs.Pieces.{is_piece}
+use Rattle.replica_store.specs.Replicas.{IsReplica}
 use Rattle.service_layer.specs.Nodes.{Node, stored, with_region}
 use Rattle.lane_journals.specs.Stamps.{Stamp}
 use Rattle.lane_journals.specs.Buckets.{Bucket, Id}

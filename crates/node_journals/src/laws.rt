@@ -4,14 +4,14 @@ ghost use Rattle.std.specs.Prelude.{◌≡◌, ◌≢◌, ◌↔◌, ◌==◌, �
 ghost use Rattle.std.specs.FinMap as fin;
 ghost use Rattle.std.specs.List.{list_any};
 ghost use Rattle.bucket_ids.specs.Buckets.{has_key};
-ghost use Rattle.laid_pieces.specs.Pieces as laid;
-ghost use Rattle.service_layer.specs.Replicas.{LieIn};
+ghost use Rattle.pieces.specs.Pieces as laid;
+ghost use Rattle.replica_store.specs.Replicas.{LieIn};
 ghost use Rattle.service_layer.specs.Nodes.{Node, new_node};
 ghost use Rattle.service_layer.specs.Takes.{Takes};
-ghost use Rattle.entry_maps.specs.declared.entry.Entry.{Entry};
+ghost use Rattle.documents.specs.declared.entry.Entry.{Entry};
 ghost use Rattle.entry_maps.specs.EntryCodes.{Entries};
 ghost use Rattle.entry_maps.specs.Stamps.{stamps_of};
-ghost use Rattle.service_layer.specs.Joins.{joined};
+ghost use Rattle.entry_maps.specs.Joins.{joined};
 ghost use Rattle.messages.specs.declared.message.Message.{Message};
 ghost use Rattle.messages.specs.declared.reply.Reply.{Reply};
 ghost use Rattle.messages.specs.Noting.{noted_body};
@@ -34,7 +34,7 @@ ghost use Rattle.node_journals.specs.Replaying.{IsNoDelivery, sending, delivered
 ghost use Rattle.node_journals.specs.Unions.{Gave, IsUnion};
 
 use global_ids::laws::keys_locate;
-use laid_pieces::laws::runs_are_known;
+use pieces::laws::runs_are_known;
 
 /// A node that took no message is what the empty journal says; what is no delivery leaves each node, and a
 /// delivery each but its receiver.

@@ -1,3 +1,5 @@
+-- Shared: other crates cite these.
 pub mod NodeLaws
-pub mod NextLaws
-pub mod ListLaws
+-- Of this crate alone.
+mod NextLaws
+mod ListLaws

@@ -3,9 +3,9 @@ use Rattle.std.proofs.Common.{◌≡◌, ℕ, ◌<◌, Bool, true, false, cond, 
 use mathlib.Core.Bool.{true≢false}
 use Rattle.node_sets.specs.Members.{has_node, size_of}
 use Rattle.stamps.specs.declared.stamp.Stamp.{Stamp}
-use Rattle.entry_maps.specs.declared.entry.Entry.{Entry}
+use Rattle.documents.specs.declared.entry.Entry.{Entry}
 use Rattle.conditions.specs.Formulas.{Formula}
-use Rattle.messages.specs.Term.{Term}
+use Rattle.doc_selection.specs.declared.terms.Term.{Term}
 use Rattle.messages.specs.Meaning.{decide_by}
 use Rattle.messages.specs.Noting.{message_of}
 use Rattle.messages.specs.declared.message.Message.{Message}

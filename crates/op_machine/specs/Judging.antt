@@ -3,7 +3,7 @@ use Rattle.std.specs.Prelude.{ℕ, Bool, true, false, ◌||◌, List, Option, No
 use Rattle.stamps.specs.declared.stamp.Stamp.{Stamp}
 use Rattle.documents.specs.Fields.{Contents}
 use Rattle.doc_updates.specs.declared.fault.UpdateFault.{UpdateFault}
-use Rattle.entry_maps.specs.declared.entry.Entry.{Entry}
+use Rattle.documents.specs.declared.entry.Entry.{Entry}
 use Rattle.messages.specs.Meaning.{decide, effect}
 use Rattle.messages.specs.declared.operation.Decided.{Decided}
 use Rattle.messages.specs.declared.operation.Decided.TheVariants.{GoesAhead, ConditionFails, DoesNothing}

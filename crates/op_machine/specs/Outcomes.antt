@@ -4,7 +4,7 @@ use Rattle.std.specs.Prelude.{ℕ, Bool, true, not, ◌&&◌, nat_le, List, Opti
 use Rattle.global_ids.specs.Keys.{key_of}
 use Rattle.node_sets.specs.Members.{has_node}
 use Rattle.stamps.specs.declared.stamp.Stamp.{Stamp}
-use Rattle.entry_maps.specs.declared.entry.Entry.{Entry}
+use Rattle.documents.specs.declared.entry.Entry.{Entry}
 use Rattle.messages.specs.Noting.{message_of}
 use Rattle.messages.specs.declared.message.Message.{Message}
 use Rattle.messages.specs.declared.body.Body.{Body}

@@ -1,7 +1,7 @@
 -- Where an operation stands: its plan and what was told.
 use Rattle.std.specs.Prelude.{◌≡◌, ℕ, Option, None, Some}
 use Rattle.global_ids.specs.Keys.{key_of}
-use Rattle.entry_maps.specs.declared.entry.Entry.{Entry}
+use Rattle.documents.specs.declared.entry.Entry.{Entry}
 use Rattle.messages.specs.declared.message.Message.{Message}
 use Rattle.messages.specs.declared.reply.Reply.{Reply}
 use Rattle.op_machine.specs.declared.plan.Plan.{Plan}

@@ -2,7 +2,7 @@
 use Rattle.std.specs.Prelude.{◌≡◌, ◌==◌, ◌||◌, ◌&&◌, ℕ, Bool, true, false, List, Option, None, Some}
 use Rattle.std.specs.FinMap as fin
 use Rattle.node_sets.specs.Members.{has_node}
-use Rattle.entry_maps.specs.declared.entry.Entry.{Entry}
+use Rattle.documents.specs.declared.entry.Entry.{Entry}
 use Rattle.entry_maps.specs.Entries.{newer_of}
 use Rattle.messages.specs.declared.reply.Reply.{Reply}
 use Rattle.messages.specs.declared.reply.Reply.TheVariants.{Answer, Newer, NoBucket, Differs, NoMemory}

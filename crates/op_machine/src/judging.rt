@@ -4,8 +4,8 @@ ghost use Rattle.op_machine.specs.Judging.{document_in, stamp_in, shown_body, sh
 
 use crate::verdict::Verdict;
 use doc_updates::UpdateFault;
-use documents::Document;
-use entry_maps::{Entry, SharedEntry};
+use document_ids::DocId;
+use documents::{Document, Entry, SharedEntry};
 use messages::{Decided, Operation, Outcome};
 use stamps::Stamp;
 use std::alloc::Global;
@@ -51,6 +51,21 @@ fn shown(seen: Option<&SharedEntry>) -> Outcome
     }
 }
 
+/// The entry with this body is written. The only error is want of memory.
+fn writes(
+    alloc: Global,
+    stamp: Stamp,
+    id: &DocId,
+    body: Option<Document>,
+) -> Result<Verdict, NoMemory>
+    ensures { IfOk result (λ verdict. verdict
+        ≡ Verdict.Writes (record { stamp = stamp; id = id.now; body = body })) }
+{
+    let id = id.copy(alloc)?;
+    let entry = SharedEntry::new(alloc, Entry { stamp, id, body })?;
+    Ok(Verdict::Writes { entry })
+}
+
 /// What an operation with this stamp writes. The only error is want of memory.
 fn written(
     alloc: Global,
@@ -61,11 +76,7 @@ fn written(
     ensures { IfOk result (λ verdict. verdict ≡ written operation.now stamp (option_copied seen.entry)) }
 {
     match operation.effect(alloc, document_in(seen)) {
-        Ok(body) => {
-            let id = operation.id.copy(alloc)?;
-            let entry = SharedEntry::new(alloc, Entry { stamp, id, body })?;
-            Ok(Verdict::Writes { entry })
-        }
+        Ok(body) => writes(alloc, stamp, &operation.id, body),
         Err(UpdateFault::NoMemory) => Err(NoMemory),
         Err(fault) => Ok(Verdict::Ends {
             outcome: Outcome::BadUpdate { fault },

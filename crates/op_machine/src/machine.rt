@@ -9,7 +9,7 @@ ghost use Rattle.op_machine.specs.Standings.{next_at, IsBegun, IsDue, IsAsked, M
 use crate::plan::Plan;
 use crate::settling::Settled;
 use crate::tally::Tally;
-use entry_maps::SharedEntry;
+use documents::SharedEntry;
 use global_ids::key_of;
 use messages::{Message, Origin, Outcome, Reply, SharedOperation};
 use node_sets::NodeSet;

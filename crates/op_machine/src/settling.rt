@@ -9,7 +9,7 @@ use crate::judging::judged;
 use crate::plan::{Plan, looks, read_body};
 use crate::tally::Tally;
 use crate::verdict::Verdict;
-use entry_maps::SharedEntry;
+use documents::SharedEntry;
 use messages::{Body, Message, Outcome};
 use std::alloc::Global;
 use value_lists::{NoMemory, TryCopy};

@@ -5,7 +5,7 @@ ghost use Rattle.entry_maps.specs.Entries.{newer_of};
 ghost use Rattle.op_machine.specs.Telling.{is_answer, is_short, entry_shown, IsNobody, IsTold, IsWith};
 
 use document_ids::DocId;
-use entry_maps::SharedEntry;
+use documents::SharedEntry;
 use messages::Reply;
 use node_sets::NodeSet;
 use std::alloc::Global;

@@ -1,8 +1,8 @@
-use entry_maps::SharedEntry;
+use documents::SharedEntry;
 use messages::Outcome;
 
 /// What an operation comes to by what it saw.
-#[derive(Debug, Drop)]
+#[derive(Drop)]
 pub enum Verdict {
     /// It is over.
     Ends { outcome: Outcome },

@@ -5,7 +5,7 @@ use Rattle.doc_types.specs.declared.outputs.OutputKind.TheVariants as output
 use Rattle.doc_types.specs.SchemaCodes.{Types}
 use Rattle.doc_types.specs.Tokens.{Token, word, integer, quoted, signs}
 use Rattle.conditions.specs.Kinds.{opens, closes}
-use Rattle.conditions.proofs.Basics.{some_same, none_some}
+use Rattle.proof_basics.proofs.Options.{some_same, none_some}
 use Rattle.query_groups.specs.declared.cues.Cue.{Cue}
 use Rattle.query_groups.specs.declared.cues.Cue.TheVariants as cue
 use Rattle.query_groups.specs.declared.fields.Fold.{Fold}
@@ -19,8 +19,7 @@ use Rattle.query_groups.specs.declared.grouping.Listing.TheVariants as at
 use Rattle.query_groups.specs.declared.grouping.Closing.{Closing}
 use Rattle.query_groups.specs.declared.grouping.Closing.TheVariants as after
 use Rattle.query_groups.specs.Cues.{all_word, group_word, each_word, output_word, count_word, sum_word, min_word, max_word, bar, comma, cue_of}
-use Rattle.query_groups.specs.Outputs.{field_kind}
-use Rattle.query_groups.specs.Outputs.{output_of, is_named, NamedOnce, OutputsFit, groups_by, is_free, some_free, some_left}
+use Rattle.query_groups.specs.Outputs.{field_kind, output_of, is_named, NamedOnce, OutputsFit, groups_by, is_free, some_free, some_left}
 use Rattle.query_groups.specs.Groups.{output_tokens, followed}
 use Rattle.query_groups.specs.Grouping.{Group, opening, middle, listing, closing, opening_next, field_step, opening_step, middle_step, fold_if, want_next, argument_next, output_end, behind_next, opened, listing_step, closing_step, group_next}
 use Rattle.query_groups.proofs.CueTokens.{TokenIs, cue_token}

@@ -5,7 +5,7 @@ use Rattle.doc_types.specs.declared.outputs.OutputKind.TheVariants as output
 use Rattle.doc_types.specs.declared.values.FieldType.TheVariants as kind
 use Rattle.doc_types.specs.SchemaCodes.{Types}
 use Rattle.doc_types.specs.Tokens.{Token, word}
-use Rattle.token_readers.specs.Machines.{run}
+use Rattle.conditions.specs.Machines.{run}
 use Rattle.conditions.specs.Kinds.{opens, closes}
 use Rattle.conditions.proofs.Basics.{run-one, run-cons, run-append}
 use Rattle.query_groups.specs.declared.fields.Fold.{Fold}

@@ -5,7 +5,7 @@ use Rattle.doc_types.specs.declared.outputs.OutputKind.TheVariants as output
 use Rattle.doc_types.specs.SchemaCodes.{Types}
 use Rattle.doc_types.specs.Tokens.{Token, word}
 use Rattle.conditions.specs.Kinds.{opens, closes}
-use Rattle.conditions.proofs.Basics.{some_same, none_some}
+use Rattle.proof_basics.proofs.Options.{some_same, none_some}
 use Rattle.query_groups.specs.declared.fields.Fold.{Fold}
 use Rattle.query_groups.specs.declared.fields.Fold.TheVariants as fold
 use Rattle.query_groups.specs.declared.grouping.Opening.{Opening}
@@ -18,8 +18,7 @@ use Rattle.query_groups.specs.declared.grouping.Closing.{Closing}
 use Rattle.query_groups.specs.declared.grouping.Closing.TheVariants as after
 use Rattle.query_groups.specs.declared.groups.GroupBy.{GroupBy}
 use Rattle.query_groups.specs.Cues.{all_word, group_word, each_word, output_word}
-use Rattle.query_groups.specs.Outputs.{field_kind}
-use Rattle.query_groups.specs.Outputs.{output_of, groups_by}
+use Rattle.query_groups.specs.Outputs.{field_kind, output_of, groups_by}
 use Rattle.query_groups.specs.Groups.{output_tokens, followed, IsGroup}
 use Rattle.query_groups.specs.Grouping.{Group, group_says}
 use Rattle.query_groups.proofs.Outputs.{IsNew, free_new}

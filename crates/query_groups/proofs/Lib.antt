@@ -1,3 +1,4 @@
+-- Shared: other crates cite these.
 pub mod CueTokens
 pub mod Outputs
 pub mod GroupReading

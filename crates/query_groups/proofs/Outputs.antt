@@ -14,11 +14,10 @@ use Rattle.doc_types.specs.declared.values.FieldType.{FieldType}
 use Rattle.doc_types.specs.declared.values.FieldType.TheVariants as kind
 use Rattle.doc_types.specs.SchemaCodes.{name_cmp, Types}
 use Rattle.doc_types.specs.SchemaMaps.{field_pair}
-use Rattle.conditions.proofs.Basics.{false_true}
+use Rattle.proof_basics.proofs.Tests.{false_true}
 use Rattle.query_groups.specs.declared.fields.Fold.{Fold}
 use Rattle.query_groups.specs.declared.fields.Fold.TheVariants as fold
-use Rattle.query_groups.specs.Outputs.{field_kind}
-use Rattle.query_groups.specs.Outputs.{output_of, is_named, NamedOnce, OutputFits, OutputsFit, names_in, some_field, groups_by, has_groups, is_free, some_free, some_left}
+use Rattle.query_groups.specs.Outputs.{field_kind, output_of, is_named, NamedOnce, OutputFits, OutputsFit, names_in, some_field, groups_by, has_groups, is_free, some_free, some_left}
 
 -- lists with an item that passes
 pub any_found : {X : Type 0} (p : X → Bool) (xs : List X) → list_any p xs ≡ true → (x : X) × (p x ≡ true)

@@ -2,14 +2,14 @@ ghost use Rattle.std.specs.Prelude.{◌≡◌, option_map};
 ghost use Rattle.doc_types.specs.Reading.{token_of};
 ghost use Rattle.conditions.specs.Views.{Goes};
 ghost use Rattle.query_groups.specs.Cues.{cue_of};
-ghost use Rattle.query_groups.specs.Grouping.{listing, opening_next, field_step, opening_step, middle_next, middle_step, fold_if, want_next, argument_next, output_end, behind_next, listing_step, closing_next, closing_step, group_next, group_says, group_of, opened};
+ghost use Rattle.query_groups.specs.Grouping.{opening, listing, opening_next, field_step, opening_step, middle_next, middle_step, fold_if, want_next, argument_next, output_end, behind_next, listing_step, closing_next, closing_step, group_next, group_says, group_of, opened};
 
 use crate::cues::{Cue, cue_of};
 use crate::fields::{Fold, groups_by, is_counted, is_free, output_of, some_free, some_left};
 use crate::groups::{GroupBy, kept};
+use conditions::Stop;
 use doc_types::{Lexeme, OutputKind, OutputKinds, Schema};
 use std::alloc::Global;
-use token_readers::Stop;
 use value_lists::TextValue;
 
 /// What was read of `|all(group(`.
@@ -109,6 +109,16 @@ fn field_step(
     }
 }
 
+/// A token of `|all(group(`.
+fn opening_on(place: Opening, cue: Cue) -> Result<Grouping, Stop>
+    ensures { Goes group_of result (option_map opening (opening_next place cue)) }
+{
+    match opening_next(place, cue) {
+        Some(place) => Ok(Grouping::Opening(place)),
+        None => Err(Stop::Refused),
+    }
+}
+
 /// A token before the field.
 fn opening_step(
     alloc: Global,
@@ -119,12 +129,12 @@ fn opening_step(
 ) -> Result<Grouping, Stop>
     ensures { Goes group_of result (opening_step schema.now type_name.now place (token_of token.entry)) }
 {
-    if place == Opening::GroupOpen {
-        return field_step(alloc, schema, type_name, token);
-    }
-    match opening_next(place, cue_of(&token)) {
-        Some(place) => Ok(Grouping::Opening(place)),
-        None => Err(Stop::Refused),
+    match place {
+        Opening::GroupOpen => field_step(alloc, schema, type_name, token),
+        Opening::Bar => opening_on(Opening::Bar, cue_of(&token)),
+        Opening::All => opening_on(Opening::All, cue_of(&token)),
+        Opening::AllOpen => opening_on(Opening::AllOpen, cue_of(&token)),
+        Opening::Group => opening_on(Opening::Group, cue_of(&token)),
     }
 }
 
@@ -292,6 +302,27 @@ fn opened(cue: Cue, place: Listing) -> Option<Listing>
     }
 }
 
+/// The field of an output, within the outputs.
+fn argument_step(
+    alloc: Global,
+    schema: &Schema,
+    type_name: &str,
+    field: TextValue,
+    outputs: Vec<OutputKind>,
+    fold: Fold,
+    token: Lexeme<'_>,
+) -> Result<Grouping, Stop>
+    ensures { Goes group_of result (option_map (listing field outputs.items)
+        (argument_next schema.now type_name.now outputs.items fold (token_of token.entry))) }
+{
+    let place = argument_next(alloc, schema, type_name, &outputs, fold, token)?;
+    Ok(Grouping::Listing {
+        field,
+        outputs,
+        place,
+    })
+}
+
 /// A token within the outputs.
 fn listing_step(
     alloc: Global,
@@ -318,12 +349,7 @@ fn listing_step(
         ),
         Listing::Fold(fold) => listed(field, outputs, opened(cue, Listing::Argument(fold))),
         Listing::Argument(fold) => {
-            let place = argument_next(alloc, schema, type_name, &outputs, fold, token)?;
-            Ok(Grouping::Listing {
-                field,
-                outputs,
-                place,
-            })
+            argument_step(alloc, schema, type_name, field, outputs, fold, token)
         }
         Listing::Closed(output) => output_end(field, outputs, output, cue),
         Listing::Behind => behind_next(schema, type_name, field, outputs, cue),

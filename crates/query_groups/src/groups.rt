@@ -5,7 +5,7 @@ use std::alloc::Global;
 use value_lists::NoMemory;
 
 /// How the documents that are found are grouped, and what is said of each group.
-#[derive(Debug, Drop)]
+#[derive(Drop)]
 pub struct GroupBy {
     /// The field whose value they share.
     pub field: TextValue,

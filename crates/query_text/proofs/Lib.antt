@@ -1,4 +1,4 @@
-pub mod TermReading
-pub mod QueryReading
-pub mod QueryRuns
-pub mod Reading
+mod TermReading
+mod QueryReading
+mod QueryRuns
+mod Reading

@@ -9,15 +9,16 @@ use Rattle.std.proofs.lemmas.Bool.Decides.{nat_tests}
 use Rattle.doc_types.specs.Known.{has_types}
 use Rattle.doc_types.specs.SchemaCodes.{name_cmp, Fields, Types}
 use Rattle.doc_types.specs.Tokens.{Token, word, integer, quoted, signs}
-use Rattle.token_readers.specs.Readings.{Begins}
-use Rattle.token_readers.specs.Machines.{run, Reads}
-use Rattle.token_readers.proofs.Steps.{run-push}
+use Rattle.conditions.specs.Readings.{Begins}
+use Rattle.conditions.specs.Machines.{run, Reads}
+use Rattle.conditions.proofs.Steps.{run-push}
 use Rattle.conditions.specs.declared.kinds.Negation.TheVariants as negation
 use Rattle.conditions.specs.Formulas.{Formula, truth}
 use Rattle.conditions.specs.Grammar.{condition, no_ors, terms, no_ands, always, IsCondition}
 use Rattle.conditions.specs.Kinds.{true_word}
 use Rattle.conditions.specs.Machine as asked
-use Rattle.conditions.proofs.Basics.{some_same, none_some, false_true}
+use Rattle.proof_basics.proofs.Options.{some_same, none_some}
+use Rattle.proof_basics.proofs.Tests.{false_true}
 use Rattle.conditions.proofs.Claims.{conditions_read}
 use Rattle.query_groups.specs.declared.cues.Cue.{Cue}
 use Rattle.query_groups.specs.declared.cues.Cue.TheVariants as cue

@@ -3,13 +3,14 @@ use Rattle.std.proofs.Common.{◌≡◌, ℕ, Bool, true, false, cond, List, [],
 use Rattle.std.specs.FinMap as fin
 use Rattle.doc_types.specs.SchemaCodes.{Types}
 use Rattle.doc_types.specs.Tokens.{Token, word}
-use Rattle.token_readers.specs.Machines.{run, Reads}
+use Rattle.conditions.specs.Machines.{run, Reads}
 use Rattle.conditions.specs.declared.kinds.Kind.TheVariants as part_of
 use Rattle.conditions.specs.declared.kinds.Negation.TheVariants as negation
 use Rattle.conditions.specs.Formulas.{Formula}
 use Rattle.conditions.specs.Kinds.{kind_of}
 use Rattle.conditions.specs.Machine as asked
-use Rattle.conditions.proofs.Basics.{some_same, none_some, run-one, run-cons, run-append}
+use Rattle.proof_basics.proofs.Options.{some_same, none_some}
+use Rattle.conditions.proofs.Basics.{run-one, run-cons, run-append}
 use Rattle.query_groups.specs.declared.cues.Cue.{Cue}
 use Rattle.query_groups.specs.declared.cues.Cue.TheVariants as cue
 use Rattle.query_groups.specs.declared.grouping.Opening.{Opening}

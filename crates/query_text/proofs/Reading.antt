@@ -2,11 +2,11 @@
 use Rattle.std.proofs.Common.{◌≡◌, List, [], ◌∷◌, ◌++◌, Some, Result, Ok, Err, IfOk}
 use Rattle.doc_types.specs.SchemaCodes.{Types}
 use Rattle.doc_types.specs.Tokens.{Token}
-use Rattle.token_readers.specs.declared.reader.Stop.{Stop}
-use Rattle.token_readers.specs.declared.reader.Stop.TheVariants as stop
-use Rattle.token_readers.specs.Readings.{Begins, IfRefused}
-use Rattle.token_readers.specs.Machines.{run}
-use Rattle.token_readers.proofs.Steps.{run-push, stops, no_value}
+use Rattle.conditions.specs.declared.reader.Stop.{Stop}
+use Rattle.conditions.specs.declared.reader.Stop.TheVariants as stop
+use Rattle.conditions.specs.Readings.{Begins, IfRefused}
+use Rattle.conditions.specs.Machines.{run}
+use Rattle.conditions.proofs.Steps.{run-push, stops, no_value}
 use Rattle.conditions.specs.Views.{Goes}
 use Rattle.query_text.specs.declared.reader.Reading.{Reading}
 use Rattle.query_text.specs.Grammar.{Said, IsQuery}

@@ -4,7 +4,7 @@ use Rattle.std.specs.FinMap as fin
 use Rattle.doc_types.specs.declared.symbols.Language.TheVariants as language
 use Rattle.doc_types.specs.SchemaCodes.{Types}
 use Rattle.doc_types.specs.Tokens.{Token, word}
-use Rattle.token_readers.specs.Readings.{IsText, IsRefusedAt}
+use Rattle.conditions.specs.Readings.{IsText, IsRefusedAt}
 use Rattle.conditions.specs.declared.kinds.Negation.TheVariants as negation
 use Rattle.conditions.specs.Formulas.{Formula}
 use Rattle.conditions.specs.Grammar.{IsCondition}

@@ -3,19 +3,19 @@ ghost use Rattle.doc_types.specs.Reading.{token_of};
 ghost use Rattle.conditions.specs.declared.kinds.Negation.TheVariants as negation;
 ghost use Rattle.conditions.specs.Formulas.{claim};
 ghost use Rattle.conditions.specs.Kinds.{ends_operand};
-ghost use Rattle.conditions.specs.Machine.{start, in_gap, in_atom, gap_step, behind_step, settle, other_step, outside_step, within_step, operand, whole};
+ghost use Rattle.conditions.specs.Machine.{start, in_gap, in_atom, gap_step, behind_step, settle, other_step, outside, outside_step, within_step, operand, whole};
 ghost use Rattle.conditions.specs.Views.{Goes, formula_of, gap_of, stack_of};
 ghost use Rattle.query_text.specs.Parts.{says, terms, endings, place_of, condition_step, state_of};
 
 use crate::parts::{Part, first, is_whole, next, says};
 use crate::terms::Term;
+use conditions::frames::Open;
 use conditions::{
-    Conditions, Kind, Negation, Place, Tree, behind_step, ends_operand, is_other, kind_of,
+    Conditions, Kind, Negation, Place, Stop, Tree, behind_step, ends_operand, is_other, kind_of,
     whole_tree,
 };
 use doc_types::{Lexeme, Schema};
 use std::alloc::Global;
-use token_readers::Stop;
 use value_lists::NoMemory;
 
 /// A condition that is read so far, within a term where there is a part of one.
@@ -76,6 +76,27 @@ fn outside(
     })
 }
 
+/// The first token of a term.
+fn first_part(
+    alloc: Global,
+    schema: &Schema,
+    type_name: &str,
+    frames: Vec<Open<Term>>,
+    token: Lexeme<'_>,
+) -> Result<Condition, Stop>
+    ensures { Goes state_of result (option_map (in_atom (stack_of frames.items))
+        ((terms schema.now type_name.now).first (token_of token.entry))) }
+{
+    let part = first(alloc, schema, type_name, token)?;
+    Ok(Condition {
+        conditions: Conditions {
+            frames,
+            place: Place::Want,
+        },
+        part: Some(part),
+    })
+}
+
 /// A term begins, where an operand is wanted.
 fn begin(
     alloc: Global,
@@ -89,16 +110,7 @@ fn begin(
 {
     let Conditions { frames, place } = conditions;
     match place {
-        Place::Want => {
-            let part = first(alloc, schema, type_name, token)?;
-            Ok(Condition {
-                conditions: Conditions {
-                    frames,
-                    place: Place::Want,
-                },
-                part: Some(part),
-            })
-        }
+        Place::Want => first_part(alloc, schema, type_name, frames, token),
         _ => Err(Stop::Refused),
     }
 }
@@ -108,6 +120,23 @@ fn ends_here(kind: Kind, part: &Part) -> bool
     ensures { result ≡ (ends_operand kind && is_some (says part.now)) }
 {
     ends_operand(kind) && is_whole(part)
+}
+
+/// A term goes on with one token more.
+fn next_part(
+    alloc: Global,
+    conditions: Conditions<Term>,
+    part: Part,
+    token: Lexeme<'_>,
+) -> Result<Condition, Stop>
+    ensures { Goes state_of result (option_map (in_atom (stack_of conditions.frames.items))
+        (endings.next part (token_of token.entry))) }
+{
+    let part = next(alloc, part, token)?;
+    Ok(Condition {
+        conditions,
+        part: Some(part),
+    })
 }
 
 /// A token behind a part of a term.
@@ -121,36 +150,57 @@ fn within(
     ensures { Goes state_of result (within_step endings kind (token_of token.entry) part
         (stack_of conditions.frames.items)) }
 {
-    let Conditions { frames, place } = conditions;
     if ends_here(kind, &part) {
-        return behind(alloc, Conditions { frames, place }, part, kind);
+        return behind(alloc, conditions.frames, part, kind);
     }
-    let part = next(alloc, part, token)?;
+    next_part(alloc, conditions, part, token)
+}
+
+/// What ends a term behind it.
+fn behind_term(
+    alloc: Global,
+    frames: Vec<Open<Term>>,
+    term: Term,
+    kind: Kind,
+) -> Result<Condition, Stop>
+    ensures { Goes state_of result (option_map in_gap
+        (behind_step kind (settle (claim term) (stack_of frames.items)))) }
+{
+    let conditions = behind_step(alloc, frames, kind, Tree::Atom(term))?;
     Ok(Condition {
-        conditions: Conditions { frames, place },
-        part: Some(part),
+        conditions,
+        part: None,
     })
 }
 
 /// What ends a term behind a part.
-fn behind(
-    alloc: Global,
-    conditions: Conditions<Term>,
-    part: Part,
-    kind: Kind,
-) -> Result<Condition, Stop>
-    ensures { Goes state_of result (option_map in_gap (option_and_then
-        (λ a. behind_step kind (settle (claim a) (stack_of conditions.frames.items))) (says part))) }
+fn behind(alloc: Global, frames: Vec<Open<Term>>, part: Part, kind: Kind) -> Result<Condition, Stop>
+    ensures { Goes state_of result (option_map in_gap
+        (option_and_then (λ a. behind_step kind (settle (claim a) (stack_of frames.items))) (says part))) }
 {
     match says(part) {
-        Some(term) => {
-            let conditions = behind_step(alloc, conditions.frames, kind, Tree::Atom(term))?;
-            Ok(Condition {
-                conditions,
-                part: None,
-            })
-        }
+        Some(term) => behind_term(alloc, frames, term, kind),
         None => Err(Stop::Refused),
+    }
+}
+
+/// The tree of a part that is a whole term.
+fn part_tree(part: Part) -> Option<Tree<Term>>
+    ensures { option_map formula_of result ≡ option_map claim (says part) }
+{
+    match says(part) {
+        Some(term) => Some(Tree::Atom(term)),
+        None => None,
+    }
+}
+
+/// The tree behind which a place outside of terms is.
+fn place_tree(place: Place<Term>) -> Option<Tree<Term>>
+    ensures { option_map formula_of result ≡ operand endings (outside (gap_of place)) }
+{
+    match place {
+        Place::Behind(tree) => Some(tree),
+        _ => None,
     }
 }
 
@@ -159,14 +209,8 @@ fn operand(part: Option<Part>, place: Place<Term>) -> Option<Tree<Term>>
     ensures { option_map formula_of result ≡ operand endings (place_of part (gap_of place)) }
 {
     match part {
-        Some(part) => match says(part) {
-            Some(term) => Some(Tree::Atom(term)),
-            None => None,
-        },
-        None => match place {
-            Place::Behind(tree) => Some(tree),
-            _ => None,
-        },
+        Some(part) => part_tree(part),
+        None => place_tree(place),
     }
 }
 

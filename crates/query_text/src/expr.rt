@@ -1,10 +1,11 @@
 ghost use Rattle.std.specs.Prelude.{◌≡◌, IfOk};
-ghost use Rattle.conditions.specs.Formulas.{claim};
+ghost use Rattle.conditions.specs.Chains.{joined};
+ghost use Rattle.conditions.specs.Formulas.{claim, opposite};
 ghost use Rattle.conditions.specs.Views as views;
 ghost use Rattle.query_text.specs.Formulas.{formula_of};
 
 use crate::terms::{Rel, Term};
-use conditions::Tree;
+use conditions::{Joint, Tree};
 use doc_types::TextList;
 use std::alloc::Global;
 use value_lists::{NoMemory, TextValue};
@@ -40,6 +41,25 @@ fn expr_of_term(term: Term) -> Expr
     }
 }
 
+/// The opposite of an expression; the only error is want of memory.
+fn opposite(alloc: Global, inner: Expr) -> Result<Expr, NoMemory>
+    ensures { IfOk result (λ expr. formula_of expr ≡ opposite (formula_of inner)) }
+{
+    Ok(Expr::Not(Box::new(alloc, inner)?))
+}
+
+/// Two expressions as one; the only error is want of memory.
+fn join(alloc: Global, joint: Joint, one: Expr, two: Expr) -> Result<Expr, NoMemory>
+    ensures { IfOk result (λ expr. formula_of expr ≡ joined joint (formula_of one) (formula_of two)) }
+{
+    let one = Box::new(alloc, one)?;
+    let two = Box::new(alloc, two)?;
+    match joint {
+        Joint::And => Ok(Expr::And(one, two)),
+        Joint::Or => Ok(Expr::Or(one, two)),
+    }
+}
+
 /// The expression of a tree of terms; the only error is want of memory.
 pub fn expr_of(alloc: Global, tree: Tree<Term>) -> Result<Expr, NoMemory>
     ensures { IfOk result (λ expr. formula_of expr ≡ views.formula_of tree) }
@@ -48,19 +68,16 @@ pub fn expr_of(alloc: Global, tree: Tree<Term>) -> Result<Expr, NoMemory>
         Tree::True => Ok(Expr::True),
         Tree::False => Ok(Expr::False),
         Tree::Atom(term) => Ok(expr_of_term(term)),
-        Tree::Not(inner) => {
-            let inner = expr_of(alloc, Box::into_inner(inner))?;
-            Ok(Expr::Not(Box::new(alloc, inner)?))
-        }
+        Tree::Not(inner) => opposite(alloc, expr_of(alloc, Box::into_inner(inner))?),
         Tree::And(one, two) => {
             let one = expr_of(alloc, Box::into_inner(one))?;
             let two = expr_of(alloc, Box::into_inner(two))?;
-            Ok(Expr::And(Box::new(alloc, one)?, Box::new(alloc, two)?))
+            join(alloc, Joint::And, one, two)
         }
         Tree::Or(one, two) => {
             let one = expr_of(alloc, Box::into_inner(one))?;
             let two = expr_of(alloc, Box::into_inner(two))?;
-            Ok(Expr::Or(Box::new(alloc, one)?, Box::new(alloc, two)?))
+            join(alloc, Joint::Or, one, two)
         }
     }
 }

@@ -5,10 +5,10 @@ ghost use Rattle.query_text.specs.Terms.{has_numbers, has_texts};
 ghost use Rattle.query_text.specs.Parts.{rel_of, first, rel_if, contains_if, field_next, contains_next, sign_next, next, says};
 
 use crate::terms::{Rel, Term};
+use conditions::Stop;
 use doc_types::{FieldType, Lexeme, Schema, Symbol};
 use query_groups::kept;
 use std::alloc::Global;
-use token_readers::Stop;
 use value_lists::TextValue;
 use word_index::tokens_of_bytes;
 

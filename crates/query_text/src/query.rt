@@ -5,12 +5,12 @@ ghost use Rattle.query_text.specs.Truth.{matches_document};
 use crate::expr::Expr;
 use crate::reader::start;
 use crate::truth::query_holds;
+use conditions::{ReadFault, read};
 use doc_types::{Language, Schema, TextValue};
 use documents::Document;
 use query_groups::GroupBy;
 use std::alloc::Global;
 use thiserror::Error;
-use token_readers::{ReadFault, read};
 use value_lists::NoMemory;
 
 /// Why a text is no query.

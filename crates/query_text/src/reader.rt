@@ -1,6 +1,6 @@
 ghost use Rattle.std.specs.Prelude.{◌≡◌, Some, option_map, IfOk};
 ghost use Rattle.doc_types.specs.Reading.{token_of};
-ghost use Rattle.token_readers.specs.Machines.{run};
+ghost use Rattle.conditions.specs.Machines.{run};
 ghost use Rattle.conditions.specs.Views.{Goes, formula_of};
 ghost use Rattle.query_groups.specs.Cues.{cue_of};
 ghost use Rattle.query_text.specs.Grammar.{IsQuery};
@@ -14,13 +14,12 @@ use crate::expr::expr_of;
 use crate::parsed::Parsed;
 use crate::query::Query;
 use crate::terms::Term;
-use conditions::Tree;
+use conditions::{Stop, TokenReader, Tree};
 use doc_types::{Lexeme, Schema};
 use query_groups::{
     Cue, GroupBy, Grouping, Opening, cue_of, group_next, group_says, has_groups, kept,
 };
 use std::alloc::Global;
-use token_readers::{Stop, TokenReader};
 use value_lists::{NoMemory, TextValue};
 
 /// What was read of `select * from`.

@@ -2,7 +2,7 @@ use doc_types::TextList;
 use value_lists::TextValue;
 
 /// How a number compares with another.
-#[derive(Clone, Copy, Debug, PartialEq, Eq)]
+#[derive(Clone, Copy, PartialEq, Eq)]
 pub enum Rel {
     Eq,
     Lt,
@@ -12,7 +12,7 @@ pub enum Rel {
 }
 
 /// What a query asks of a field.
-#[derive(Debug, Drop)]
+#[derive(Drop)]
 pub enum Term {
     /// There is a token, and the field has each.
     Contains {

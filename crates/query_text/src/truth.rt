@@ -1,4 +1,4 @@
-ghost use Rattle.std.specs.Prelude.{◌≡◌, IfOk, List, ℕ, map, option_map};
+ghost use Rattle.std.specs.Prelude.{◌≡◌, ◌++◌, ◌∷◌, [], IfOk, OnOk, List, ℕ, map, option_map};
 ghost use Rattle.std.specs.FinMap as fin;
 ghost use Rattle.std.specs.List.{list_all, list_any};
 ghost use Rattle.std.specs.Str.{bytes_eq};
@@ -53,14 +53,31 @@ fn value_relates(rel: Rel, number: i64, value: Option<&FieldValue>) -> bool
     }
 }
 
+/// Adds the tokens of a text; the only error is want of memory.
+fn push_tokens(alloc: Global, lists: &mut Vec<TextList>, text: &TextValue) -> Result<(), NoMemory>
+    ensures { OnOk result (lists.new.items ≡ lists.old.items ++ tokens_of text.now ∷ []) }
+{
+    lists.push(tokens(alloc, text.text())?)?;
+    Ok(())
+}
+
 /// The tokens of each text; the only error is want of memory.
 fn tokens_of_all(alloc: Global, texts: &[TextValue]) -> Result<Vec<TextList>, NoMemory>
     ensures { IfOk result (λ lists. lists.items ≡ map tokens_of texts.now) }
 {
     let mut lists = Vec::with_capacity(alloc, texts.len())?;
     for text in texts {
-        lists.push(tokens(alloc, text.text())?)?;
+        push_tokens(alloc, &mut lists, text)?;
     }
+    Ok(lists)
+}
+
+/// The tokens of one text, in a list; the only error is want of memory.
+fn tokens_of_one(alloc: Global, text: &TextValue) -> Result<Vec<TextList>, NoMemory>
+    ensures { IfOk result (λ lists. lists.items ≡ tokens_of text.now ∷ []) }
+{
+    let mut lists = Vec::new(alloc);
+    push_tokens(alloc, &mut lists, text)?;
     Ok(lists)
 }
 
@@ -70,11 +87,7 @@ fn tokens_in(alloc: Global, value: Option<&FieldValue>) -> Result<Vec<TextList>,
         ≡ map tokens_of (texts_in (option_map (λ v. v.now) value.entry))) }
 {
     match value {
-        Some(FieldValue::Text(text)) => {
-            let mut lists = Vec::new(alloc);
-            lists.push(tokens(alloc, text.text())?)?;
-            Ok(lists)
-        }
+        Some(FieldValue::Text(text)) => tokens_of_one(alloc, text),
         Some(FieldValue::Texts(texts)) => tokens_of_all(alloc, texts.items()),
         _ => Ok(Vec::new(alloc)),
     }
@@ -129,6 +142,25 @@ fn contains(
     has_tokens(alloc, tokens, value)
 }
 
+/// Whether a field of a document contains tokens; the only error is want of memory.
+fn field_contains(
+    alloc: Global,
+    tokens: &TextList,
+    field: &TextValue,
+    document: &Document,
+) -> Result<bool, NoMemory>
+    ensures { IfOk result (λ found. found ≡ contains tokens.now (fin.get document.now.fields field.now)) }
+{
+    contains(alloc, tokens.items(), document.get(field.text()))
+}
+
+/// Whether a field of a document, or some item of it, stands so to a number.
+fn field_relates(rel: Rel, number: i64, field: &TextValue, document: &Document) -> bool
+    ensures { result ≡ value_relates rel number (fin.get document.now.fields field.now) }
+{
+    value_relates(rel, number, document.get(field.text()))
+}
+
 /// Whether an expression is true of a document; the only error is want of memory.
 fn expr_holds(alloc: Global, expr: &Expr, document: &Document) -> Result<bool, NoMemory>
     ensures { IfOk result (λ holds. holds ≡ expr_holds document.now expr.now) }
@@ -149,12 +181,8 @@ fn expr_holds(alloc: Global, expr: &Expr, document: &Document) -> Result<bool, N
             }
             expr_holds(alloc, two, document)
         }
-        Expr::Contains { field, tokens } => {
-            contains(alloc, tokens.items(), document.get(field.text()))
-        }
-        Expr::Compare { field, rel, number } => {
-            Ok(value_relates(*rel, *number, document.get(field.text())))
-        }
+        Expr::Contains { field, tokens } => field_contains(alloc, tokens, field, document),
+        Expr::Compare { field, rel, number } => Ok(field_relates(*rel, *number, field, document)),
     }
 }
 

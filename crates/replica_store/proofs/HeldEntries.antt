@@ -9,12 +9,13 @@ use Rattle.std.specs.FinMap.{get-insert, get-retain_keys, slice_cmp-IsAntisymmet
 use Rattle.std.specs.Cmp.Lexicographic.{nat_list_cmp_total}
 use Rattle.bucket_ids.specs.Buckets.{Low, has_key}
 use Rattle.global_ids.specs.Keys.{key_of}
-use Rattle.entry_joins.specs.Entry.{Entry}
-use Rattle.entry_joins.specs.EntryCodes.{Entries, id_cmp}
-use Rattle.entry_joins.specs.Entries.{is_newer, with_entry, newer_of, in_bucket}
-use Rattle.entry_joins.specs.Joins.{joined}
+use Rattle.documents.specs.declared.entry.Entry.{Entry}
+use Rattle.documents.specs.EntryCodes.{id_cmp}
+use Rattle.entry_maps.specs.EntryCodes.{Entries}
+use Rattle.entry_maps.specs.Entries.{is_newer, with_entry, newer_of, in_bucket}
+use Rattle.entry_maps.specs.Joins.{joined}
 use Rattle.pieces.specs.declared.piece.Piece.{Piece}
-use Rattle.laid_pieces.specs.Pieces.{holds}
+use Rattle.pieces.specs.Pieces.{holds}
 use Rattle.replica_store.specs.Replicas.{AreHeld, LieIn}
 
 equal_of : (o : Ordering) → is_eq o ≡ true → o ≡ Equal

@@ -4,14 +4,14 @@ use Rattle.std.specs.Coded.{Coded, code_by, coded×, coded_ℕ, coded_list}
 use Rattle.std.specs.FinMap as fin
 use Rattle.bucket_ids.specs.Buckets.{Low}
 use Rattle.global_ids.specs.Keys.{key_of}
-use Rattle.entry_joins.specs.Entry.{Entry}
-use Rattle.entry_joins.specs.Entries.{with_entry, in_bucket}
-use Rattle.entry_joins.specs.EntryCodes.{Entries, entries_code}
-use Rattle.entry_joins.specs.Joins.{joined}
+use Rattle.documents.specs.declared.entry.Entry.{Entry}
+use Rattle.entry_maps.specs.Entries.{with_entry, in_bucket}
+use Rattle.entry_maps.specs.EntryCodes.{Entries, entries_code}
+use Rattle.entry_maps.specs.Joins.{joined}
 use Rattle.pieces.specs.declared.piece.Piece.{Piece}
 use Rattle.pieces.specs.PieceCodes.{piece_code}
-use Rattle.laid_pieces.specs.Pieces.{holds, has_key_of, does_meet, renewed, ready_at, split_at, join_at, apply_at, without}
-use Rattle.laid_pieces.specs.Holdings.{IsHolding}
+use Rattle.pieces.specs.Pieces.{holds, has_key_of, does_meet, renewed, ready_at, split_at, join_at, apply_at, without}
+use Rattle.pieces.specs.Holdings.{IsHolding}
 
 -- the newest entries, the pieces in the order of their runs, and the last serial that was drawn
 pub record Replica : Type 0 where

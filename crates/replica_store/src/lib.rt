@@ -16,6 +16,5 @@
 
 pub mod replica_store;
 
-pub use laid_pieces::StoreFault;
-pub use pieces::{Piece, PieceList};
+pub use pieces::{Piece, PieceList, StoreFault};
 pub use replica_store::{Held, ReplicaStore};

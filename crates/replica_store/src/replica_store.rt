@@ -3,18 +3,18 @@ ghost use Rattle.std.specs.List.{list_any};
 ghost use Rattle.std.specs.Option.{option_copied};
 ghost use Rattle.std.specs.FinMap as fin;
 ghost use Rattle.global_ids.specs.Keys.{key_of};
-ghost use Rattle.entry_joins.specs.Entries.{in_bucket};
-ghost use Rattle.laid_pieces.specs.Pieces.{holds, does_meet, is_exactly};
-ghost use Rattle.laid_pieces.specs.Told.{IsTold, IsSurelyTold, Accepted, key_told, split_told, join_told, ready_told, activate_told, delete_told};
-ghost use Rattle.laid_pieces.specs.declared.fault.StoreFault.TheVariants as fault;
+ghost use Rattle.entry_maps.specs.Entries.{in_bucket};
+ghost use Rattle.pieces.specs.Pieces.{holds, does_meet, is_exactly};
+ghost use Rattle.pieces.specs.Told.{IsAnsweredAs, IsSurelyTold, Accepted, key_told, split_told, join_told, ready_told, activate_told, delete_told};
+ghost use Rattle.pieces.specs.declared.fault.StoreFault.TheVariants as fault;
 ghost use Rattle.replica_store.specs.Replicas.{IsReplica, LieIn, no_replica, after_store, after_apply, after_split, after_join, after_ready, after_activate, after_delete};
 
 use bucket_ids::Bucket;
 use document_ids::DocId;
-use entry_joins::{Entry, EntryMap, SharedEntry, join, joins_are_by_document};
+use documents::{Entry, SharedEntry};
+use entry_maps::{EntryMap, join, joins_are_by_document};
 use global_ids::laws::keys_locate;
-use laid_pieces::{LaidPieces, StoreFault};
-use pieces::{Piece, PieceList};
+use pieces::{LaidPieces, Piece, PieceList, StoreFault};
 use std::alloc::Global;
 use std::marker::Model;
 
@@ -129,7 +129,7 @@ impl ReplicaStore {
         requires room { self.old.serial < 2 ^ 64 - 1 }
         ensures ok { OnOk result (self.new ≡ after_store entry self.old) }
         ensures err { OnErr result (self.new ≡ self.old) }
-        ensures told { IsTold (key_told key self.old.pieces) result }
+        ensures told { IsAnsweredAs (key_told key self.old.pieces) result }
     {
         keys_locate();
         if !self.pieces.has_key(key) {
@@ -149,7 +149,7 @@ impl ReplicaStore {
         requires room { self.old.serial < 2 ^ 64 - 1 }
         ensures ok { OnOk result (self.new ≡ after_apply bucket entries.now self.old) }
         ensures err { OnErr result (self.new ≡ self.old) }
-        ensures told { IsTold Accepted result }
+        ensures told { IsAnsweredAs Accepted result }
     {
         keys_locate();
         joins_are_by_document();
@@ -173,7 +173,7 @@ impl ReplicaStore {
         requires room { self.old.serial < 2 ^ 64 - 1 }
         ensures ok { OnOk result (self.new ≡ after_apply bucket entries.now self.old) }
         ensures err { OnErr result (self.new ≡ self.old) }
-        ensures told { IsTold Accepted result }
+        ensures told { IsAnsweredAs Accepted result }
     {
         keys_locate();
         joins_are_by_document();
@@ -189,7 +189,7 @@ impl ReplicaStore {
         requires { self.old.serial < 2 ^ 64 - 1 }
         ensures ok { OnOk result (self.new ≡ after_split bucket self.old) }
         ensures err { OnErr result (self.new ≡ self.old) }
-        ensures told { IsTold (split_told bucket self.old.pieces) result }
+        ensures told { IsAnsweredAs (split_told bucket self.old.pieces) result }
     {
         keys_locate();
         self.pieces.split(self.alloc, bucket)
@@ -200,7 +200,7 @@ impl ReplicaStore {
         requires { self.old.serial < 2 ^ 64 - 1 }
         ensures ok { OnOk result (self.new ≡ after_join bucket self.old) }
         ensures err { OnErr result (self.new ≡ self.old) }
-        ensures told { IsTold (join_told bucket self.old.pieces) result }
+        ensures told { IsAnsweredAs (join_told bucket self.old.pieces) result }
     {
         keys_locate();
         self.pieces.join(self.alloc, bucket)

@@ -1,6 +1,6 @@
 -- Two different answers never print alike: each part of an answer is read off its report, and the parts are
 -- the answer.
-use Rattle.std.proofs.Common.{◌≡◌, ℕ, zero, suc, ◌+◌, ◌<◌, ◌≤◌, ◌^◌, ℤ, pos, negsuc, Bool, true, false, List, [], ◌∷◌, ◌++◌, map, codes, Option, Some, None, option_map, refl, sym, ap, ap₂, subst, ◌∙◌, arith, decimal, cond}
+use Rattle.std.proofs.Common.{◌≡◌, ℕ, ℤ, pos, negsuc, Bool, List, [], ◌∷◌, ◌++◌, map, codes, Option, Some, None, option_map, refl, sym, ap, ap₂, subst, ◌∙◌, arith, decimal, cond}
 use Rattle.std.specs.FinMap as fin
 use Rattle.std.specs.Fmt.{signed_decimal}
 use Rattle.std.specs.List.{AllByRecursion}
@@ -10,24 +10,25 @@ use Rattle.std.proofs.lemmas.Fmt.{decimal_injective, decimal_is_IsNumeral, signe
 use Rattle.std.proofs.lemmas.List.{append_cancel_right}
 use Rattle.std.proofs.lemmas.Str.Parse.{tells_digits}
 use Rattle.json.specs.Json as json
-use Rattle.serde_json.specs.Data.{Data, object, string, Members, no_members, member}
+use Rattle.serde_json.specs.Data.{object, string}
 use Rattle.serde_json.specs.View.{items_of}
 use Rattle.serde_json.specs.Written.{compact_text, outline, items_outline, members_outline}
 use Rattle.stamps.specs.declared.stamp.Stamp.{Stamp}
 use Rattle.stamps.specs.Printed.{printed}
-use Rattle.doc_types.specs.SchemaCodes.{Types, name_cmp}
+use Rattle.doc_types.specs.SchemaCodes.{Types}
 use Rattle.doc_types.specs.Values.{kind_of}
 use Rattle.doc_types.specs.declared.values.FieldValue.{FieldValue}
 use Rattle.doc_types.specs.declared.values.FieldValue.TheVariants.{Int, Text, Ints, Texts}
 use Rattle.document_ids.specs.Parts.{type_of}
 use Rattle.documents.specs.Fields.{Contents, FieldMap}
 use Rattle.documents.specs.Fitting.{Fits}
-use Rattle.documents.specs.Json.{Kinds, kinds_of, number_json, value_json, members_json}
+use Rattle.documents.specs.Kinds.{Kinds, kinds_of}
+use Rattle.json_documents.specs.Json.{number_json, value_json, members_json}
 use Rattle.doc_updates.specs.declared.fault.UpdateFault.{UpdateFault}
 use Rattle.doc_updates.specs.declared.fault.UpdateFault.TheVariants as fault
 use Rattle.feed_lines.specs.declared.command.Cause.{Cause}
 use Rattle.feed_lines.specs.declared.command.Cause.TheVariants as cause
-use Rattle.reports.specs.ReportText.{line_text, acked_members, found_members, seen_of, missing_members, condition_failed_members, nothing_members, field_fault_members, size_fault_members, result_members, bad_update_members, too_few_members, owned_elsewhere_members, cause_text, bad_line_members, published_members, not_newer_members, too_few_up_members, too_many_out_members, count_members, planned_members, maintained_members, members_of, report_text}
+use Rattle.reports.specs.ReportText.{line_text, cause_text, members_of, report_text}
 use Rattle.reports.specs.Telling.{IsCount, IsInt, HasInts, IsStamp, IsStampIf, IsDocument, CanBe}
 use Rattle.reports.specs.declared.answer.Answer.{Answer}
 use Rattle.reports.specs.declared.answer.Answer.TheVariants as answer

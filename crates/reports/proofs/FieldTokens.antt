@@ -7,7 +7,7 @@ use Rattle.serde_json.specs.Data as shown
 use Rattle.serde_json.specs.View.{items_of}
 use Rattle.serde_json.specs.Written.{outline, items_outline, members_outline}
 use Rattle.doc_types.specs.declared.values.FieldValue.{FieldValue}
-use Rattle.documents.specs.Json.{number_json, members_json}
+use Rattle.json_documents.specs.Json.{number_json, members_json}
 use Rattle.reports.specs.Writing.{number_token, field_tokens}
 
 -- the numbers of a list, with the closing bracket

@@ -1,6 +1,6 @@
-pub mod FieldTokens
-pub mod Texts
-pub mod OneObject
-pub mod Rising
-pub mod Parts
-pub mod Different
+mod FieldTokens
+mod Texts
+mod OneObject
+mod Rising
+mod Parts
+mod Different

@@ -1,5 +1,5 @@
 -- The parts of an answer, and how each is read off its report.
-use Rattle.std.proofs.Common.{◌≡◌, ℕ, Bool, true, false, List, [], ◌∷◌, map, codes, Option, Some, None, option_map, refl, decimal, cond}
+use Rattle.std.proofs.Common.{◌≡◌, ℕ, Bool, false, List, [], ◌∷◌, map, codes, Option, Some, None, option_map, refl, decimal, cond}
 use Rattle.std.specs.FinMap as fin
 use Rattle.std.specs.Str.{bytes_eq}
 use Rattle.json.specs.Json as json
@@ -8,7 +8,7 @@ use Rattle.serde_json.specs.Written.{outline, members_outline}
 use Rattle.stamps.specs.declared.stamp.Stamp.{Stamp}
 use Rattle.stamps.specs.Printed.{printed}
 use Rattle.documents.specs.Fields.{FieldMap}
-use Rattle.documents.specs.Json.{members_json}
+use Rattle.json_documents.specs.Json.{members_json}
 use Rattle.doc_updates.specs.declared.fault.UpdateFault.TheVariants as fault
 use Rattle.reports.specs.ReportText.{acked_members, found_members, seen_of, missing_members, condition_failed_members, nothing_members, field_fault_members, size_fault_members, result_members, too_few_members, owned_elsewhere_members, cause_text, bad_line_members, published_members, not_newer_members, too_few_up_members, too_many_out_members, count_members, planned_members, maintained_members, members_of}
 use Rattle.reports.specs.declared.answer.Answer.{Answer}

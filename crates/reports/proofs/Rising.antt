@@ -8,7 +8,7 @@ use Rattle.std.specs.declared.cmp.Ordering.TheVariants.{Less, Equal, Greater}
 use Rattle.doc_types.specs.SchemaCodes.{name_cmp}
 use Rattle.doc_types.specs.declared.values.FieldValue.{FieldValue}
 use Rattle.documents.specs.Fields.{FieldMap}
-use Rattle.documents.specs.Json.{members_json, fields_json}
+use Rattle.json_documents.specs.Json.{members_json, fields_json}
 use Rattle.reports.specs.Telling.{are_rising}
 
 first : (a b : Bool) → T (a && b) → T a

@@ -5,7 +5,7 @@ use Rattle.stamps.specs.Printed.{printed}
 use Rattle.serde_json.specs.Data.{Data, null, boolean, number, unsigned, string, object, Members, member, no_members}
 use Rattle.serde_json.specs.Written.{compact_text}
 use Rattle.documents.specs.Fields.{Contents}
-use Rattle.documents.specs.Json.{fields_json}
+use Rattle.json_documents.specs.Json.{fields_json}
 use Rattle.doc_updates.specs.declared.fault.UpdateFault.{UpdateFault}
 use Rattle.doc_updates.specs.declared.fault.UpdateFault.TheVariants as fault
 use Rattle.reports.specs.declared.answer.Answer.{Answer}

@@ -1,5 +1,5 @@
 -- That a report is one object with rising keys, and which answers a line can have.
-use Rattle.std.specs.Prelude.{◌≡◌, ◌<◌, ◌^◌, ◌&&◌, ℕ, ℤ, pos, negsuc, Bool, true, false, List, [], ◌∷◌, ◌++◌, Option, Some, None}
+use Rattle.std.specs.Prelude.{◌≡◌, ◌<◌, ◌^◌, ℕ, ℤ, pos, negsuc, Bool, true, false, List, [], ◌∷◌, ◌++◌, Option, Some, None}
 use Rattle.std.specs.FinMap as fin
 use Rattle.std.specs.List.{AllByRecursion}
 use Rattle.std.specs.Ordering.{nat_cmp, match_ordering}
@@ -14,7 +14,7 @@ use Rattle.doc_types.specs.declared.values.FieldValue.TheVariants.{Int, Text, In
 use Rattle.document_ids.specs.Parts.{type_of}
 use Rattle.documents.specs.Fields.{Contents}
 use Rattle.documents.specs.Fitting.{Fits}
-use Rattle.documents.specs.Json.{kinds_of}
+use Rattle.documents.specs.Kinds.{kinds_of}
 use Rattle.doc_updates.specs.declared.fault.UpdateFault.{UpdateFault}
 use Rattle.doc_updates.specs.declared.fault.UpdateFault.TheVariants as fault
 use Rattle.reports.specs.declared.answer.Answer.{Answer}

@@ -8,7 +8,7 @@ use Rattle.stamps.specs.declared.stamp.Stamp.{Stamp}
 use Rattle.serde_json.specs.Data.{Members}
 use Rattle.serde_json.specs.Written.{outline, members_outline}
 use Rattle.doc_types.specs.declared.values.FieldValue.{FieldValue}
-use Rattle.documents.specs.Json.{value_json}
+use Rattle.json_documents.specs.Json.{value_json}
 use Rattle.reports.specs.ReportText.{line_text, seen_of}
 
 -- these tokens are appended

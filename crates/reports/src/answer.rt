@@ -5,7 +5,7 @@ use feed_lines::Cause;
 use stamps::Stamp;
 
 /// What a line is answered.
-#[derive(Debug, Drop)]
+#[derive(Drop)]
 pub enum Answer {
     /// The entry of this stamp is stored.
     Acked {

@@ -3,7 +3,7 @@
 ghost use Rattle.std.specs.Prelude.{◌≡◌, ℕ, true};
 ghost use Rattle.doc_types.specs.SchemaCodes.{Types};
 ghost use Rattle.documents.specs.Fields.{FieldMap};
-ghost use Rattle.documents.specs.Json.{fields_json};
+ghost use Rattle.json_documents.specs.Json.{fields_json};
 ghost use Rattle.reports.specs.ReportText.{members_of, report_text};
 ghost use Rattle.reports.specs.Telling.{are_rising, IsCount, IsOneObject, CanBe};
 ghost use Rattle.reports.specs.declared.answer.Answer.{Answer};

@@ -18,7 +18,7 @@ use Rattle.lane_journals.specs.Buckets.{contains}
 use Rattle.lane_journals.specs.Events.{Decided, ActiveOn, DeleteFrom}
 use Rattle.lane_journals.specs.Readers.{Journal, round_of, deleting}
 use Rattle.lane_journals.specs.Readers as readers
-use Rattle.lane_journals.specs.Legal.{IsQuiet, Keeper}
+use Rattle.lane_journals.specs.Legal.{IsIdleRow, Keeper}
 use Rattle.lane_journals.specs.Meanings.{history}
 use Rattle.lane_journals.specs.Places.{Setting}
 use Rattle.lane_journals.specs.Places as places
@@ -80,7 +80,7 @@ module _ (lane : Low) (rules : Rules) (J : List LaneEvent) (newest : Option Clus
   S = setting_of lane rules
 
   -- nothing is under way in a row of the part
-  pub quiet : (row : Row) → IsKnownRow s.version (history J) row → IsQuiet s.version row.bucket (history J)
+  pub quiet : (row : Row) → IsKnownRow s.version (history J) row → IsIdleRow s.version row.bucket (history J)
   quiet row known = record { row = known.is_row; no_round = g.no_round row.bucket; idle = g.idle row.bucket }
 
   -- what holds of each key of the row holds of the row

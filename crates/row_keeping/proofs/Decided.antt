@@ -28,7 +28,7 @@ use Rattle.lane_keeping.specs.Acting.{IsActing}
 use Rattle.lane_keeping.specs.Asking.{OthersStay}
 use Rattle.lane_keeping.specs.Laws.{IsKeptNext}
 use Rattle.lane_keeping.proofs.Acting.{HoldsAt}
-use Rattle.lane_keeping.proofs.Pushes.{apart}
+use Rattle.proof_basics.proofs.Numbers.{apart}
 use Rattle.lane_keeping.proofs.Openings.{elsewhere}
 use Rattle.lane_keeping.proofs.Owners.{holds, heard, rows-match, rows-parted}
 use Rattle.row_keeping.proofs.RowLists.{Apart, apart-of, parted-of}

@@ -23,7 +23,7 @@ use Rattle.lane_journals.proofs.BucketLaws.{own-low}
 use Rattle.lane_keeping.specs.LaneKeeping.{setting_of, IsDelete, row_by, part_in, Keeps}
 use Rattle.lane_keeping.specs.Laws.{IsKeptNext}
 use Rattle.lane_keeping.proofs.Owners.{place-fits}
-use Rattle.row_keeping.specs.Deciding.{IsDeciding, HasDelete, IsOver}
+use Rattle.row_keeping.specs.Deciding.{IsDeciding, HasDelete, IsDeleteOver}
 use Rattle.row_keeping.proofs.RowLists.{Apart, parted-of, place-row, after-all, all-row, all-apart}
 use Rattle.row_keeping.proofs.Reading.{Says, SaysRow}
 use Rattle.row_keeping.proofs.Decided.{owns, rows-apart, rows-say, decided-next}
@@ -92,7 +92,7 @@ module _ (lane : Low) (rules : Rules) (J : List LaneEvent) (newest : Option Clus
       by_delete None e same = absurd same
       by_delete (Some y) e same = record { key = ((h.row).bucket).low; pending = y; is = e; same = same }
 
-  pub over-next : (delete : Deleting) (x : EndsDelete (part_in lane rules parts d) (part_in lane rules now d) delete.bucket delete.node) → HasDelete x.rows delete → IsOver (history J) s delete
+  pub over-next : (delete : Deleting) (x : EndsDelete (part_in lane rules parts d) (part_in lane rules now d) delete.bucket delete.node) → HasDelete x.rows delete → IsDeleteOver (history J) s delete
       → IsKeptNext lane rules J newest last nodes now (event.Decided d s.version (choice.DeleteOver delete.bucket delete.node))
   over-next delete x h over =
       decided-next lane rules J newest last nodes parts keep d s g.acting x.rows x.opened now g.others (choice.DeleteOver delete.bucket delete.node) step (map changed (x.rows).rows) x.after

@@ -20,7 +20,7 @@ use Rattle.lane_journals.specs.Buckets.{contains, covers, first_child, second_ch
 use Rattle.lane_journals.specs.Events.{Decided, RowsJoined}
 use Rattle.lane_journals.specs.Readers as readers
 use Rattle.lane_journals.specs.Readers.{Journal, or_else, active, deleting}
-use Rattle.lane_journals.specs.Legal.{IsQuiet, MayJoin}
+use Rattle.lane_journals.specs.Legal.{IsIdleRow, MayJoin}
 use Rattle.lane_journals.specs.Meanings.{history}
 use Rattle.lane_journals.specs.Places.{Setting}
 use Rattle.lane_journals.specs.KeptJournals.{IsLegalStep}
@@ -237,11 +237,11 @@ module _ (rs : List Row) (free : Apart rs) (i j : ℕ) (one two joined : Row) (f
       | inr h ↦ elim m.deletes [ inl e ↦ inr (gone-one e (across p key) (across-second p key m.fits h)) | inr e ↦ inl (gone-two e key h) ]
     ]
 
-    may-join : IsQuiet v one.bucket H → IsQuiet v two.bucket H → MayJoin H v p
+    may-join : IsIdleRow v one.bucket H → IsIdleRow v two.bucket H → MayJoin H v p
     may-join a b = record {
       fits = m.fits;
-      first = subst (λ (c : Low). IsQuiet v c H) m.first a;
-      second = subst (λ (c : Low). IsQuiet v c H) m.second b;
+      first = subst (λ (c : Low). IsIdleRow v c H) m.first a;
+      second = subst (λ (c : Low). IsIdleRow v c H) m.second b;
       same_active = same-active;
       one_delete = one-delete;
     }
@@ -274,7 +274,7 @@ module _ (lane : Low) (rules : Rules) (J : List LaneEvent) (newest : Option Clus
       say : (key : ℕ) → Says s.version key (history J) (row_by key (x.rows).rows)
       say = rows-say lane rules J newest last nodes parts keep d s g.acting x.rows x.opened
 
-      still : (k : ℕ) (row : Row) → slice_get (x.rows).rows k ≡ Some row → IsQuiet s.version row.bucket (history J)
+      still : (k : ℕ) (row : Row) → slice_get (x.rows).rows k ≡ Some row → IsIdleRow s.version row.bucket (history J)
       still k row found = quiet lane rules J newest last nodes parts keep now d s g row (known-row lane rules J newest last nodes parts keep d s g.acting x.rows x.opened k row found)
 
       above : lane.bits ≤ ((x.joined).bucket).bits

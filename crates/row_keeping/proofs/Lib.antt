@@ -1,10 +1,12 @@
-pub mod RowLists
-pub mod Reading
-pub mod Decided
-pub mod Splits
-pub mod Changes
-pub mod Ends
-pub mod Joins
-pub mod Accepting
-pub mod Telling
+-- Shared: other crates cite these.
 pub mod Serving
+-- Of this crate alone.
+mod RowLists
+mod Reading
+mod Decided
+mod Splits
+mod Changes
+mod Ends
+mod Joins
+mod Accepting
+mod Telling

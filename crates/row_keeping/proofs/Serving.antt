@@ -21,8 +21,8 @@ use Rattle.lane_journals.proofs.Basics.{sent-member}
 use Rattle.lane_journals.proofs.BucketLaws.{own-low}
 use Rattle.lane_journals.proofs.Meant.{meant-legal}
 use Rattle.lane_journals.proofs.Serials.{answer-shown}
-use Rattle.lane_durability.proofs.Deletes.{deleting-cases}
-use Rattle.lane_durability.proofs.Marks.{complete-took, active-complete}
+use Rattle.lane_journals.proofs.Deletes.{deleting-cases}
+use Rattle.lane_journals.proofs.Marks.{complete-took, active-complete}
 use Rattle.lane_keeping.specs.LaneKeeping.{setting_of, IsDelete, part_in, Keeps}
 use Rattle.lane_keeping.specs.Acting.{IsActing}
 use Rattle.lane_keeping.proofs.Owners.{serving, place-fits}

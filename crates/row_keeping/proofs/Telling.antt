@@ -14,7 +14,7 @@ use Rattle.distributor_part.specs.declared.rules.Rules.{Rules}
 use Rattle.distributor_part.specs.Parts.{Part}
 use Rattle.lane_journals.specs.Stamps.{Stamp}
 use Rattle.lane_journals.specs.Buckets.{contains}
-use Rattle.entry_maps.specs.declared.entry.Entry.{Entry}
+use Rattle.documents.specs.declared.entry.Entry.{Entry}
 use Rattle.lane_journals.specs.Readers as readers
 use Rattle.lane_journals.specs.Readers.{held, opened, deleting}
 use Rattle.lane_journals.specs.Facts.{IsRow}

@@ -59,7 +59,7 @@ pub record HasDelete (rows : Rows) (delete : Deleting) : Type 0 where
   pub deleting : row.deleting ≡ Some delete
 
 -- a message with the Delete came back with a reply after which its node accepts it no more
-pub record IsOver (J : Journal) (s : ClusterState) (delete : Deleting) : Type 0 where
+pub record IsDeleteOver (J : Journal) (s : ClusterState) (delete : Deleting) : Type 0 where
   pub number : ℕ
   pub message : Message
   pub was_sent : sent number J ≡ Some message

@@ -18,7 +18,7 @@ ghost use Rattle.lane_keeping.specs.LaneKeeping.{setting_of, part_in, Keeps};
 ghost use Rattle.lane_keeping.specs.Acting.{IsActing};
 ghost use Rattle.lane_keeping.specs.Asking.{OthersStay};
 ghost use Rattle.lane_keeping.specs.Laws.{OfKept, IsSentNext};
-ghost use Rattle.row_keeping.specs.Deciding.{MayActivate, MayDelete, HasDelete, IsOver};
+ghost use Rattle.row_keeping.specs.Deciding.{MayActivate, MayDelete, HasDelete, IsDeleteOver};
 ghost use Rattle.row_keeping.specs.Telling.{IsTelling};
 ghost use Rattle.row_keeping.specs.Laws.{OfDeciding};
 
@@ -52,7 +52,7 @@ pub fn deletes_begin()
 pub fn deletes_end()
     ensures { OfDeciding (λ rules J s p q Next. (delete : Deleting)
         (x : EndsDelete p q delete.bucket delete.node) → HasDelete x.rows delete
-        → IsOver (history J) s delete → Next (DeleteOver delete.bucket delete.node)) }
+        → IsDeleteOver (history J) s delete → Next (DeleteOver delete.bucket delete.node)) }
 {}
 
 /// That the active node accepted a row changes nothing that the journal says of it.

@@ -1,1 +1,1 @@
-pub mod Treating
+mod Treating

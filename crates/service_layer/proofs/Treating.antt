@@ -2,22 +2,22 @@
 use Rattle.std.proofs.Common.{◌≡◌, ◌∙◌, inl, inr, refl, sym, ap, subst, arith, List, [], ◌∷◌, map, length, ℕ, Result, Ok, Err, OnOk, OnErr}
 use Rattle.std.specs.FinMap as fin
 use Rattle.std.specs.FinMap.{len-entries, len-empty}
-use Rattle.entry_maps.specs.declared.entry.Entry.{Entry}
-use Rattle.entry_maps.specs.EntryCodes.{id_cmp}
+use Rattle.documents.specs.declared.entry.Entry.{Entry}
+use Rattle.documents.specs.EntryCodes.{id_cmp}
 use Rattle.entry_maps.specs.Stamps.{stamps_of, rising_of, stamp_in, stamp_cmp}
 use Rattle.stamps.specs.declared.stamp.Stamp.{Stamp}
 use Rattle.std.specs.declared.cmp.Ordering.{Ordering}
 use Rattle.messages.specs.declared.body.Body.{Body}
 use Rattle.messages.specs.declared.reply.Reply.{Reply}
-use Rattle.laid_pieces.specs.Told.{IsTold}
-use Rattle.laid_pieces.specs.declared.fault.StoreFault.{StoreFault}
-use Rattle.laid_pieces.specs.declared.fault.StoreFault.TheVariants as fault
+use Rattle.pieces.specs.Told.{IsAnsweredAs}
+use Rattle.pieces.specs.declared.fault.StoreFault.{StoreFault}
+use Rattle.pieces.specs.declared.fault.StoreFault.TheVariants as fault
 use Rattle.service_layer.specs.Nodes.{Node, after_body}
 use Rattle.service_layer.specs.Takes.{Treats, Shows, IsReplyTo, told, shown_pieces, shown_entries, done_reply}
 
 -- a body that changes what a node has
 pub treated : (x : Body) (old new : Node) (r : Result (Unit {0}) StoreFault) → shown_pieces x old.pieces ≡ [] → shown_entries x old.entries ≡ fin.empty
-    → OnOk r (new ≡ after_body x old) → OnErr r (new ≡ old) → IsTold (told x old.pieces) r → Treats old x new (done_reply r)
+    → OnOk r (new ≡ after_body x old) → OnErr r (new ≡ old) → IsAnsweredAs (told x old.pieces) r → Treats old x new (done_reply r)
 treated x old new (Ok u) ps m ok err t = (t, (sym ps, (sym m, ok)))
 treated x old new (Err fault.NoBucket) ps m ok err t = (t, err)
 treated x old new (Err fault.Differs) ps m ok err t = (t, err)

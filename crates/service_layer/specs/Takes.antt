@@ -10,10 +10,10 @@ use Rattle.messages.specs.declared.body.Body.TheVariants as body
 use Rattle.messages.specs.declared.message.Message.{Message}
 use Rattle.messages.specs.declared.reply.Reply.{Reply}
 use Rattle.messages.specs.declared.reply.Reply.TheVariants as reply
-use Rattle.laid_pieces.specs.Pieces.{does_meet}
-use Rattle.laid_pieces.specs.Told.{Told, Accepted, NoBucket, Differs, IsTold, key_told, delete_told, split_told, join_told, ready_told, activate_told}
-use Rattle.laid_pieces.specs.declared.fault.StoreFault.{StoreFault}
-use Rattle.laid_pieces.specs.declared.fault.StoreFault.TheVariants as fault
+use Rattle.pieces.specs.Pieces.{does_meet}
+use Rattle.pieces.specs.Told.{Told, Accepted, NoBucket, Differs, IsAnsweredAs, key_told, delete_told, split_told, join_told, ready_told, activate_told}
+use Rattle.pieces.specs.declared.fault.StoreFault.{StoreFault}
+use Rattle.pieces.specs.declared.fault.StoreFault.TheVariants as fault
 use Rattle.replica_store.specs.Replicas.{LieIn}
 use Rattle.service_layer.specs.Nodes.{Node, adopt, after_body, only_entry}
 
@@ -94,4 +94,4 @@ IsReplyTo (Err e) y = y ≡ refusal e
 -- what a body asks to see of a node that does not change
 abbrev pub Shows : Node → Body → Result Reply StoreFault → Type 0
 Shows n x (Ok r) = (told x n.pieces ≡ Accepted) × (r ≡ reply.Answer (shown_pieces x n.pieces) (shown_entries x n.entries))
-Shows n x (Err e) = IsTold {A = Reply} (told x n.pieces) (Err e)
+Shows n x (Err e) = IsAnsweredAs {A = Reply} (told x n.pieces) (Err e)

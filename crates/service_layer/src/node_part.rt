@@ -4,7 +4,7 @@ ghost use Rattle.std.specs.FinMap as fin;
 ghost use Rattle.global_ids.specs.Keys as keys;
 ghost use Rattle.messages.specs.Noting.{noted_reply};
 ghost use Rattle.messages.specs.declared.body.Body.TheVariants as body;
-ghost use Rattle.laid_pieces.specs.Told.{IsTold};
+ghost use Rattle.pieces.specs.Told.{IsAnsweredAs};
 ghost use Rattle.replica_store.specs.Replicas.{LieIn, IsReplica};
 ghost use Rattle.service_layer.specs.Nodes.{new_node, adopt, stored, after_body};
 ghost use Rattle.service_layer.specs.Takes.{Takes, Treats, Shows, IsInside, IsKeyOf, HasRoom, told};
@@ -13,7 +13,8 @@ use crate::regions::with_region;
 use crate::replies::{Taken, done, newer, only_entry, shown};
 use bucket_ids::Bucket;
 use document_ids::DocId;
-use entry_maps::{Entry, EntryMap, SharedEntry};
+use documents::{Entry, SharedEntry};
+use entry_maps::EntryMap;
 use global_ids::key_of;
 use messages::{Body, Message, Reply};
 use pieces::{Piece, PieceList};
@@ -224,7 +225,7 @@ impl NodePart {
         requires room { self.old.serial < 2 ^ 64 - 1 }
         ensures ok { OnOk result (self.new ≡ after_body (body.Store entry.now) self.old) }
         ensures err { OnErr result (self.new ≡ self.old) }
-        ensures told { IsTold (told (body.Store entry.now) self.old.pieces) result }
+        ensures told { IsAnsweredAs (told (body.Store entry.now) self.old.pieces) result }
     {
         let key = key_or(key, &entry.entry().id);
         if !self.store.holds(key) {
@@ -242,7 +243,7 @@ impl NodePart {
         requires room { self.old.serial < 2 ^ 64 - 1 }
         ensures ok { OnOk result (self.new ≡ after_body (body.Apply bucket entries.now) self.old) }
         ensures err { OnErr result (self.new ≡ self.old) }
-        ensures told { IsTold (told (body.Apply bucket entries.now) self.old.pieces) result }
+        ensures told { IsAnsweredAs (told (body.Apply bucket entries.now) self.old.pieces) result }
     {
         self.store.apply(bucket, entries)
     }
@@ -251,7 +252,7 @@ impl NodePart {
     fn delete(&mut self, bucket: Bucket, serial: u64) -> Result<(), StoreFault>
         ensures ok { OnOk result (self.new ≡ after_body (body.Delete bucket serial) self.old) }
         ensures err { OnErr result (self.new ≡ self.old) }
-        ensures told { IsTold (told (body.Delete bucket serial) self.old.pieces) result }
+        ensures told { IsAnsweredAs (told (body.Delete bucket serial) self.old.pieces) result }
     {
         self.store.delete(bucket, serial)
     }
@@ -261,7 +262,7 @@ impl NodePart {
         requires { self.old.serial < 2 ^ 64 - 1 }
         ensures ok { OnOk result (self.new ≡ after_body (body.Split bucket) self.old) }
         ensures err { OnErr result (self.new ≡ self.old) }
-        ensures told { IsTold (told (body.Split bucket) self.old.pieces) result }
+        ensures told { IsAnsweredAs (told (body.Split bucket) self.old.pieces) result }
     {
         self.store.split(bucket)
     }
@@ -271,7 +272,7 @@ impl NodePart {
         requires { self.old.serial < 2 ^ 64 - 1 }
         ensures ok { OnOk result (self.new ≡ after_body (body.Join bucket) self.old) }
         ensures err { OnErr result (self.new ≡ self.old) }
-        ensures told { IsTold (told (body.Join bucket) self.old.pieces) result }
+        ensures told { IsAnsweredAs (told (body.Join bucket) self.old.pieces) result }
     {
         self.store.join(bucket)
     }
@@ -281,7 +282,7 @@ impl NodePart {
         requires { self.old.serial < 2 ^ 64 - 1 }
         ensures ok { OnOk result (self.new ≡ after_body (body.Ready bucket) self.old) }
         ensures err { OnErr result (self.new ≡ self.old) }
-        ensures told { IsTold (told (body.Ready bucket) self.old.pieces) result }
+        ensures told { IsAnsweredAs (told (body.Ready bucket) self.old.pieces) result }
     {
         self.store.ready(bucket)
     }
@@ -291,7 +292,7 @@ impl NodePart {
         requires { self.old.serial < 2 ^ 64 - 1 }
         ensures ok { OnOk result (self.new ≡ after_body (body.Activate bucket) self.old) }
         ensures err { OnErr result (self.new ≡ self.old) }
-        ensures told { IsTold (told (body.Activate bucket) self.old.pieces) result }
+        ensures told { IsAnsweredAs (told (body.Activate bucket) self.old.pieces) result }
     {
         if let Err(fault) = self.store.may_activate(bucket) {
             return Err(fault);

@@ -5,7 +5,8 @@ ghost use Rattle.messages.specs.declared.reply.Reply.TheVariants as reply;
 ghost use Rattle.service_layer.specs.Nodes.{only_entry};
 ghost use Rattle.service_layer.specs.Takes.{refusal, done_reply, IsReplyTo};
 
-use entry_maps::{EntryMap, SharedEntry};
+use documents::SharedEntry;
+use entry_maps::EntryMap;
 use messages::{NotedReply, Reply, StampList};
 use pieces::PieceList;
 use replica_store::StoreFault;

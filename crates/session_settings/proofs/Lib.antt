@@ -1,1 +1,2 @@
+-- Shared: other crates cite these.
 pub mod Choosing

@@ -6,10 +6,10 @@ use Rattle.cluster_states.specs.ClusterStates.{State}
 use Rattle.cluster_states.specs.StateTexts.{IsStateText}
 use Rattle.distributor_part.specs.declared.rules.Rules.{Rules}
 use Rattle.doc_types.specs.SchemaCodes.{Types}
-use Rattle.doc_types.specs.Schemas.{schema_fault, schema_in}
+use Rattle.json_documents.specs.Schemas.{schema_fault, schema_in}
 use Rattle.words_line.specs.Said.{Says}
 use Rattle.words_line.specs.declared.options.Options.{Options}
-use Rattle.session_settings.specs.Settings.{IsFirst}
+use Rattle.lane_values.specs.Settings.{IsFirst}
 use Rattle.session_settings.specs.declared.choice.Choice.{Choice}
 
 -- an option that isn't built yet stands at its default

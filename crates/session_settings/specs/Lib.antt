@@ -1,3 +1,2 @@
--- `Settings` says what a session is set to, `Choices` which words choose it.
-pub mod Settings
+-- `Choices` says which words choose a setting.
 pub mod Choices

@@ -3,10 +3,11 @@ ghost use Rattle.std.specs.String.{string_bytes};
 ghost use Rattle.cluster_states.specs.ClusterStates.{State};
 ghost use Rattle.session_settings.specs.Choices.{is_built, rules_of, CanBegin, SaysSchema, Chooses, AreWrong};
 
-use crate::setting::Setting;
 use cluster_states::{ClusterState, States};
 use distributor_part::Rules;
-use doc_types::{Schema, SchemaFault};
+use doc_types::Schema;
+use json_documents::{SchemaFault, schema_from_json};
+use lane_values::setting::Setting;
 use std::alloc::Global;
 use words_line::{Options, WordsFault, read_words};
 
@@ -36,7 +37,7 @@ pub fn read_choice(alloc: Global, words: &[String]) -> Result<Choice, WordsFault
     let Some(initial) = first_state(&options) else {
         return Err(WordsFault::Usage);
     };
-    match Schema::from_json(alloc, options.schema.text()) {
+    match schema_from_json(alloc, options.schema.text()) {
         Ok(schema) => Ok(Choice {
             setting: Setting {
                 bits: options.bits,

@@ -11,7 +11,5 @@
 #![tactic(auto)]
 
 pub mod choice;
-pub mod setting;
 
 pub use choice::{Choice, read_choice};
-pub use setting::Setting;

@@ -1,1 +1,2 @@
-pub mod StampOrder
+mod StampOrder
+mod PlaceLaws

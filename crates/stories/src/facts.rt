@@ -4,58 +4,92 @@
 //! - `%entries NODE COUNT`: how many entries a node holds in all lanes;
 //! - `%upkeep LINE LANE rested`, `.. blocked NODE` or `.. disturbed MESSAGE`: how the upkeep of a line went there.
 
-use anyhow::{Result, anyhow};
+use crate::lines::number;
+use bucket_ids::Bucket;
 use carriers::PlanCarrier;
 use cell_session::{Cluster, Upkeep};
-use std::alloc::Global;
+use std::alloc::{AllocError, Global};
+use value_lists::NoMemory;
 
 /// Whether a line says such a fact.
 pub fn is_fact(line: &str) -> bool {
     line.starts_with("%rows ") || line.starts_with("%entries ") || line.starts_with("%upkeep ")
 }
 
-/// The fact that a line asks for, as the cluster has it.
-pub fn fact_of(alloc: Global, cluster: &Cluster<PlanCarrier>, line: &str) -> Result<String> {
-    let mut words = line.split(' ');
-    let kind = words.next().unwrap_or("");
-    let first = words.next().ok_or(anyhow!("no number"))?.parse::<u32>()?;
-    match kind {
-        "%rows" => rows_of(alloc, cluster, u8::try_from(first)?),
-        "%entries" => {
-            let node = u8::try_from(first)?;
-            let count = cluster.store_size(node);
-            Ok(format!(in alloc; "%entries {node} {count}")?)
-        }
-        _ => {
-            let lane = words.next().ok_or(anyhow!("no lane"))?.parse::<u8>()?;
-            upkeep_of(alloc, cluster, first, lane)
-        }
+/// The facts that these lines ask for, as the cluster has them.
+pub fn facts_of(
+    alloc: Global,
+    cluster: &Cluster<PlanCarrier>,
+    lines: &str,
+) -> Result<String, NoMemory> {
+    let mut facts = String::new(alloc);
+    for line in lines.lines() {
+        put_fact(alloc, &mut facts, cluster, line)?;
     }
+    Ok(facts)
 }
 
-fn rows_of(alloc: Global, cluster: &Cluster<PlanCarrier>, lane: u8) -> Result<String> {
-    let mut text = format!(in alloc; "%rows {lane}")?;
+fn put_fact(
+    alloc: Global,
+    facts: &mut String,
+    cluster: &Cluster<PlanCarrier>,
+    line: &str,
+) -> Result<(), NoMemory> {
+    let first = number(line, 1);
+    if line.starts_with("%rows ") {
+        put_rows(alloc, facts, cluster, lane_of(first))?;
+    } else if line.starts_with("%entries ") {
+        let count = cluster.store_size(lane_of(first));
+        write!(facts, "%entries {first} {count}")?;
+    } else {
+        put_upkeep(facts, cluster, first, lane_of(number(line, 2)))?;
+    }
+    facts.push('\n')?;
+    Ok(())
+}
+
+/// A number as that of a lane or a node; one that is too large is 255, which none has.
+fn lane_of(number: u32) -> u8 {
+    u8::try_from(number).unwrap_or(255)
+}
+
+fn put_rows(
+    alloc: Global,
+    facts: &mut String,
+    cluster: &Cluster<PlanCarrier>,
+    lane: u8,
+) -> Result<(), NoMemory> {
+    write!(facts, "%rows {lane}")?;
     for row in cluster.rows(lane) {
-        let bucket = row.bucket.print(alloc)?;
-        text.push_str(" ")?;
-        text.push_str(&bucket)?;
+        put_bucket(alloc, facts, row.bucket)?;
     }
-    Ok(text)
+    Ok(())
 }
 
-fn upkeep_of(alloc: Global, cluster: &Cluster<PlanCarrier>, line: u32, lane: u8) -> Result<String> {
-    let spans = cluster
-        .upkeeps(line)
-        .ok_or(anyhow!("no upkeep of that line"))?;
-    let span = spans.get(usize::from(lane)).ok_or(anyhow!("no such lane"))?;
-    match span.answer {
-        Upkeep::Rested => Ok(format!(in alloc; "%upkeep {line} {lane} rested")?),
-        Upkeep::Blocked { absent } => Ok(format!(in alloc;
-            "%upkeep {line} {lane} blocked {absent}"
-        )?),
-        Upkeep::Disturbed { message } => {
-            Ok(format!(in alloc; "%upkeep {line} {lane} disturbed {message}")?)
-        }
-        Upkeep::Held { .. } | Upkeep::NoMemory => Err(anyhow!("a lane that made no pass")),
+fn put_bucket(alloc: Global, facts: &mut String, bucket: Bucket) -> Result<(), NoMemory> {
+    let bucket = bucket.print(alloc)?;
+    facts.push(' ')?;
+    facts.push_str(&bucket)?;
+    Ok(())
+}
+
+fn put_upkeep(
+    facts: &mut String,
+    cluster: &Cluster<PlanCarrier>,
+    line: u32,
+    lane: u8,
+) -> Result<(), AllocError> {
+    write!(facts, "%upkeep {line} {lane} ")?;
+    match upkeep_of(cluster, line, lane) {
+        Some(Upkeep::Rested) => facts.push_str("rested"),
+        Some(Upkeep::Blocked { absent }) => write!(facts, "blocked {absent}"),
+        Some(Upkeep::Disturbed { message }) => write!(facts, "disturbed {message}"),
+        _ => facts.push_str("that made no pass"),
     }
+}
+
+fn upkeep_of(cluster: &Cluster<PlanCarrier>, line: u32, lane: u8) -> Option<Upkeep> {
+    let spans = cluster.upkeeps(line)?;
+    let span = spans.get(usize::from(lane))?;
+    Some(span.answer)
 }

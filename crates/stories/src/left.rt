@@ -1,9 +1,11 @@
+use crate::played::{Played, play};
 use anyhow::Result;
-use carriers::PlanCarriers;
-use cell_session::{Cluster, run_one};
+use carriers::{PlanCarrier, PlanCarriers};
+use cell_session::Cluster;
 use io_ends::{MemorySink, MemorySource};
 use lane_journals::LaneEvent;
 use std::alloc::Global;
+use value_lists::NoMemory;
 
 /// What an event is.
 fn name(event: &LaneEvent) -> &str {
@@ -26,22 +28,22 @@ fn name(event: &LaneEvent) -> &str {
 }
 
 /// The events of a journal behind the first 33: what each is.
-fn told(alloc: Global, journal: &[LaneEvent]) -> Result<String> {
+fn told(alloc: Global, journal: &[LaneEvent]) -> Result<String, NoMemory> {
     let mut text = String::new(alloc);
     for event in journal.iter().skip(33) {
-        text.push_str(" ")?;
-        text.push_str(name(event))?;
+        put_name(&mut text, event)?;
     }
     Ok(text)
 }
 
-/// Prints what the session of a put and a get with two replicas leaves.
-pub fn print_left(rt: &HostRuntime) -> Result<()> {
-    let alloc = rt.alloc();
-    let mut input = Vec::new(alloc);
-    input.extend_from_slice(
-        b"{\"put\":\"id:ns:music:n=0:a\",\"fields\":{}}\n{\"get\":\"id:ns:music:n=0:a\"}\n",
-    )?;
+fn put_name(text: &mut String, event: &LaneEvent) -> Result<(), NoMemory> {
+    text.push(' ')?;
+    text.push_str(name(event))?;
+    Ok(())
+}
+
+/// The session of a put and a get with two replicas.
+fn session(alloc: Global) -> Result<Played, NoMemory> {
     let mut words = Vec::new(alloc);
     for word in [
         "vespa_cell",
@@ -51,21 +53,36 @@ pub fn print_left(rt: &HostRuntime) -> Result<()> {
     ] {
         words.push(String::from_str(alloc, word)?)?;
     }
-    let mut source = MemorySource::new(input, Vec::new(alloc));
-    let mut sink = MemorySink::new(alloc, Vec::new(alloc));
-    let mut cluster = Cluster::empty(alloc);
-    println!(rt; "empty: {}", cluster.is_empty())?;
-    let status = run_one(
-        alloc,
-        &words,
-        &mut source,
-        &mut sink,
-        &mut PlanCarriers,
-        &mut cluster,
-    );
+    let source = MemorySource::new(input(alloc)?, Vec::new(alloc));
+    let sink = MemorySink::new(alloc, Vec::new(alloc));
+    Ok(play(alloc, words, source, sink, PlanCarriers))
+}
+
+fn input(alloc: Global) -> Result<Vec<u8>, NoMemory> {
+    let mut input = Vec::new(alloc);
+    input.extend_from_slice(
+        b"{\"put\":\"id:ns:music:n=0:a\",\"fields\":{}}\n{\"get\":\"id:ns:music:n=0:a\"}\n",
+    )?;
+    Ok(input)
+}
+
+/// Prints what the session of a put and a get with two replicas leaves.
+pub fn print_left(rt: &HostRuntime) -> Result<()> {
+    let alloc = rt.alloc();
+    let empty: Cluster<PlanCarrier> = Cluster::empty(alloc);
+    println!(rt; "empty: {}", empty.is_empty())?;
+    let played = session(alloc)?;
+    print_counts(rt, played.status, &played.cluster)?;
+    print_journal(rt, &played.cluster, 0)?;
+    print_journal(rt, &played.cluster, 1)?;
+    println!(rt; "lane 16: {} events", played.cluster.journal(16).len())?;
+    Ok(())
+}
+
+/// Prints the status, and how much there is of what in the cluster.
+fn print_counts(rt: &HostRuntime, status: u8, cluster: &Cluster<PlanCarrier>) -> Result<()> {
     println!(rt;
-        "status {}, {} lanes, {} lines",
-        status.number(),
+        "status {status}, {} lanes, {} lines",
         cluster.lanes(),
         cluster.dealt()
     )?;
@@ -80,8 +97,11 @@ pub fn print_left(rt: &HostRuntime) -> Result<()> {
         cluster.rows(0).len(),
         cluster.rows(1).len()
     )?;
-    println!(rt; "lane 0:{}", told(alloc, cluster.journal(0))?)?;
-    println!(rt; "lane 1:{}", told(alloc, cluster.journal(1))?)?;
-    println!(rt; "lane 16: {} events", cluster.journal(16).len())?;
+    Ok(())
+}
+
+/// Prints the events of a lane's journal behind the first 33.
+fn print_journal(rt: &HostRuntime, cluster: &Cluster<PlanCarrier>, lane: u8) -> Result<()> {
+    println!(rt; "lane {lane}:{}", told(rt.alloc(), cluster.journal(lane))?)?;
     Ok(())
 }

@@ -6,17 +6,15 @@
 mod facts;
 mod fated;
 mod left;
+mod lines;
+mod played;
 mod story;
 
-use crate::facts::fact_of;
-use crate::fated::FirstLaneFates;
+use crate::facts::facts_of;
 use crate::left::print_left;
-use crate::story::Story;
+use crate::played::Played;
+use crate::story::{Session, Wanted};
 use anyhow::Result;
-use carriers::Fate;
-use cell_session::{Cluster, run_one};
-use io_ends::{MemorySink, MemorySource};
-use std::alloc::Global;
 use std::fs;
 use std::process::ExitCode;
 
@@ -24,81 +22,48 @@ fn main(rt: HostRuntime) -> Result<ExitCode> {
     let mut failed = 0u8;
     let index = fs::read_to_string(&rt, "index")?;
     for name in index.lines() {
-        let text = fs::read_to_string(&rt, name)?;
-        let story = Story::parse(rt.alloc(), &text)?;
-        let told = tell(rt.alloc(), &story)?;
-        if told.status == story.status && told.output == story.output && told.facts == story.facts {
-            println!(rt; "ok {name}")?;
-        } else {
+        if !tell(&rt, name)? {
             failed = 1;
-            println!(rt; "DIFFERS {name}")?;
-            println!(rt;
-                "wanted status {} and\n{}{}",
-                story.status,
-                shown(&story.output),
-                &story.facts
-            )?;
-            println!(rt;
-                "came status {} and\n{}{}",
-                told.status,
-                shown(&told.output),
-                &told.facts
-            )?;
         }
     }
     print_left(&rt)?;
     Ok(ExitCode::from(failed))
 }
 
-/// What a session came to.
-#[derive(Drop)]
-struct Told {
-    output: Vec<u8>,
-    status: u8,
-    /// What the cluster that it leaves says where the story says something.
-    facts: String,
+/// Runs the session of a story, and prints whether it came to what the story wants.
+fn tell(rt: &HostRuntime, name: &str) -> Result<bool> {
+    let text = fs::read_to_string(rt, name)?;
+    let wanted = Wanted::read(rt.alloc(), &text)?;
+    let played = Session::read(rt.alloc(), &text)?.play();
+    let facts = facts_of(rt.alloc(), &played.cluster, &wanted.facts)?;
+    print_compared(rt, name, &wanted, &played, &facts)
 }
 
-/// Runs the session of a story.
-fn tell(alloc: Global, story: &Story) -> Result<Told> {
-    let mut input = Vec::new(alloc);
-    input.extend_from_slice(&story.input)?;
-    let mut source = MemorySource::new(input, copied(alloc, &story.reads)?);
-    let mut sink = MemorySink::new(alloc, copied(alloc, &story.writes)?);
-    let mut cluster = Cluster::empty(alloc);
-    let mut carriers = FirstLaneFates::new(copied_fates(alloc, &story.fates)?);
-    let status = run_one(
-        alloc,
-        &story.words,
-        &mut source,
-        &mut sink,
-        &mut carriers,
-        &mut cluster,
-    );
-    let mut output = Vec::new(alloc);
-    output.extend_from_slice(sink.bytes())?;
-    let mut facts = String::new(alloc);
-    for line in story.facts.lines() {
-        facts.push_str(&fact_of(alloc, &cluster, line)?)?;
-        facts.push_str("\n")?;
+/// Prints whether what came is what is wanted, and both where they differ.
+fn print_compared(
+    rt: &HostRuntime,
+    name: &str,
+    wanted: &Wanted,
+    played: &Played,
+    facts: &str,
+) -> Result<bool> {
+    let (status, bytes) = (played.status, played.sink.bytes());
+    if status == wanted.status
+        && bytes == wanted.output.as_slice()
+        && facts == wanted.facts.as_str()
+    {
+        println!(rt; "ok {name}")?;
+        return Ok(true);
     }
-    Ok(Told {
-        output,
-        status: status.number(),
-        facts,
-    })
-}
-
-fn copied(alloc: Global, calls: &[u64]) -> Result<Vec<u64>> {
-    let mut copy = Vec::new(alloc);
-    copy.extend_from_slice(calls)?;
-    Ok(copy)
-}
-
-fn copied_fates(alloc: Global, fates: &[Fate]) -> Result<Vec<Fate>> {
-    let mut copy = Vec::new(alloc);
-    copy.extend_from_slice(fates)?;
-    Ok(copy)
+    println!(rt; "DIFFERS {name}")?;
+    println!(rt;
+        "wanted status {} and\n{}{}",
+        wanted.status,
+        shown(&wanted.output),
+        wanted.facts.as_str()
+    )?;
+    println!(rt; "came status {status} and\n{}{facts}", shown(bytes))?;
+    Ok(false)
 }
 
 /// The bytes as text, where they are text.

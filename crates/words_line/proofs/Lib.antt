@@ -1,4 +1,6 @@
-pub mod Numerals
-pub mod Reading
+-- Shared: other crates cite these.
 pub mod SaidOnce
-pub mod TheCommand
+-- Of this crate alone.
+mod Numerals
+mod Reading
+mod TheCommand

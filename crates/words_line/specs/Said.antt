@@ -10,6 +10,7 @@ use Rattle.doc_types.specs.declared.schema.TheConstants.{DEFAULT_SCHEMA}
 use Rattle.words_line.specs.Command.{the_command}
 use Rattle.words_line.specs.declared.options.Generate.{Generate}
 use Rattle.words_line.specs.declared.options.Options.{Options}
+use Rattle.words_line.specs.declared.plain.Copies.{Copies}
 
 -- the text that stands with an option, where the option is there
 abbrev pub given : List Row → Text → Option Text
@@ -24,6 +25,12 @@ pub record IsNumber (least most : ℕ) (text : Text) (n : ℕ) : Type 0 where
   pub plain : text ≡ decimal n
   pub low : least ≤ n
   pub high : n ≤ most
+
+-- how many copies are asked for
+pub record SaysCopies (rows : List Row) (c : Copies) : Type 0 where
+  pub redundancy : IsNumber 1 8 (said rows (codes "redundancy") (codes "1")) c.redundancy
+  pub acks : IsNumber 1 c.redundancy (said rows (codes "acks") (codes "1")) c.acks
+  pub searchable : IsNumber 1 c.redundancy (said rows (codes "searchable") (codes "1")) c.searchable
 
 -- the options of a session that reads its lines
 pub record SaysPlain (rows : List Row) (o : Options) : Type 0 where

@@ -32,20 +32,29 @@ fn bare_command<'a>(alloc: Global) -> Command<'a>
         .disable_version_flag(true)
 }
 
+/// The command with two more options.
+fn with_two<'a>(
+    alloc: Global,
+    command: Command<'a>,
+    one: &'a str,
+    two: &'a str,
+) -> Result<Command<'a>, NoMemory>
+    ensures { IfOk result (λ r. app_of r
+        ≡ with_rule (with_rule (app_of command.entry) (option_rule one.entry.now)) (option_rule two.entry.now)) }
+{
+    let command = with_option(alloc, command, one)?;
+    with_option(alloc, command, two)
+}
+
 /// The command: its options and nothing else.
 fn command<'a>(alloc: Global) -> Result<Command<'a>, NoMemory>
     ensures { IfOk result (λ r. app_of r ≡ the_command) }
 {
-    let feeders = with_option(alloc, bare_command(alloc), "feeders")?;
-    let bits = with_option(alloc, feeders, "bits")?;
-    let redundancy = with_option(alloc, bits, "redundancy")?;
-    let acks = with_option(alloc, redundancy, "acks")?;
-    let searchable = with_option(alloc, acks, "searchable")?;
-    let split_at = with_option(alloc, searchable, "split-at")?;
-    let schema = with_option(alloc, split_at, "schema")?;
-    let initial = with_option(alloc, schema, "state")?;
-    let generate = with_option(alloc, initial, "generate")?;
-    with_option(alloc, generate, "count")
+    let lanes = with_two(alloc, bare_command(alloc), "feeders", "bits")?;
+    let copies = with_two(alloc, lanes, "redundancy", "acks")?;
+    let limits = with_two(alloc, copies, "searchable", "split-at")?;
+    let texts = with_two(alloc, limits, "schema", "state")?;
+    with_two(alloc, texts, "generate", "count")
 }
 
 /// What stands with each option, by `clap`.

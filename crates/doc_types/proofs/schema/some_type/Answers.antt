@@ -1,4 +1,4 @@
-use Rattle.std.proofs.Common.{◌==◌, ◌∙◌, sym, ap, map, not, length}
+use Rattle.std.proofs.Common.{◌==◌, ◌∙◌, sym, ap, map, not}
 use Rattle.std.proofs.lemmas.List.{length-map}
 use Rattle.doc_types.specs.SchemaMaps.{type_pair}
 use Rattle.doc_types.proofs.Known.{some_entries}

@@ -1,6 +1,6 @@
 use Rattle.std.proofs.Common.{◌≡◌, ◌++◌, drop, option_map}
 use Rattle.serde_json.specs.View.{items_view}
-use Rattle.documents.specs.Json.{each}
+use Rattle.json_documents.specs.Json.{each}
 use Rattle.feed_lines.specs.Values.{fate_of}
 use Rattle.feed_lines.proofs.values.each_fate.Given as goal
 

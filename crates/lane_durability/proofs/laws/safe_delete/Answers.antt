@@ -1,5 +1,5 @@
 use Rattle.lane_durability.proofs.Copies.{all-safe}
-use Rattle.lane_durability.proofs.Deletes.{two_deletes}
+use Rattle.lane_durability.proofs.TwoDeletes.{two_deletes}
 use Rattle.lane_durability.proofs.laws.safe_delete.Goals as goal
 
 pub returns : goal.returns

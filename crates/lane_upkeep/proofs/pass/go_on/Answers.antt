@@ -1,6 +1,6 @@
-use Rattle.upkeep_steps.specs.declared.doing.UpkeepStep.TheVariants.{Tell, Decide, Accept, Round, Finished}
+use Rattle.pass_machine.specs.declared.doing.UpkeepStep.TheVariants.{Tell, Decide, Accept, Round, Finished}
 use Rattle.std.proofs.Common.{refl, subst}
-use Rattle.upkeep_steps.specs.declared.doing.UpkeepStep.{UpkeepStep}
+use Rattle.pass_machine.specs.declared.doing.UpkeepStep.{UpkeepStep}
 use Rattle.lane_upkeep.specs.UnderWay.{IsNextStep}
 use Rattle.lane_upkeep.proofs.Going.{on_none}
 use Rattle.lane_upkeep.proofs.NextSteps.{comes_next}

@@ -1,6 +1,6 @@
 use Rattle.std.proofs.Common.{◌≡◌, ◌∙◌, ◌<◌, ◌^◌, ℕ, Option, Some, None, refl, sym, subst}
-use Rattle.upkeep_steps.specs.declared.doing.Doing.{Doing}
-use Rattle.upkeep_steps.specs.declared.notes.RowNote.{RowNote}
+use Rattle.pass_machine.specs.declared.doing.Doing.{Doing}
+use Rattle.pass_machine.specs.declared.notes.RowNote.{RowNote}
 use Rattle.lane_upkeep.specs.UnderWay.{KnowsDoing}
 use Rattle.lane_upkeep.proofs.Going.{on_none, on_then}
 use Rattle.lane_upkeep.proofs.Standings.{does_begin, does_more, does_finish}
@@ -51,7 +51,7 @@ loop-pass-preserved g c =
       run = run_more x m e o c.loop-pass.pass c.go_on.new.pass (g.C.Carrier.given c.args.carrier.now) (g.C.Carrier.given c.loop-pass.carrier) (g.C.Carrier.given c.go_on.new.carrier) i.run
           (subst (GoesOneOn m e o c.loop-pass.pass c.go_on.new.pass (g.C.Carrier.given c.loop-pass.carrier) (g.C.Carrier.given c.go_on.new.carrier)) c.if-branch.true c.in_ok-go_on.ensures.takes);
       few = subst (λ (n : ℕ). n < 2 ^ 64) c.row_count-many-in-loop-pass.ensures c.row_count-many-in-loop-pass.type_inv;
-      quiet = does_more c.quiet_spans_part.ensures.first c.quiet_spans_part.ensures.second x m e o (g.C.Carrier.given c.args.carrier.now) (g.C.Carrier.given c.loop-pass.carrier) (g.C.Carrier.given c.go_on.new.carrier) c.loop-pass.pass c.go_on.new.pass
+      quiet = does_more c.undisturbed_spans_part.ensures.first c.undisturbed_spans_part.ensures.second x m e o (g.C.Carrier.given c.args.carrier.now) (g.C.Carrier.given c.loop-pass.carrier) (g.C.Carrier.given c.go_on.new.carrier) c.loop-pass.pass c.go_on.new.pass
           i.on h.on i.passing h.passing i.quiet c.in_ok-go_on.ensures.quiet;
     }
 
@@ -69,7 +69,7 @@ returns-clause-quiet g c =
     let given = g.C.Carrier.given c.args.carrier.now in
     let now = g.C.Carrier.given c.go_on.new.carrier in
     does_finish c.passes_end.ensures x e o given now c.go_on.new.pass (c.in_ok-go_on.ensures.ends c.if-branch.false)
-    (does_more c.quiet_spans_part.ensures.first c.quiet_spans_part.ensures.second x m e o given (g.C.Carrier.given c.loop-pass.carrier) now c.loop-pass.pass c.go_on.new.pass i.on h.on i.passing h.passing i.quiet c.in_ok-go_on.ensures.quiet)
+    (does_more c.undisturbed_spans_part.ensures.first c.undisturbed_spans_part.ensures.second x m e o given (g.C.Carrier.given c.loop-pass.carrier) now c.loop-pass.pass c.go_on.new.pass i.on h.on i.passing h.passing i.quiet c.in_ok-go_on.ensures.quiet)
 
 pub returns-clause-pass : goal.returns-clause-pass
 returns-clause-pass g c =

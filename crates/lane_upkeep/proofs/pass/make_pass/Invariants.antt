@@ -1,5 +1,5 @@
 use Rattle.std.proofs.Common.{◌≡◌, ◌<◌, ◌^◌, length}
-use Rattle.upkeep_steps.specs.Going.{left}
+use Rattle.pass_machine.specs.Going.{left}
 use Rattle.lane_upkeep.specs.Passing.{IsPassing, PassesOn, rows_in}
 use Rattle.lane_upkeep.specs.Quiet.{DoesQuietly}
 use Rattle.lane_upkeep.specs.Taking.{HasRun}

@@ -14,4 +14,4 @@ returns c = λ x m e o given now h. maintained-rests (record {
 }) (record {
   knows = c.owners_act.ensures.knows;
   serving = c.owners_act.ensures.serving;
-}) (begun c.nodes_are_seen.ensures.sound) c.quiet_spans_have_scripts.ensures c.quiet_spans_part.ensures.second x m e o given now h
+}) (begun c.nodes_are_seen.ensures.sound) c.undisturbed_spans_have_scripts.ensures c.undisturbed_spans_part.ensures.second x m e o given now h

@@ -2,12 +2,13 @@ use Rattle.std.proofs.Common.{◌≡◌, ◌∙◌, ◌<◌, ℕ, length, vec_le
 use Rattle.bucket_ids.specs.Buckets.{Low, IsIn}
 use Rattle.distributor_part.specs.Parts.{rows_of}
 use Rattle.lane_states.specs.declared.lane_state.LaneState.{LaneState}
-use Rattle.lane_states.specs.declared.rounds.RoundRun.{RoundRun}
+use Rattle.round_runs.specs.declared.round_run.RoundRun.{RoundRun}
 use Rattle.lane_states.specs.LaneStates.{journal_of, part_of}
-use Rattle.lane_states.specs.RoundRuns.{IsRunning, IsRunBy, Begins}
-use Rattle.lane_states.specs.Shortages.{NoneIsShort, EndsAtOnce, HadMemory}
-use Rattle.lane_states.proofs.Shortages.{once-still}
-use Rattle.upkeep_answers.specs.Spans.{AreUpkeep}
+use Rattle.round_runs.specs.RoundRuns.{IsRunning, IsRunBy, Begins}
+use Rattle.lane_states.specs.Shortages.{NoneIsShort, EndsAtOnce}
+use Rattle.round_runs.specs.RoundShortages.{HadMemory}
+use Rattle.lane_rounds.proofs.Shortages.{once-still}
+use Rattle.upkeep_spans.specs.Spans.{AreUpkeep}
 use Rattle.lane_upkeep.proofs.Passing.{still-passing-in, still-passes-in, passing-gained}
 use Rattle.lane_upkeep.proofs.RoundsLeft.{gains-left, upkeep-left, others-left, answers-left, ran-left, row-left, buckets-gained, note-whole}
 use Rattle.lane_upkeep.proofs.Upkept.{upkeep-whole, upkeep-cut}
@@ -61,7 +62,7 @@ run_round-requires-clause-there g c =
     let o = c.args.owner.now in
     let p = c.requires.passing in
     let d = o.distributor in
-    let m = c.begin_round_at-run.new.self in
+    let m = c.begin_round_at-run.new.lane in
     let run = c.begin_round_at-run.result in
     let begins : Begins x.lane (journal_of x) (journal_of m) d run.key run = rw c.in_ok-reserve.ensures.items at c.begin_round_at-run.ensures.begins in
     subst (λ (k : ℕ). k < vec_len m.parts) (sym begins.distributor_is) (subst (λ (k : ℕ). d < k) (sym c.begin_round_at-run.ensures.parts) p.there)
@@ -72,7 +73,7 @@ run_round-requires-clause-runs g c =
     let o = c.args.owner.now in
     let p = c.requires.passing in
     let d = o.distributor in
-    let m = c.begin_round_at-run.new.self in
+    let m = c.begin_round_at-run.new.lane in
     let run = c.begin_round_at-run.result in
     let begins : Begins x.lane (journal_of x) (journal_of m) d run.key run = rw c.in_ok-reserve.ensures.items at c.begin_round_at-run.ensures.begins in
     subst (λ (l : Low). IsRunning l (journal_of m) run) (sym (ap (λ (z : LaneState). z.lane) c.begin_round_at-run.ensures.after)) begins.runs
@@ -83,7 +84,7 @@ run_round-requires-clause-told g c =
     let o = c.args.owner.now in
     let p = c.requires.passing in
     let d = o.distributor in
-    let m = c.begin_round_at-run.new.self in
+    let m = c.begin_round_at-run.new.lane in
     let run = c.begin_round_at-run.result in
     let begins : Begins x.lane (journal_of x) (journal_of m) d run.key run = rw c.in_ok-reserve.ensures.items at c.begin_round_at-run.ensures.begins in
     ap (λ (z : RoundRun). z.round.awaited) begins.new.is
@@ -94,7 +95,7 @@ run_round-requires-clause-run_by g c =
     let o = c.args.owner.now in
     let p = c.requires.passing in
     let d = o.distributor in
-    let m = c.begin_round_at-run.new.self in
+    let m = c.begin_round_at-run.new.lane in
     let run = c.begin_round_at-run.result in
     let begins : Begins x.lane (journal_of x) (journal_of m) d run.key run = rw c.in_ok-reserve.ensures.items at c.begin_round_at-run.ensures.begins in
     subst (λ (e : ℕ). IsRunBy (part_of m e) run) (sym begins.distributor_is) c.begin_round_at-run.ensures.run_by
@@ -105,7 +106,7 @@ run_round-requires-clause-inside g c =
     let o = c.args.owner.now in
     let p = c.requires.passing in
     let d = o.distributor in
-    let m = c.begin_round_at-run.new.self in
+    let m = c.begin_round_at-run.new.lane in
     let run = c.begin_round_at-run.result in
     let begins : Begins x.lane (journal_of x) (journal_of m) d run.key run = rw c.in_ok-reserve.ensures.items at c.begin_round_at-run.ensures.begins in
     subst (λ (l : Low). IsIn l run.key) (sym (ap (λ (z : LaneState). z.lane) c.begin_round_at-run.ensures.after)) c.begin_round_at-run.ensures.inside
@@ -138,10 +139,10 @@ returns-in_err-run_round-clause-passing g c =
     let o = c.args.owner.now in
     let p = c.requires.passing in
     let d = o.distributor in
-    let m = c.begin_round_at-run.new.self in
+    let m = c.begin_round_at-run.new.lane in
     let run = c.begin_round_at-run.result in
     let begins : Begins x.lane (journal_of x) (journal_of m) d run.key run = rw c.in_ok-reserve.ensures.items at c.begin_round_at-run.ensures.begins in
-    let n = c.run_round.new.self in
+    let n = c.run_round.new.lane in
     let y = c.run_round.new.run in
     let job = c.run_round.ensures.job in
     let step = c.begin_round_at-run.ensures.step in
@@ -160,10 +161,10 @@ returns-in_err-run_round-clause-on g c =
     let o = c.args.owner.now in
     let p = c.requires.passing in
     let d = o.distributor in
-    let m = c.begin_round_at-run.new.self in
+    let m = c.begin_round_at-run.new.lane in
     let run = c.begin_round_at-run.result in
     let begins : Begins x.lane (journal_of x) (journal_of m) d run.key run = rw c.in_ok-reserve.ensures.items at c.begin_round_at-run.ensures.begins in
-    let n = c.run_round.new.self in
+    let n = c.run_round.new.lane in
     let y = c.run_round.new.run in
     let job = c.run_round.ensures.job in
     let step = c.begin_round_at-run.ensures.step in
@@ -184,10 +185,10 @@ returns-in_err-run_round-clause-buckets g c =
     let o = c.args.owner.now in
     let p = c.requires.passing in
     let d = o.distributor in
-    let m = c.begin_round_at-run.new.self in
+    let m = c.begin_round_at-run.new.lane in
     let run = c.begin_round_at-run.result in
     let begins : Begins x.lane (journal_of x) (journal_of m) d run.key run = rw c.in_ok-reserve.ensures.items at c.begin_round_at-run.ensures.begins in
-    let n = c.run_round.new.self in
+    let n = c.run_round.new.lane in
     let y = c.run_round.new.run in
     let job = c.run_round.ensures.job in
     let step = c.begin_round_at-run.ensures.step in
@@ -200,10 +201,10 @@ returns-clause-passing g c =
     let o = c.args.owner.now in
     let p = c.requires.passing in
     let d = o.distributor in
-    let m = c.begin_round_at-run.new.self in
+    let m = c.begin_round_at-run.new.lane in
     let run = c.begin_round_at-run.result in
     let begins : Begins x.lane (journal_of x) (journal_of m) d run.key run = rw c.in_ok-reserve.ensures.items at c.begin_round_at-run.ensures.begins in
-    let n = c.run_round.new.self in
+    let n = c.run_round.new.lane in
     let y = c.run_round.new.run in
     let job = c.run_round.ensures.job in
     let step = c.begin_round_at-run.ensures.step in
@@ -222,10 +223,10 @@ returns-clause-on g c =
     let o = c.args.owner.now in
     let p = c.requires.passing in
     let d = o.distributor in
-    let m = c.begin_round_at-run.new.self in
+    let m = c.begin_round_at-run.new.lane in
     let run = c.begin_round_at-run.result in
     let begins : Begins x.lane (journal_of x) (journal_of m) d run.key run = rw c.in_ok-reserve.ensures.items at c.begin_round_at-run.ensures.begins in
-    let n = c.run_round.new.self in
+    let n = c.run_round.new.lane in
     let y = c.run_round.new.run in
     let job = c.run_round.ensures.job in
     let step = c.begin_round_at-run.ensures.step in
@@ -246,10 +247,10 @@ returns-clause-buckets g c =
     let o = c.args.owner.now in
     let p = c.requires.passing in
     let d = o.distributor in
-    let m = c.begin_round_at-run.new.self in
+    let m = c.begin_round_at-run.new.lane in
     let run = c.begin_round_at-run.result in
     let begins : Begins x.lane (journal_of x) (journal_of m) d run.key run = rw c.in_ok-reserve.ensures.items at c.begin_round_at-run.ensures.begins in
-    let n = c.run_round.new.self in
+    let n = c.run_round.new.lane in
     let y = c.run_round.new.run in
     let job = c.run_round.ensures.job in
     let step = c.begin_round_at-run.ensures.step in
@@ -262,10 +263,10 @@ returns-clause-gains g c =
     let o = c.args.owner.now in
     let p = c.requires.passing in
     let d = o.distributor in
-    let m = c.begin_round_at-run.new.self in
+    let m = c.begin_round_at-run.new.lane in
     let run = c.begin_round_at-run.result in
     let begins : Begins x.lane (journal_of x) (journal_of m) d run.key run = rw c.in_ok-reserve.ensures.items at c.begin_round_at-run.ensures.begins in
-    let n = c.run_round.new.self in
+    let n = c.run_round.new.lane in
     let y = c.run_round.new.run in
     let job = c.run_round.ensures.job in
     let step = c.begin_round_at-run.ensures.step in
@@ -278,10 +279,10 @@ returns-clause-row g c row found =
     let o = c.args.owner.now in
     let p = c.requires.passing in
     let d = o.distributor in
-    let m = c.begin_round_at-run.new.self in
+    let m = c.begin_round_at-run.new.lane in
     let run = c.begin_round_at-run.result in
     let begins : Begins x.lane (journal_of x) (journal_of m) d run.key run = rw c.in_ok-reserve.ensures.items at c.begin_round_at-run.ensures.begins in
-    let n = c.run_round.new.self in
+    let n = c.run_round.new.lane in
     let y = c.run_round.new.run in
     let job = c.run_round.ensures.job in
     let step = c.begin_round_at-run.ensures.step in
@@ -294,10 +295,10 @@ returns-clause-answers g c =
     let o = c.args.owner.now in
     let p = c.requires.passing in
     let d = o.distributor in
-    let m = c.begin_round_at-run.new.self in
+    let m = c.begin_round_at-run.new.lane in
     let run = c.begin_round_at-run.result in
     let begins : Begins x.lane (journal_of x) (journal_of m) d run.key run = rw c.in_ok-reserve.ensures.items at c.begin_round_at-run.ensures.begins in
-    let n = c.run_round.new.self in
+    let n = c.run_round.new.lane in
     let y = c.run_round.new.run in
     let job = c.run_round.ensures.job in
     let step = c.begin_round_at-run.ensures.step in
@@ -310,10 +311,10 @@ returns-clause-others g c note off k =
     let o = c.args.owner.now in
     let p = c.requires.passing in
     let d = o.distributor in
-    let m = c.begin_round_at-run.new.self in
+    let m = c.begin_round_at-run.new.lane in
     let run = c.begin_round_at-run.result in
     let begins : Begins x.lane (journal_of x) (journal_of m) d run.key run = rw c.in_ok-reserve.ensures.items at c.begin_round_at-run.ensures.begins in
-    let n = c.run_round.new.self in
+    let n = c.run_round.new.lane in
     let y = c.run_round.new.run in
     let job = c.run_round.ensures.job in
     let step = c.begin_round_at-run.ensures.step in
@@ -331,10 +332,10 @@ returns-clause-ran g c =
     let o = c.args.owner.now in
     let p = c.requires.passing in
     let d = o.distributor in
-    let m = c.begin_round_at-run.new.self in
+    let m = c.begin_round_at-run.new.lane in
     let run = c.begin_round_at-run.result in
     let begins : Begins x.lane (journal_of x) (journal_of m) d run.key run = rw c.in_ok-reserve.ensures.items at c.begin_round_at-run.ensures.begins in
-    let n = c.run_round.new.self in
+    let n = c.run_round.new.lane in
     let y = c.run_round.new.run in
     let job = c.run_round.ensures.job in
     let step = c.begin_round_at-run.ensures.step in
@@ -345,48 +346,48 @@ pub returns-clause-had : goal.returns-clause-had
 returns-clause-had g c =
     let x = c.args.lane.now in
     let d = c.args.owner.now.distributor in
-    let m = c.begin_round_at-run.new.self in
+    let m = c.begin_round_at-run.new.lane in
     let run = c.begin_round_at-run.result in
     let begins : Begins x.lane (journal_of x) (journal_of m) d run.key run = rw c.in_ok-reserve.ensures.items at c.begin_round_at-run.ensures.begins in
     let last : m.last ≡ x.last = ap (λ (z : LaneState). z.last) c.begin_round_at-run.ensures.after in
     let had : HadMemory run = record { read = ap (λ (z : RoundRun). z.unread) begins.new.is; applied = ap (λ (z : RoundRun). z.unapplied) begins.new.is } in
-    let n = c.run_round.new.self in
+    let n = c.run_round.new.lane in
     c.in_ok-run_round.ensures.fine refl had
 
 pub returns-clause-none_is_short : goal.returns-clause-none_is_short
 returns-clause-none_is_short g c =
     let x = c.args.lane.now in
     let d = c.args.owner.now.distributor in
-    let m = c.begin_round_at-run.new.self in
+    let m = c.begin_round_at-run.new.lane in
     let run = c.begin_round_at-run.result in
     let begins : Begins x.lane (journal_of x) (journal_of m) d run.key run = rw c.in_ok-reserve.ensures.items at c.begin_round_at-run.ensures.begins in
     let last : m.last ≡ x.last = ap (λ (z : LaneState). z.last) c.begin_round_at-run.ensures.after in
     let had : HadMemory run = record { read = ap (λ (z : RoundRun). z.unread) begins.new.is; applied = ap (λ (z : RoundRun). z.unapplied) begins.new.is } in
-    let n = c.run_round.new.self in
+    let n = c.run_round.new.lane in
     subst (λ (i : ℕ). NoneIsShort i n.last (journal_of n)) last (c.in_ok-run_round.ensures.none_is_short refl had)
 
 pub returns-clause-at_once : goal.returns-clause-at_once
 returns-clause-at_once g c =
     let x = c.args.lane.now in
     let d = c.args.owner.now.distributor in
-    let m = c.begin_round_at-run.new.self in
+    let m = c.begin_round_at-run.new.lane in
     let run = c.begin_round_at-run.result in
     let begins : Begins x.lane (journal_of x) (journal_of m) d run.key run = rw c.in_ok-reserve.ensures.items at c.begin_round_at-run.ensures.begins in
     let last : m.last ≡ x.last = ap (λ (z : LaneState). z.last) c.begin_round_at-run.ensures.after in
     let had : HadMemory run = record { read = ap (λ (z : RoundRun). z.unread) begins.new.is; applied = ap (λ (z : RoundRun). z.unapplied) begins.new.is } in
-    let n = c.run_round.new.self in
+    let n = c.run_round.new.lane in
     subst (λ (i : ℕ). EndsAtOnce i n.last (journal_of n)) last (c.run_round.ensures.at_once refl had)
 
 pub returns-in_err-run_round-clause-at_once : goal.returns-in_err-run_round-clause-at_once
 returns-in_err-run_round-clause-at_once g c =
     let x = c.args.lane.now in
     let d = c.args.owner.now.distributor in
-    let m = c.begin_round_at-run.new.self in
+    let m = c.begin_round_at-run.new.lane in
     let run = c.begin_round_at-run.result in
     let begins : Begins x.lane (journal_of x) (journal_of m) d run.key run = rw c.in_ok-reserve.ensures.items at c.begin_round_at-run.ensures.begins in
     let last : m.last ≡ x.last = ap (λ (z : LaneState). z.last) c.begin_round_at-run.ensures.after in
     let had : HadMemory run = record { read = ap (λ (z : RoundRun). z.unread) begins.new.is; applied = ap (λ (z : RoundRun). z.unapplied) begins.new.is } in
-    let n = c.run_round.new.self in
+    let n = c.run_round.new.lane in
     subst (λ (i : ℕ). EndsAtOnce i n.last (journal_of n)) last (c.run_round.ensures.at_once refl had)
 
 pub returns-in_err-reserve-clause-at_once : goal.returns-in_err-reserve-clause-at_once

@@ -1,6 +1,6 @@
 use Rattle.std.proofs.Common.{◌∙◌, ℕ, sym, subst}
 use Rattle.lane_states.specs.LaneStates.{journal_of, part_of}
-use Rattle.lane_states.proofs.Results.{if_ok}
+use Rattle.proof_basics.proofs.Results.{if_ok}
 use Rattle.lane_upkeep.specs.RoundNotes.{NotesRound, NotesRun, GainsMarks}
 use Rattle.lane_upkeep.proofs.NotesStay.{knows-of}
 use Rattle.lane_upkeep.proofs.QuietRan.{rounds-quietly}
@@ -49,7 +49,7 @@ returns-clause-quiet g c = if_ok c.note_of.result (λ note i.
       all_read = c.in_ok-run.ensures.had.read;
       all_applied = c.in_ok-run.ensures.had.applied;
     } in
-    rounds-quietly c.quiet_rounds_end.ensures c.targets_are_of_the_list.ensures x e o c.args.at (g.C.Carrier.given c.args.carrier.now) (g.C.Carrier.given c.run_at.new.carrier) note r
+    rounds-quietly c.undisturbed_rounds_end.ensures c.targets_are_of_the_list.ensures x e o c.args.at (g.C.Carrier.given c.args.carrier.now) (g.C.Carrier.given c.run_at.new.carrier) note r
     c.requires.passing c.run_at.ensures.passing c.run_at.ensures.on
     (subst (λ (set : ℕ). GainsMarks (part_of x o.distributor) (part_of e o.distributor) c.args.at set) (sym i.holders_are) c.in_ok-run.ensures.gains) c.in_ok-run.ensures.fates) c.note_of.ensures
 

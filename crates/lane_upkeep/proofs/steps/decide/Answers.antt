@@ -1,7 +1,7 @@
 use Rattle.std.proofs.Common.{◌≡◌, ◌<◌, ◌≤◌, ℕ, length, sym, subst}
 use Rattle.lane_states.specs.LaneStates.{journal_of, part_of}
-use Rattle.upkeep_steps.specs.declared.doing.Doing.{Doing}
-use Rattle.upkeep_steps.specs.Going.{IsDecided, AreLeft, rows_made, left}
+use Rattle.pass_machine.specs.declared.doing.Doing.{Doing}
+use Rattle.pass_machine.specs.Going.{IsDecided, AreLeft, rows_made, left}
 use Rattle.lane_upkeep.specs.Passing.{rows_in}
 use Rattle.lane_upkeep.specs.UnderWay.{KnowsDoing}
 use Rattle.lane_upkeep.proofs.Changed.{are_left, decided_still, decided_known, forgotten_notes}

@@ -1,6 +1,6 @@
 use Rattle.std.proofs.Common.{OnOk, sym, subst}
 use Rattle.messages.specs.declared.decision.Decision.{Decision}
-use Rattle.lane_states.proofs.Results.{on_ok}
+use Rattle.proof_basics.proofs.Results.{on_ok}
 use Rattle.lane_upkeep.specs.UnderWay.{MayDecide, DidDecide}
 use Rattle.lane_upkeep.proofs.Decided.{did_split, did_join}
 use Rattle.lane_upkeep.proofs.steps.decide_row.Goals as goal

@@ -1,8 +1,8 @@
 use Rattle.std.proofs.Common.{sym, subst, rules}
 use Rattle.distributor_part.specs.Parts.{Part}
 use Rattle.lane_states.specs.LaneStates.{journal_of}
-use Rattle.upkeep_steps.specs.declared.pass.UpkeepPass.{UpkeepPass}
-use Rattle.upkeep_steps.specs.Turns.{Sees}
+use Rattle.pass_machine.specs.declared.pass.UpkeepPass.{UpkeepPass}
+use Rattle.pass_machine.specs.Turns.{Sees}
 use Rattle.lane_upkeep.specs.Noted.{AreNotes}
 use Rattle.lane_upkeep.specs.UnderWay.{view_in, KnowsDoing}
 use Rattle.lane_upkeep.proofs.NextSteps.{ideal_of, ideal_is}

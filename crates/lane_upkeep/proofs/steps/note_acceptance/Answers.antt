@@ -1,9 +1,9 @@
 use Rattle.std.proofs.Common.{◌≡◌, ◌∙◌, ◌<◌, ℕ, length, sym, subst}
 use Rattle.lane_states.specs.declared.lane_state.LaneState.{LaneState}
 use Rattle.lane_states.specs.LaneStates.{journal_of, part_of}
-use Rattle.upkeep_steps.specs.declared.doing.Doing.{Doing}
-use Rattle.upkeep_steps.specs.declared.pass.UpkeepPass.{UpkeepPass}
-use Rattle.upkeep_steps.specs.Going.{IsAccepted, left}
+use Rattle.pass_machine.specs.declared.doing.Doing.{Doing}
+use Rattle.pass_machine.specs.declared.pass.UpkeepPass.{UpkeepPass}
+use Rattle.pass_machine.specs.Going.{IsAccepted, left}
 use Rattle.lane_upkeep.specs.declared.owner.Owner.{Owner}
 use Rattle.lane_upkeep.specs.Deciding.{DidAccept}
 use Rattle.lane_upkeep.specs.Noted.{AreNotes}

@@ -2,10 +2,10 @@ use Rattle.std.proofs.Common.{◌≡◌, ◌<◌, ℕ, List, length, sym, ap, su
 use Rattle.bucket_db.specs.declared.row.Row.{Row}
 use Rattle.distributor_part.specs.Parts.{Part, rows_of}
 use Rattle.lane_states.specs.LaneStates.{part_of}
-use Rattle.lane_states.proofs.Results.{on_ok}
-use Rattle.upkeep_steps.specs.declared.doing.Doing.{Doing}
-use Rattle.upkeep_steps.specs.Turns.{Sees}
-use Rattle.upkeep_steps.specs.Going.{left}
+use Rattle.proof_basics.proofs.Results.{on_ok}
+use Rattle.pass_machine.specs.declared.doing.Doing.{Doing}
+use Rattle.pass_machine.specs.Turns.{Sees}
+use Rattle.pass_machine.specs.Going.{left}
 use Rattle.lane_upkeep.specs.Passing.{rows_in, HasRow}
 use Rattle.lane_upkeep.specs.UnderWay.{view_in, KnowsDoing}
 use Rattle.lane_upkeep.proofs.Changed.{rounded_known}

@@ -1,9 +1,9 @@
 use Rattle.std.proofs.Common.{◌≡◌, ◌∙◌, Bool, length, sym, ap, subst, rules, if◌then◌else◌}
 use Rattle.distributor_part.specs.Parts.{Part}
 use Rattle.lane_states.specs.LaneStates.{journal_of, part_of}
-use Rattle.upkeep_steps.specs.declared.doing.Doing.{Doing}
-use Rattle.upkeep_steps.specs.declared.pass.UpkeepPass.{UpkeepPass}
-use Rattle.upkeep_steps.specs.Turns.{Sees, answered}
+use Rattle.pass_machine.specs.declared.doing.Doing.{Doing}
+use Rattle.pass_machine.specs.declared.pass.UpkeepPass.{UpkeepPass}
+use Rattle.pass_machine.specs.Turns.{Sees, answered}
 use Rattle.lane_upkeep.specs.CameBack.{is_taken, is_end}
 use Rattle.lane_upkeep.specs.Noted.{AreNotes}
 use Rattle.lane_upkeep.specs.Passing.{rows_in}

@@ -6,7 +6,7 @@ use Rattle.messages.specs.declared.reply.Reply.{Reply}
 use Rattle.row_keeping.specs.Telling.{IsTelling}
 use Rattle.lane_states.specs.LaneStates.{journal_of, part_of}
 use Rattle.lane_states.specs.Tellings.{IsAnsweredBy, IsFirstReply}
-use Rattle.lane_states.proofs.Results.{if_ok}
+use Rattle.proof_basics.proofs.Results.{if_ok}
 use Rattle.lane_states.proofs.Tellings.{stays-went}
 use Rattle.lane_upkeep.specs.CameBack.{CameBack}
 use Rattle.lane_upkeep.specs.Notes.{KnowsNote}
@@ -126,7 +126,7 @@ returns-clause-quiet g c =
     let came = came-all (journal_of e) o c.args.node c.args.body c.in_ok-reply.reply (row-body t.row c.args.node c.args.body t.of_row) back in
     both-ok (λ y. y ≡ c.in_ok-reply.reply) (λ y. y ≡ Some replies.NoMemory → ⊥) (λ y. InQuiet now x e o (λ d s. IsToldQuietly d x e c.args.node c.args.body y)) c.unless_short.result
     (λ y same fine d s settings current goes.
-    quiet-told c.late_messages_wait.ensures.taken c.quiet_tellings_are_told.ensures.back c.quiet_tellings_are_told.ensures.told x e o (g.C.Carrier.given c.args.carrier.now) now c.args.node c.args.body c.requires.passing c.requires.may
+    quiet-told c.late_messages_wait.ensures.taken c.undisturbed_tellings_are_told.ensures.back c.undisturbed_tellings_are_told.ensures.told x e o (g.C.Carrier.given c.args.carrier.now) now c.args.node c.args.body c.requires.passing c.requires.may
     (went-as c.message_to-message.ensures c.in_ok-reply.ensures.went) c.tell.ensures.took c.tell.ensures.keeps d current goes y
     (subst (λ (z : Option Reply). IfSome z (IsFirstReply (journal_of e) (x.last + 1))) (sym same) c.in_ok-reply.ensures.first)
     (subst (λ (z : Option Reply). IfNone z (returned (x.last + 1) (history (journal_of e)) ≡ false)) (sym same) c.in_ok-reply.ensures.none) fine

@@ -4,20 +4,15 @@ use Rattle.clap.specs.Words.{App, Text, app_of, with_rule}
 use Rattle.words_line.specs.Command.{option_rule, the_command}
 use Rattle.words_line.proofs.command.command.Goals as goal
 
--- one more option on a known command
-onto : {x a b : App} (name : Text) → x ≡ with_rule a (option_rule name) → a ≡ b → x ≡ with_rule b (option_rule name)
-onto name e f = e ∙ ap (λ app. with_rule app (option_rule name)) f
+-- two more options on a known command
+onto : {x a b : App} (one two : Text) → x ≡ with_rule (with_rule a (option_rule one)) (option_rule two) → a ≡ b → x ≡ with_rule (with_rule b (option_rule one)) (option_rule two)
+onto one two e f = e ∙ ap (λ app. with_rule (with_rule app (option_rule one)) (option_rule two)) f
 
 pub returns : goal.returns
-returns c = IfOk-weaker c.with_option-10.result _ (λ r. app_of r ≡ the_command)
-    (λ r e. onto (codes "count") e
-    (onto (codes "generate") c.in_ok-generate.ensures
-    (onto (codes "state") c.in_ok-initial.ensures
-    (onto (codes "schema") c.in_ok-schema.ensures
-    (onto (codes "split-at") c.in_ok-split_at.ensures
-    (onto (codes "searchable") c.in_ok-searchable.ensures
-    (onto (codes "acks") c.in_ok-acks.ensures
-    (onto (codes "redundancy") c.in_ok-redundancy.ensures
-    (onto (codes "bits") c.in_ok-bits.ensures
-    (onto (codes "feeders") c.in_ok-feeders.ensures c.bare_command.ensures))))))))))
-    c.with_option-10.ensures
+returns c = IfOk-weaker c.with_two-5.result _ (λ r. app_of r ≡ the_command)
+    (λ r e. onto (codes "generate") (codes "count") e
+    (onto (codes "schema") (codes "state") c.in_ok-texts.ensures
+    (onto (codes "searchable") (codes "split-at") c.in_ok-limits.ensures
+    (onto (codes "redundancy") (codes "acks") c.in_ok-copies.ensures
+    (onto (codes "feeders") (codes "bits") c.in_ok-lanes.ensures c.bare_command.ensures)))))
+    c.with_two-5.ensures

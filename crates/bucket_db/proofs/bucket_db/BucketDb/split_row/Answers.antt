@@ -2,7 +2,7 @@ use Rattle.std.proofs.Common.{◌<◌, length, sym, subst, List}
 use Rattle.std.specs.Prelude.{slice_get, IfSome}
 use Rattle.bucket_db.specs.Rows.{AreRows, Rows, buckets_of}
 use Rattle.bucket_db.specs.declared.row.Row.{Row}
-use Rattle.bucket_db.proofs.Counts.{on_either}
+use Rattle.proof_basics.proofs.Results.{on_either}
 use Rattle.bucket_db.proofs.RowLaws.{split_keeps}
 use Rattle.bucket_db.proofs.bucket_db.BucketDb.split_row.Goals as goal
 

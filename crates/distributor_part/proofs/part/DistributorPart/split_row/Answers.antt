@@ -1,6 +1,6 @@
 use Rattle.std.proofs.Common.{◌<◌, Some, IfSome, slice_get, sym, ap, ◌∙◌, subst}
 use Rattle.std.proofs.lemmas.Result.{on_ok_weaker}
-use Rattle.bucket_db.proofs.Counts.{on_either}
+use Rattle.proof_basics.proofs.Results.{on_either}
 use Rattle.bucket_db.proofs.RowLists.{some_with}
 use Rattle.distributor_part.specs.Parts.{Part, IsPart, rows_of}
 use Rattle.distributor_part.specs.Upkeep.{SplitsRow}

@@ -1,8 +1,8 @@
 use Rattle.std.proofs.Common.{◌∙◌, ap}
 use Rattle.std.specs.FinMap as fin
-use Rattle.documents.proofs.JsonLaws.{of_sorted}
+use Rattle.documents.proofs.FieldLaws.{of_sorted}
 use Rattle.doc_updates.specs.Updates.{pairs}
 use Rattle.doc_updates.proofs.update.Update.of.Goals as goal
 
-pub returns-clause-read : goal.returns-clause-read
-returns-clause-read c = ap (λ v. fin.from_sorted (pairs v.items)) c.in_ok-new.ensures.ok ∙ of_sorted _ c.requires.sorted
+pub returns : goal.returns
+returns c = ap (λ v. fin.from_sorted (pairs v.items)) c.in_ok-new.ensures.ok ∙ of_sorted _ c.requires.sorted

@@ -1,7 +1,7 @@
 use Rattle.std.proofs.Common.{◌∙◌, ap}
 use Rattle.documents.specs.Fields.{pairs}
 use Rattle.documents.specs.Sizes.{size_of}
-use Rattle.documents.proofs.JsonLaws.{of_sorted}
+use Rattle.documents.proofs.FieldLaws.{of_sorted}
 use Rattle.documents.proofs.SizeLaws.{too_large, small_enough}
 use Rattle.documents.proofs.document.Document.of.Goals as goal
 

@@ -2,7 +2,7 @@ use Rattle.std.proofs.Common.{◌∙◌, sym, ap, cond}
 use Rattle.entry_maps.specs.Slots.{slots_in}
 use Rattle.entry_maps.proofs.AloneLaws.{documents_alone}
 use Rattle.entry_maps.proofs.CountLaws.{documents_all}
-use Rattle.entry_maps.proofs.OrderLaws.{apart_of}
+use Rattle.entry_maps.proofs.KeptLaws.{apart_of}
 use Rattle.entry_maps.proofs.kept.Kept.documents.Goals as goal
 
 pub returns-then-has_document : goal.returns-then-has_document

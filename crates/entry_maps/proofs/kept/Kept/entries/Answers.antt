@@ -2,7 +2,7 @@ use Rattle.std.proofs.Common.{◌∙◌, sym}
 use Rattle.entry_maps.specs.Slots.{slots_in}
 use Rattle.entry_maps.proofs.AloneLaws.{len_alone}
 use Rattle.entry_maps.proofs.CountLaws.{len_all}
-use Rattle.entry_maps.proofs.OrderLaws.{apart_of}
+use Rattle.entry_maps.proofs.KeptLaws.{apart_of}
 use Rattle.entry_maps.proofs.kept.Kept.entries.Goals as goal
 
 pub returns-in-One : goal.returns-in-One

@@ -1,4 +1,4 @@
-use Rattle.entry_maps.proofs.OrderLaws.{kept_none}
+use Rattle.entry_maps.proofs.KeptLaws.{kept_none}
 use Rattle.entry_maps.proofs.kept.Kept.none.Goals as goal
 
 pub returns-clause-well : goal.returns-clause-well

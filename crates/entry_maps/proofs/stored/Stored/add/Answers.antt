@@ -1,7 +1,7 @@
 use Rattle.std.proofs.Common.{ap, arith}
 use Rattle.std.proofs.lemmas.List.Edits.{length-insert}
 use Rattle.entry_maps.specs.Slots.{slots_in}
-use Rattle.entry_maps.specs.Chunks.{place}
+use Rattle.entry_rows.specs.Chunks.{place}
 use Rattle.entry_maps.proofs.StoredLaws.{added_entries, added_kept, added_count, one_if}
 use Rattle.entry_maps.proofs.stored.Stored.add.Goals as goal
 

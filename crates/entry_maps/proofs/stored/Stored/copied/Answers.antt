@@ -1,9 +1,9 @@
 use Rattle.std.proofs.Common.{◌≡◌, ◌+◌, ◌-◌, ◌<◌, ◌++◌, min, length, get_or, take, drop, refl, ap, sym, ◌∙◌, add-one, append_assoc, arith}
 use Rattle.std.proofs.lemmas.List.{take_rest, length-drop}
-use Rattle.entry_maps.specs.Chunks.{place, flat_before}
+use Rattle.entry_rows.specs.Chunks.{place, flat_before}
 use Rattle.entry_maps.specs.Slots.{slots_in}
-use Rattle.entry_maps.proofs.ChunkLists.{take_along, next_row, row_within}
-use Rattle.entry_maps.proofs.ChunkLaws.{seat_row}
+use Rattle.entry_rows.proofs.ChunkLists.{take_along, next_row, row_within}
+use Rattle.entry_rows.proofs.ChunkLaws.{seat_row}
 use Rattle.entry_maps.proofs.stored.Stored.copied.Goals as goal
 
 pub loop-left-preserved : goal.loop-left-preserved

@@ -1,5 +1,5 @@
 use Rattle.std.proofs.Common.{◌≡◌, ◌+◌, ◌≤◌, ◌++◌, length, take, drop}
-use Rattle.entry_maps.specs.Chunks.{place, IsSeat}
+use Rattle.entry_rows.specs.Chunks.{place, IsSeat}
 use Rattle.entry_maps.specs.Slots.{IsCounted, slots_in}
 use Rattle.entry_maps.proofs.stored.Stored.copied.Given as goal
 

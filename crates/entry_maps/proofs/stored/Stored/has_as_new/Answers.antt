@@ -1,5 +1,5 @@
 use Rattle.std.proofs.Common.{arith}
-use Rattle.entry_maps.specs.Chunks.{place}
+use Rattle.entry_rows.specs.Chunks.{place}
 use Rattle.entry_maps.specs.Slots.{slots_in}
 use Rattle.entry_maps.proofs.MergeLaws.{here_so_far}
 use Rattle.entry_maps.proofs.stored.Stored.has_as_new.Goals as goal

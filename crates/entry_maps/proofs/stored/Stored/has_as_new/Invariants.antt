@@ -1,6 +1,6 @@
 use Rattle.std.proofs.Common.{◌+◌, ◌-◌, ◌≤◌, length}
 use Rattle.std.specs.List.{AllWithin}
-use Rattle.entry_maps.specs.Chunks.{flat, place, IsSeat}
+use Rattle.entry_rows.specs.Chunks.{flat, place, IsSeat}
 use Rattle.entry_maps.specs.Merging.{HasAsNew}
 use Rattle.entry_maps.proofs.stored.Stored.has_as_new.Given as goal
 

@@ -1,6 +1,6 @@
 use Rattle.std.proofs.Common.{◌∙◌, sym, ap, Some}
 use Rattle.stamps.specs.Order.{is_before}
-use Rattle.entry_maps.specs.Chunks.{place}
+use Rattle.entry_rows.specs.Chunks.{place}
 use Rattle.entry_maps.specs.Slots.{slots_in, entries_of}
 use Rattle.entry_maps.proofs.SlotLists.{get-entries_of}
 use Rattle.entry_maps.proofs.StoredLaws.{found_there, newer_than}

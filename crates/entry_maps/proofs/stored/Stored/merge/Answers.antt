@@ -1,12 +1,13 @@
 use Rattle.std.proofs.Common.{◌≡◌, ◌++◌, ◌∙◌, [], ap, sym, get_or, arith}
 use Rattle.std.specs.FinMap as fin
 use Rattle.std.proofs.lemmas.List.{nil_from_length}
-use Rattle.entry_maps.specs.Chunks.{flat_before, flat_behind, flat_of}
+use Rattle.entry_rows.specs.Chunks.{flat_before, flat_behind, flat_of}
 use Rattle.entry_maps.specs.Entries.{newer_of}
 use Rattle.entry_maps.specs.Merging.{merged}
 use Rattle.entry_maps.specs.Slots.{slots_in, entries_of}
 use Rattle.entry_maps.proofs.MergeLaws.{kept_merged, get_merged, get_same}
-use Rattle.entry_maps.proofs.RowLaws.{in_three, merged_between}
+use Rattle.entry_rows.proofs.RowLaws.{in_three}
+use Rattle.entry_maps.proofs.MergedRows.{merged_between}
 use Rattle.entry_maps.proofs.SlotLists.{get-entries_of}
 use Rattle.entry_maps.proofs.stored.Stored.merge.Goals as goal
 

@@ -1,6 +1,6 @@
 use Rattle.std.proofs.Common.{◌+◌, ◌++◌, ◌∷◌, [], cond, drop, ap, ap₂, sym, ◌∙◌}
 use Rattle.std.proofs.lemmas.List.{append_assoc, append-nil}
-use Rattle.entry_maps.specs.Chunks.{place}
+use Rattle.entry_rows.specs.Chunks.{place}
 use Rattle.entry_maps.specs.Merging.{merged}
 use Rattle.entry_maps.specs.Slots.{slots_in}
 use Rattle.entry_maps.proofs.MergeLaws.{head_there, step_is, end_is, none_merged}

@@ -1,5 +1,5 @@
 use Rattle.std.proofs.Common.{◌≡◌, ◌+◌, ◌-◌, ◌≤◌, ◌++◌, length, drop}
-use Rattle.entry_maps.specs.Chunks.{flat, place, IsSeat}
+use Rattle.entry_rows.specs.Chunks.{flat, place, IsSeat}
 use Rattle.entry_maps.specs.Merging.{merged}
 use Rattle.entry_maps.specs.Slots.{IsCounted, slots_in}
 use Rattle.entry_maps.proofs.stored.Stored.merged.Given as goal

@@ -1,10 +1,11 @@
 use Rattle.std.proofs.Common.{◌∙◌, ap, arith, not, length, take, drop, count_by}
 use Rattle.std.proofs.lemmas.List.{length-append, length-take-le, length-drop}
 use Rattle.bucket_ids.specs.Paths.{first_path, last_path}
-use Rattle.entry_maps.specs.Chunks.{place}
+use Rattle.entry_rows.specs.Chunks.{place}
 use Rattle.entry_maps.specs.Entries.{in_bucket}
 use Rattle.entry_maps.specs.Runs.{IsRun}
-use Rattle.entry_maps.specs.Slots.{lies_in, slots_in, has_document}
+use Rattle.entry_rows.specs.Slots.{has_document}
+use Rattle.entry_maps.specs.Slots.{lies_in, slots_in}
 use Rattle.entry_maps.proofs.RunLaws.{run_law, inside, outside, filtered_entries, IsKept-filter, counts-filter}
 use Rattle.entry_maps.proofs.stored.Stored.remove_within.Goals as goal
 

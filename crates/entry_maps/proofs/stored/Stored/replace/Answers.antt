@@ -1,7 +1,8 @@
 use Rattle.std.proofs.Common.{ap, arith}
 use Rattle.std.proofs.lemmas.List.{length-set}
-use Rattle.entry_maps.specs.Slots.{has_document, slots_in}
-use Rattle.entry_maps.specs.Chunks.{place}
+use Rattle.entry_rows.specs.Slots.{has_document}
+use Rattle.entry_maps.specs.Slots.{slots_in}
+use Rattle.entry_rows.specs.Chunks.{place}
 use Rattle.entry_maps.proofs.StoredLaws.{renewed_entries, renewed_kept, renewed_count, one_if}
 use Rattle.entry_maps.proofs.stored.Stored.replace.Goals as goal
 

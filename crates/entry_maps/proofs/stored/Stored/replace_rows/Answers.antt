@@ -1,8 +1,9 @@
 use Rattle.std.proofs.Common.{ap, length, arith, count_by}
-use Rattle.entry_maps.specs.Chunks.{flat_before, flat_behind, flat_of}
-use Rattle.entry_maps.specs.Slots.{slots_in, has_document}
+use Rattle.entry_rows.specs.Chunks.{flat_before, flat_behind, flat_of}
+use Rattle.entry_rows.specs.Slots.{has_document}
+use Rattle.entry_maps.specs.Slots.{slots_in}
 use Rattle.entry_maps.proofs.CountLaws.{length_three, documents_three}
-use Rattle.entry_maps.proofs.RowLaws.{in_three}
+use Rattle.entry_rows.proofs.RowLaws.{in_three}
 use Rattle.entry_maps.proofs.stored.Stored.replace_rows.Goals as goal
 
 pub overflow_sub-entries : goal.overflow_sub-entries

@@ -1,8 +1,8 @@
 use Rattle.std.proofs.Common.{ap, ◌∙◌, arith}
 use Rattle.std.proofs.lemmas.Bool.{ltb-true, ltb-false}
 use Rattle.std.proofs.lemmas.List.{get_or_default}
-use Rattle.entry_maps.specs.Chunks.{flat, place}
-use Rattle.entry_maps.proofs.OrderLaws.{paths_rise}
+use Rattle.entry_rows.specs.Chunks.{flat, place}
+use Rattle.entry_rows.proofs.OrderLaws.{paths_rise}
 use Rattle.entry_maps.proofs.stored.Stored.run.Goals as goal
 
 pub returns-then-slot-last : goal.returns-then-slot-last

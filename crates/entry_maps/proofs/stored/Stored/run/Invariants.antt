@@ -1,7 +1,7 @@
 use Rattle.std.proofs.Common.{◌≡◌, ◌+◌, ◌-◌, ◌≤◌, length, take, drop, count_by}
 use Rattle.std.specs.List.{AllWithin}
-use Rattle.entry_maps.specs.Chunks.{flat, place, IsSeat}
-use Rattle.entry_maps.specs.Slots.{has_document}
+use Rattle.entry_rows.specs.Chunks.{flat, place, IsSeat}
+use Rattle.entry_rows.specs.Slots.{has_document}
 use Rattle.entry_maps.proofs.stored.Stored.run.Given as goal
 
 -- the slots from the first one up to the seat are counted, and none lies past the last path

@@ -1,7 +1,7 @@
 use Rattle.std.proofs.Common.{◌∙◌, ap}
 use Rattle.entry_maps.specs.Slots.{slots_in}
 use Rattle.entry_maps.specs.Stamps.{rising_of}
-use Rattle.entry_maps.proofs.OrderLaws.{apart_of}
+use Rattle.entry_maps.proofs.KeptLaws.{apart_of}
 use Rattle.entry_maps.proofs.StampLaws.{stamps-slots}
 use Rattle.entry_maps.proofs.stored.Stored.stamps.Goals as goal
 

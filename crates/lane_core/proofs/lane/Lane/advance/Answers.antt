@@ -1,6 +1,6 @@
 use Rattle.std.proofs.Common.{◌∙◌, sym}
 use Rattle.lane_core.proofs.Searching.{to-step}
-use Rattle.upkeep_answers.specs.Watches.{takes_plans, planned_in}
+use Rattle.upkeep_spans.specs.Watches.{takes_plans, planned_in}
 use Rattle.lane_core.proofs.lane.Lane.advance.Goals as goal
 
 pub prepare-requires-clause-begun : goal.prepare-requires-clause-begun

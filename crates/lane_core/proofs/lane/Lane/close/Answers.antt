@@ -1,4 +1,4 @@
-use Rattle.upkeep_answers.specs.Watches.{takes_plans, planned_in}
+use Rattle.upkeep_spans.specs.Watches.{takes_plans, planned_in}
 use Rattle.lane_core.proofs.lane.Lane.close.Goals as goal
 
 pub returns-clause-after : goal.returns-clause-after

@@ -1,5 +1,5 @@
-use Rattle.lane_states.proofs.Results.{on_ok, on_err}
-use Rattle.upkeep_answers.specs.Watches.{takes_plans, planned_in}
+use Rattle.proof_basics.proofs.Results.{on_ok, on_err}
+use Rattle.upkeep_spans.specs.Watches.{takes_plans, planned_in}
 use Rattle.lane_core.proofs.lane.Lane.hear.Goals as goal
 
 pub returns-clause-heard : goal.returns-clause-heard

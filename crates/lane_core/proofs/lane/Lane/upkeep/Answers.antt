@@ -1,6 +1,6 @@
 use Rattle.std.proofs.Common.{◌≡◌, ◌∙◌, length}
 use Rattle.lane_states.specs.LaneStates.{journal_of}
-use Rattle.upkeep_answers.specs.Watches.{takes_plans, planned_in}
+use Rattle.upkeep_spans.specs.Watches.{takes_plans, planned_in}
 use Rattle.lane_core.proofs.Told.{behind-pass, inside-of, before-of, lane-told, lane-short}
 use Rattle.lane_core.proofs.lane.Lane.upkeep.Goals as goal
 use Rattle.lane_core.proofs.lane.Lane.upkeep.Goals.{in-Ok, in-Err}

@@ -3,14 +3,14 @@ use Rattle.lane_journals.specs.Meanings.{history}
 use Rattle.lane_journals.specs.KeptJournals.{IsLegal}
 use Rattle.lane_journals.specs.declared.event.LaneEvent.TheVariants.{Published}
 use Rattle.lane_keeping.specs.LaneKeeping.{setting_of}
-use Rattle.lane_operations.specs.OperationKeeping.{AllClosed}
+use Rattle.lane_journals.specs.Facts.{AllClosed}
 use Rattle.lane_states.specs.declared.lane_state.LaneState.{LaneState}
 use Rattle.lane_states.specs.LaneStates.{journal_of}
-use Rattle.lane_states.specs.Growing.{announced}
+use Rattle.lane_keeping.specs.Tidings.{announced}
 use Rattle.lane_core.specs.Works.{count_of}
-use Rattle.stamp_places.specs.Places.{place_of}
-use Rattle.lane_states.proofs.Entries.{finds-still}
-use Rattle.lane_states.proofs.Carrying.{carried-like}
+use Rattle.stamps.specs.Places.{place_of}
+use Rattle.lane_lines.proofs.Entries.{finds-still}
+use Rattle.lane_lines.proofs.Carrying.{carried-like}
 use Rattle.lane_core.proofs.Idling.{all-older, idle-all, lines-announced, carried-announced, finds-announced}
 use Rattle.lane_core.proofs.Working.{lines-of, KeepsLines, work-between}
 use Rattle.lane_core.proofs.work.Work.announce.Goals as goal

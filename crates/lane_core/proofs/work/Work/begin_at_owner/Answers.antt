@@ -5,9 +5,9 @@ use Rattle.lane_journals.specs.KeptJournals.{past}
 use Rattle.lane_journals.specs.declared.event.LaneEvent.{LaneEvent}
 use Rattle.lane_keeping.specs.Acting.{IsActing}
 use Rattle.lane_core.specs.declared.work.Work.{Work}
-use Rattle.lane_states.specs.Growing.{heard_next}
+use Rattle.lane_keeping.specs.Tidings.{heard_next}
 use Rattle.lane_states.specs.LaneStates.{journal_of}
-use Rattle.lane_core.specs.LaneValues.{LaneValue}
+use Rattle.lane_values.specs.LaneValues.{LaneValue}
 use Rattle.lane_core.specs.Works.{begun_by}
 use Rattle.lane_core.proofs.Idling.{fresh-heard}
 use Rattle.lane_core.proofs.work.Work.begin_at_owner.Goals as goal

@@ -1,6 +1,6 @@
 use Rattle.std.proofs.Common.{Option, subst}
-use Rattle.lane_states.specs.declared.readying.Shortage.{Shortage}
-use Rattle.lane_states.specs.Readying.{outcome_of}
+use Rattle.lane_lines.specs.declared.readying.Shortage.{Shortage}
+use Rattle.lane_lines.specs.Readying.{outcome_of}
 use Rattle.lane_core.specs.Works.{value_of}
 use Rattle.lane_core.specs.Searching.{ComesToRow}
 use Rattle.lane_core.proofs.Searching.{prepared-so, cut-so, fell-so, ends-in}

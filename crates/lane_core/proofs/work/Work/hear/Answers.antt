@@ -1,8 +1,8 @@
 use Rattle.std.proofs.Common.{rules, ap}
 use Rattle.lane_states.specs.declared.lane_state.LaneState.{LaneState}
-use Rattle.lane_states.proofs.Carrying.{carried-heard}
-use Rattle.stamp_places.specs.Places.{place_of}
-use Rattle.lane_states.proofs.Entries.{finds-same, finds-heard}
+use Rattle.lane_lines.proofs.Carrying.{carried-heard}
+use Rattle.stamps.specs.Places.{place_of}
+use Rattle.lane_lines.proofs.Entries.{finds-same, finds-heard}
 use Rattle.lane_core.proofs.work.Work.hear.Goals as goal
 
 pub returns-in_err-hear-clause-keeps : goal.returns-in_err-hear-clause-keeps

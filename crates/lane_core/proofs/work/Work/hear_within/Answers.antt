@@ -1,11 +1,11 @@
 use Rattle.std.proofs.Common.{Some, None, ap, rules}
 use Rattle.lane_states.specs.declared.lane_state.LaneState.{LaneState}
 use Rattle.lane_states.specs.LaneStates.{journal_of}
-use Rattle.lane_states.specs.Growing.{heard_next}
+use Rattle.lane_keeping.specs.Tidings.{heard_next}
 use Rattle.lane_core.specs.Works.{count_of}
-use Rattle.stamp_places.specs.Places.{place_of}
-use Rattle.lane_states.proofs.Entries.{past-past, finds-heard}
-use Rattle.lane_states.proofs.Carrying.{carried-heard}
+use Rattle.stamps.specs.Places.{place_of}
+use Rattle.lane_lines.proofs.Entries.{past-past, finds-heard}
+use Rattle.lane_lines.proofs.Carrying.{carried-heard}
 use Rattle.lane_core.proofs.Idling.{lines-heard}
 use Rattle.lane_core.proofs.Working.{lines-of, KeepsLines, work-between}
 use Rattle.lane_journals.specs.KeptJournals.{past}

@@ -1,5 +1,5 @@
 use Rattle.std.proofs.Common.{rules, refl}
-use Rattle.lane_states.proofs.Carrying.{carried-none}
+use Rattle.lane_lines.proofs.Carrying.{carried-none}
 use Rattle.lane_core.proofs.Working.{work-new}
 use Rattle.lane_core.proofs.work.Work.new.Goals as goal
 

@@ -1,16 +1,16 @@
 use Rattle.std.proofs.Common.{rules, ◌≡◌, ◌+◌, ◌∷◌, ◌∙◌, Some, is_some, refl, sym, ap, arith}
 use Rattle.lane_journals.specs.Meanings.{history}
 use Rattle.lane_journals.specs.declared.event.LaneEvent.TheVariants.{Begun}
-use Rattle.lane_operations.specs.OperationKeeping.{AllClosed}
-use Rattle.lane_operations.specs.Laws.{MayBeginNext}
+use Rattle.lane_journals.specs.Facts.{AllClosed}
+use Rattle.operation_keeping.specs.Laws.{MayBeginNext}
 use Rattle.lane_states.specs.declared.lane_state.LaneState.{LaneState}
 use Rattle.lane_states.specs.LaneStates.{journal_of}
-use Rattle.lane_core.specs.LaneValues.{drawn}
+use Rattle.lane_values.specs.LaneValues.{drawn}
 use Rattle.lane_core.specs.Works.{count_of, new_job, one_if, room_for}
-use Rattle.lane_states.proofs.Carrying.{carried-more}
+use Rattle.lane_lines.proofs.Carrying.{carried-more}
 use Rattle.lane_core.proofs.Working.{key-in, next-stamp, drawn-stamped, counts-begun, job-begun, work-noted}
-use Rattle.stamp_places.specs.Places.{place_of}
-use Rattle.lane_states.proofs.Entries.{finds-noted}
+use Rattle.stamps.specs.Places.{place_of}
+use Rattle.lane_lines.proofs.Entries.{finds-noted}
 use Rattle.lane_core.proofs.work.Work.note_begun.Goals as goal
 
 pub note-requires-clause-legal : goal.note-requires-clause-legal

@@ -6,14 +6,14 @@ use Rattle.op_machine.specs.Standings.{IsBegun}
 use Rattle.bucket_db.specs.declared.row.Row.{Row}
 use Rattle.lane_journals.specs.Meanings.{history}
 use Rattle.lane_journals.specs.declared.event.LaneEvent.TheVariants.{Prepared}
-use Rattle.lane_durability.specs.Laws.{ActiveIsComplete}
+use Rattle.lane_journals.specs.ActiveCopies.{ActiveIsComplete}
 use Rattle.lane_core.specs.declared.job.Job.{Job}
 use Rattle.lane_core.specs.declared.job.Phase.TheVariants as phase
 use Rattle.lane_states.specs.declared.lane_state.LaneState.{LaneState}
 use Rattle.lane_states.specs.LaneStates.{journal_of}
 use Rattle.lane_core.specs.Preparations.{IsReadyFor}
-use Rattle.lane_states.proofs.Carrying.{carried-more}
-use Rattle.lane_states.proofs.SameStates.{some-same}
+use Rattle.lane_lines.proofs.Carrying.{carried-more}
+use Rattle.proof_basics.proofs.Options.{some_same as some-same}
 use Rattle.lane_core.proofs.Fitting.{key-there, job-of, fit-row, fit-plan, fit-wanted, fit-work, preparing}
 use Rattle.lane_core.proofs.Working.{value-by}
 use Rattle.lane_core.proofs.work.Work.prepare_in_row.Goals as goal

@@ -1,8 +1,8 @@
 use Rattle.std.proofs.Common.{rules, refl, ap}
 use Rattle.lane_states.specs.declared.lane_state.LaneState.{LaneState}
-use Rattle.lane_states.proofs.Carrying.{carried-more}
-use Rattle.stamp_places.specs.Places.{place_of}
-use Rattle.lane_states.proofs.Entries.{finds-pushed}
+use Rattle.lane_lines.proofs.Carrying.{carried-more}
+use Rattle.stamps.specs.Places.{place_of}
+use Rattle.lane_lines.proofs.Entries.{finds-pushed}
 use Rattle.lane_core.proofs.work.Work.publish.Goals as goal
 
 pub returns-clause-keeps : goal.returns-clause-keeps

@@ -1,7 +1,7 @@
 use Rattle.std.proofs.Common.{rules, ◌≡◌, ◌<◌, Some, length}
 use Rattle.lane_core.specs.declared.job.Job.{Job}
-use Rattle.lane_states.proofs.Results.{if_ok, on_err}
-use Rattle.lane_states.proofs.Owners.{part-there}
+use Rattle.proof_basics.proofs.Results.{if_ok, on_err}
+use Rattle.lane_lines.proofs.ClosedParts.{part-there}
 use Rattle.lane_core.proofs.Searching.{onward-rested, was-job, has-call, for-new, keeps-searched, comes-searched, went-searched, cut-searched}
 use Rattle.lane_core.proofs.work.Work.search.Goals as goal
 
@@ -42,8 +42,8 @@ returns-clause-keeps g c =
     let j : Job = c.in-Some.job in
     let is : x.job ≡ Some j = c.in-Some.is in
     let f = c.find_row in
-    let on = onward-rested x.state f.new.self j.distributor f.ensures.after f.ensures.quiet f.ensures.resting f.ensures.others f.ensures.parts in
-    rw c.spend.ensures (keeps-searched x j c.requires.keeps is c.requires.begun f.new.self f.result f.ensures.goes_on f.ensures.cut on f.ensures.keeps f.ensures.spare f.ensures.entries)
+    let on = onward-rested x.state f.new.lane j.distributor f.ensures.after f.ensures.quiet f.ensures.resting f.ensures.others f.ensures.parts in
+    rw c.spend.ensures (keeps-searched x j c.requires.keeps is c.requires.begun f.new.lane f.result f.ensures.goes_on f.ensures.cut on f.ensures.keeps f.ensures.spare f.ensures.entries)
 
 pub returns-clause-searches : goal.returns-clause-searches
 returns-clause-searches g c =
@@ -51,8 +51,8 @@ returns-clause-searches g c =
     let j : Job = c.in-Some.job in
     let is : x.job ≡ Some j = c.in-Some.is in
     let f = c.find_row in
-    let on = onward-rested x.state f.new.self j.distributor f.ensures.after f.ensures.quiet f.ensures.resting f.ensures.others f.ensures.parts in
-    if_ok f.result (λ end h. λ planned takes. rw c.spend.ensures (went-searched x j c.requires.keeps is c.requires.begun f.new.self f.result f.ensures.goes_on f.ensures.cut on _ _ planned takes h)) f.ensures.goes_on
+    let on = onward-rested x.state f.new.lane j.distributor f.ensures.after f.ensures.quiet f.ensures.resting f.ensures.others f.ensures.parts in
+    if_ok f.result (λ end h. λ planned takes. rw c.spend.ensures (went-searched x j c.requires.keeps is c.requires.begun f.new.lane f.result f.ensures.goes_on f.ensures.cut on _ _ planned takes h)) f.ensures.goes_on
 
 pub returns-clause-comes : goal.returns-clause-comes
 returns-clause-comes g c =
@@ -60,8 +60,8 @@ returns-clause-comes g c =
     let j : Job = c.in-Some.job in
     let is : x.job ≡ Some j = c.in-Some.is in
     let f = c.find_row in
-    let on = onward-rested x.state f.new.self j.distributor f.ensures.after f.ensures.quiet f.ensures.resting f.ensures.others f.ensures.parts in
-    if_ok f.result (λ end h. rw c.spend.ensures (comes-searched x j c.requires.keeps is c.requires.begun f.new.self f.result f.ensures.goes_on f.ensures.cut on end h)) f.ensures.finds
+    let on = onward-rested x.state f.new.lane j.distributor f.ensures.after f.ensures.quiet f.ensures.resting f.ensures.others f.ensures.parts in
+    if_ok f.result (λ end h. rw c.spend.ensures (comes-searched x j c.requires.keeps is c.requires.begun f.new.lane f.result f.ensures.goes_on f.ensures.cut on end h)) f.ensures.finds
 
 pub returns-clause-cut : goal.returns-clause-cut
 returns-clause-cut g c =
@@ -69,5 +69,5 @@ returns-clause-cut g c =
     let j : Job = c.in-Some.job in
     let is : x.job ≡ Some j = c.in-Some.is in
     let f = c.find_row in
-    let on = onward-rested x.state f.new.self j.distributor f.ensures.after f.ensures.quiet f.ensures.resting f.ensures.others f.ensures.parts in
-    on_err f.result (λ h. λ planned takes. rw c.spend.ensures (cut-searched x j c.requires.keeps is c.requires.begun f.new.self f.result f.ensures.goes_on f.ensures.cut on _ _ planned takes h)) f.ensures.cut
+    let on = onward-rested x.state f.new.lane j.distributor f.ensures.after f.ensures.quiet f.ensures.resting f.ensures.others f.ensures.parts in
+    on_err f.result (λ h. λ planned takes. rw c.spend.ensures (cut-searched x j c.requires.keeps is c.requires.begun f.new.lane f.result f.ensures.goes_on f.ensures.cut on _ _ planned takes h)) f.ensures.cut

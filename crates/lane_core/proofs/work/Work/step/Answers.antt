@@ -1,8 +1,8 @@
 use Rattle.std.proofs.Common.{◌≡◌, Some, sym, ap, ◌∙◌, subst}
 use Rattle.lane_core.specs.declared.job.Job.{Job}
 use Rattle.lane_core.specs.declared.job.Phase.TheVariants.{Prepared}
-use Rattle.lane_states.specs.Steps.{GoesIn, RunsIn}
-use Rattle.lane_core.specs.LaneValues.{IsAdvance}
+use Rattle.lane_lines.specs.Steps.{GoesIn, RunsIn}
+use Rattle.lane_core.specs.Advancing.{IsAdvance}
 use Rattle.lane_core.specs.Phases.{ComesTo}
 use Rattle.lane_core.specs.Works.{IsWork, under_way_in, value_of}
 use Rattle.lane_core.proofs.Jobs.{keeps-stepped, advances-stepped}

@@ -1,11 +1,11 @@
 use Rattle.std.proofs.Common.{◌≡◌, true, false, None, ap, rules}
 use Rattle.lane_states.specs.declared.lane_state.LaneState.{LaneState}
 use Rattle.lane_states.specs.LaneStates.{journal_of}
-use Rattle.lane_states.specs.Growing.{stopped_next}
+use Rattle.lane_keeping.specs.Tidings.{stopped_next}
 use Rattle.lane_core.specs.Works.{count_of}
-use Rattle.stamp_places.specs.Places.{place_of}
-use Rattle.lane_states.proofs.Entries.{finds-still}
-use Rattle.lane_states.proofs.Carrying.{carried-like}
+use Rattle.stamps.specs.Places.{place_of}
+use Rattle.lane_lines.proofs.Entries.{finds-still}
+use Rattle.lane_lines.proofs.Carrying.{carried-like}
 use Rattle.lane_core.proofs.Idling.{lines-stopped, carried-stopped, finds-stopped}
 use Rattle.lane_core.proofs.Working.{lines-of, KeepsLines, work-between}
 use Rattle.lane_core.proofs.work.Work.stop.Goals as goal

@@ -3,10 +3,10 @@ use Rattle.bucket_ids.specs.Buckets.{Low}
 use Rattle.ideal_nodes.specs.Placement.{IsOwner}
 use Rattle.lane_journals.specs.KeptJournals.{past}
 use Rattle.lane_journals.specs.declared.event.LaneEvent.{LaneEvent}
-use Rattle.lane_states.specs.Growing.{heard_next}
+use Rattle.lane_keeping.specs.Tidings.{heard_next}
 use Rattle.lane_states.specs.LaneStates.{journal_of}
 use Rattle.lane_core.specs.declared.work.Work.{Work}
-use Rattle.lane_core.specs.LaneValues.{LaneValue}
+use Rattle.lane_values.specs.LaneValues.{LaneValue}
 use Rattle.lane_core.proofs.Upkeeping.{maintains-by, opens-by, rests-by, on-any-ok, on-any-err}
 use Rattle.lane_core.proofs.work.Work.upkeep.Goals as goal
 

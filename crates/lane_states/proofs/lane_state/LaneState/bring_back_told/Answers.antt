@@ -2,9 +2,9 @@ use Rattle.std.proofs.Common.{◌∷◌, ◌∙◌, ap}
 use Rattle.lane_journals.specs.declared.event.LaneEvent.TheVariants.{Returned}
 use Rattle.lane_states.specs.LaneStates.{journal_of}
 use Rattle.lane_states.proofs.Kept.{kept_more}
-use Rattle.lane_states.proofs.RunningSteps.{now-replied}
+use Rattle.lane_states.proofs.Replied.{now-replied}
 use Rattle.lane_states.proofs.Tellings.{row-no-ask, came-back, first-back}
-use Rattle.node_spans.proofs.Going.{go-waits}
+use Rattle.node_journals.proofs.Going.{go-waits}
 use Rattle.lane_states.proofs.lane_state.LaneState.bring_back_told.Goals as goal
 
 pub returns-clause-keeps : goal.returns-clause-keeps

@@ -1,6 +1,6 @@
 use Rattle.std.proofs.Common.{◌≡◌, ◌≤◌, ◌+◌, length, vec_len, vec_capacity}
 use Rattle.lane_states.specs.LaneStates.{journal_of, IsKept, NodesOn}
-use Rattle.lane_states.specs.Growing.{DeliversSome}
+use Rattle.lane_carriage.specs.Carrying.{DeliversSome}
 use Rattle.lane_states.proofs.lane_state.LaneState.deliver_due.Given as goal
 
 -- some of those that are due are given out, and there is room for all that are left

@@ -1,6 +1,6 @@
 use Rattle.std.proofs.Common.{◌≡◌, ◌≤◌, ◌+◌, vec_len, vec_capacity}
 use Rattle.lane_states.specs.LaneStates.{journal_of, IsKept, AreResting}
-use Rattle.lane_states.specs.Growing.{heard_below}
+use Rattle.lane_keeping.specs.Tidings.{heard_below}
 use Rattle.lane_states.proofs.lane_state.LaneState.hear_all.Given as goal
 
 -- the distributors below heard the state, but the deaf ones

@@ -3,7 +3,8 @@ use Rattle.distributor_part.specs.Parts.{Part}
 use Rattle.lane_keeping.specs.LaneKeeping.{part_in}
 use Rattle.lane_journals.specs.Meanings.{history}
 use Rattle.lane_states.specs.LaneStates.{journal_of}
-use Rattle.lane_states.proofs.Places.{older-below, part-at, part-others, heard-part}
+use Rattle.lane_states.proofs.Places.{older-below, part-at, heard-part}
+use Rattle.lane_keeping.proofs.Parts.{part-others}
 use Rattle.lane_states.proofs.Kept.{kept_more}
 use Rattle.lane_states.proofs.Accepting.{accepted-at, accepted-fresh}
 use Rattle.lane_states.proofs.lane_state.LaneState.hear_newest.Goals as goal

@@ -1,6 +1,6 @@
 use Rattle.std.proofs.Common.{◌∙◌, ap}
 use Rattle.lane_states.specs.LaneStates.{journal_of, part_of}
-use Rattle.lane_states.specs.Growing.{version_held}
+use Rattle.lane_keeping.specs.Tidings.{version_held}
 use Rattle.lane_states.proofs.Places.{version-held}
 use Rattle.lane_states.proofs.lane_state.LaneState.held.Goals as goal
 

@@ -2,7 +2,7 @@ use Rattle.std.proofs.Common.{rules, ◌≡◌, ◌∙◌, ◌<◌, ap, length, 
 use Rattle.distributor_part.specs.Parts.{Part}
 use Rattle.lane_keeping.specs.LaneKeeping.{PartKeeps, part_in}
 use Rattle.lane_states.specs.LaneStates.{journal_of}
-use Rattle.lane_states.specs.Growing.{is_older, version_held}
+use Rattle.lane_keeping.specs.Tidings.{is_older, version_held}
 use Rattle.lane_states.proofs.Places.{holds-older, part-at}
 use Rattle.lane_states.proofs.lane_state.LaneState.holds_older.Goals as goal
 

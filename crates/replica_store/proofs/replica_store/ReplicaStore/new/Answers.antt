@@ -1,7 +1,7 @@
 use Rattle.std.proofs.Common.{◌∙◌, sym, ap}
 use Rattle.std.specs.FinMap as fin
 use Rattle.std.specs.FinMap.{get-empty}
-use Rattle.entry_joins.specs.EntryCodes.{id_cmp}
+use Rattle.documents.specs.EntryCodes.{id_cmp}
 use Rattle.replica_store.proofs.HeldEntries.{none_is}
 use Rattle.replica_store.proofs.replica_store.ReplicaStore.new.Goals as goal
 

@@ -1,5 +1,5 @@
 use Rattle.std.proofs.Common.{rules, ◌≡◌, ◌∙◌, sym, ap, subst, true}
-use Rattle.laid_pieces.specs.Pieces.{holds}
+use Rattle.pieces.specs.Pieces.{holds}
 use Rattle.global_ids.specs.Keys.{key_of}
 use Rattle.replica_store.specs.Replicas.{AreHeld}
 use Rattle.replica_store.proofs.HeldEntries.{AreHeld-store, AreHeld-more}

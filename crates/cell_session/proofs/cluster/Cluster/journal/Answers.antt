@@ -1,7 +1,0 @@
-use Rattle.std.proofs.Common.{◌∙◌, ap}
-use Rattle.cell_session.specs.Cells.{Cell}
-use Rattle.cell_session.proofs.LaneLists.{no_journal}
-use Rattle.cell_session.proofs.cluster.Cluster.journal.Goals as goal
-
-pub returns-in-None : goal.returns-in-None
-returns-in-None g c = no_journal _ _ _ _ (c.deref.ensures.value ∙ ap (λ (x : Cell). x.lanes) c.self.view_is) c.from.ensures c.in-None.ensures.lookup.3

@@ -1,8 +1,0 @@
-use Rattle.std.proofs.Common.{map, take}
-use Rattle.cell_session.specs.Sizes.{HasSize}
-use Rattle.cell_session.proofs.LaneLists.{journal_is}
-use Rattle.cell_session.proofs.cluster.Cluster.store_size.Given as goal
-
--- the entries of the lanes so far
-abbrev pub invariant-loop-lane : goal.invariant-loop-lane
-invariant-loop-lane g l = HasSize l.node (map journal_is (take l.lane-index l.lane-items)) l.size

@@ -1,9 +1,0 @@
-use Rattle.std.proofs.Common.{◌≡◌, ◌++◌, map}
-use Rattle.serde_json.specs.View.{members_view}
-use Rattle.doc_types.specs.Schemas.{types_of}
-use Rattle.doc_types.specs.SchemaMaps.{type_pair}
-use Rattle.doc_types.proofs.schema.types_of.Given as goal
-
--- the types so far and those that are left are all
-abbrev pub invariant-loop-name : goal.invariant-loop-name
-invariant-loop-name l = map type_pair l.list.items ++ types_of (members_view l.name-iterator) ≡ types_of (members_view l.members.entries)

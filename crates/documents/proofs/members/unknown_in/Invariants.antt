@@ -1,9 +1,0 @@
-use Rattle.std.proofs.Common.{◌≡◌}
-use Rattle.serde_json.specs.View.{members_view}
-use Rattle.documents.specs.Faults.{first_name, is_unknown}
-use Rattle.documents.specs.Json.{kinds_of}
-use Rattle.documents.proofs.members.unknown_in.Given as goal
-
--- what is left says what the whole says
-abbrev pub invariant-loop-name : goal.invariant-loop-name
-invariant-loop-name l = first_name (is_unknown (kinds_of l.schema l.type_name)) (members_view l.name-iterator) ≡ first_name (is_unknown (kinds_of l.schema l.type_name)) (members_view l.members.entries)

@@ -1,5 +1,0 @@
-use Rattle.entry_joins.proofs.JoinLaws.{get-joined, joined-alone}
-use Rattle.entry_joins.proofs.joins.joins_are_by_document.Goals as goal
-
-pub returns : goal.returns
-returns c = record { entry = get-joined; alone = joined-alone }

@@ -1,0 +1,5 @@
+mod SchemaLaws
+mod JsonLaws
+mod BackLaws
+mod Items
+mod SoFar

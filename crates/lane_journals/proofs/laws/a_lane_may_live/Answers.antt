@@ -1,6 +1,0 @@
-use Rattle.lane_journals.proofs.InLane.{even-in}
-use Rattle.lane_journals.proofs.LifeTwo.{live_b39, acked_one, acked_two, newest_kept, emptied}
-use Rattle.lane_journals.proofs.laws.a_lane_may_live.Goals as goal
-
-pub returns : goal.returns
-returns c = record { legal = live_b39; acked_one = acked_one; acked_two = acked_two; kept = newest_kept; emptied = emptied; documents = even-in }

@@ -1,0 +1,262 @@
+-- How a journal grows by an operation that is prepared.
+use Rattle.std.proofs.Common.{◌≡◌, ◌+◌, ℕ, Bool, true, false, List, ◌∷◌, Option, Some, None, is_some, inl, inr, refl, sym, ap, ◌∙◌, subst}
+use Rattle.bucket_ids.specs.Buckets.{Low}
+use Rattle.carriers.specs.declared.fate.Fate.{Fate}
+use Rattle.carriers.specs.declared.fate.Fate.TheVariants as fate
+use Rattle.documents.specs.declared.entry.Entry.{Entry}
+use Rattle.messages.specs.declared.body.Body.{Body}
+use Rattle.messages.specs.declared.body.Body.TheVariants as body
+use Rattle.messages.specs.declared.message.Message.{Message}
+use Rattle.messages.specs.declared.noted.NotedReply.{NotedReply}
+use Rattle.messages.specs.declared.operation.Operation.{Operation}
+use Rattle.distributor_part.specs.declared.rules.Rules.{Rules}
+use Rattle.op_machine.specs.declared.plan.Plan.{Plan}
+use Rattle.op_machine.specs.declared.machine.Standing.{Standing}
+use Rattle.op_machine.specs.Outcomes.{answers_of, Next, Asks, Finishes, message_in}
+use Rattle.op_machine.specs.Standings.{next_at, due_entry, IsTo}
+use Rattle.lane_journals.specs.KeptJournals.{IsLegal}
+use Rattle.lane_journals.specs.declared.event.LaneEvent.{LaneEvent}
+use Rattle.lane_journals.specs.declared.event.LaneEvent.TheVariants as event
+use Rattle.lane_carriage.specs.Carriage.{IsDealt, AreDelivered}
+use Rattle.node_journals.specs.Replaying.{sending}
+use Rattle.lane_keeping.specs.LaneKeeping.{setting_of}
+use Rattle.lane_keeping.specs.Laws.{IsNoAsk}
+use Rattle.operation_keeping.specs.OperationKeeping.{HasWritten, KnowsEntry}
+use Rattle.operation_keeping.specs.Laws.{MayWriteNext}
+use Rattle.operation_keeping.proofs.Judged.{NextMessage, ARead, AStore, next-message, store-due}
+use Rattle.line_wants.specs.Wants.{Adds, BodyGives, NextGives, IsWanted, IsRun, Same, More}
+use Rattle.lane_states.specs.declared.lane_state.LaneState.{LaneState}
+use Rattle.lane_states.specs.LaneStates.{journal_of}
+use Rattle.lane_carriage.proofs.GivenOut.{over-all}
+use Rattle.lane_lines.proofs.Standing.{standing-delivered, awaiting-delivered, standing-late, standing-wrote}
+use Rattle.lane_lines.specs.Steps.{sender_of, IsGoing, IsStanding, IsAwaiting, StandsIn, AwaitsIn, RunsIn, GoesIn, WritesOn, HearsIn, SendsIn, SentIn, IsReady, IsUneventful}
+
+-- ---- the next message
+
+pub next-no-ask : (t : Standing) (m : Message) → next_at t ≡ Asks m → IsNoAsk m.body
+next-no-ask t m h = by_next (next-message t m h)
+  where
+    by_next : NextMessage t m → IsNoAsk m.body
+    by_next (ARead n r is) = subst (λ (z : Body). IsNoAsk z) (sym (ap (λ (x : Message). x.body) is)) tt
+    by_next (AStore n e over v first is) = subst (λ (z : Body). IsNoAsk z) (sym (ap (λ (x : Message). x.body) is)) tt
+
+pub next-asked : (t : Standing) (m : Message) → next_at t ≡ Asks m → IsTo m.receiver (next_at t)
+next-asked t m h = subst (λ (n : Next). IsTo m.receiver n) (sym h) refl
+
+-- the entry of a Store that comes next is the one that was written
+pub has-written : (lane : Low) (rules : Rules) (J : List LaneEvent) (line : ℕ) (row : Low) (written : Bool) (t : Standing) (m : Message) (x : IsStanding lane rules J line row written t) → next_at t ≡ Asks m → IsReady written m.body → HasWritten x.entry m.body
+has-written lane rules J line row written t m x next ready = by_body m.body refl ready
+  where
+    by_entry : (o : Option Entry) (e : Entry) → KnowsEntry J line t o → is_some o ≡ true → due_entry t.plan (answers_of t.reads) ≡ Some e → o ≡ Some e
+    by_entry None e k h due = let none : false ≡ true = h in absurd (cc)
+    by_entry (Some y) e k h due = sym k.1 ∙ due
+
+    by_body : (z : Body) → m.body ≡ z → IsReady written z → HasWritten x.entry z
+    by_body (body.Store e) is ready = by_entry x.entry e ((x.stands).knows).entry (sym x.written_is ∙ ready) (store-due t m e next is)
+    by_body body.Ask is ready = tt
+    by_body (body.Read b o) is ready = tt
+    by_body (body.Apply b es) is ready = tt
+    by_body (body.Delete b k) is ready = tt
+    by_body (body.Split b) is ready = tt
+    by_body (body.Join b) is ready = tt
+    by_body (body.Ready b) is ready = tt
+    by_body (body.Activate b) is ready = tt
+
+pub unwritten : (lane : Low) (rules : Rules) (J : List LaneEvent) (line : ℕ) (row : Low) (written : Bool) (t : Standing) (x : IsStanding lane rules J line row written t) → written ≡ false → x.entry ≡ None
+unwritten lane rules J line row written t x is = by_entry x.entry (sym is ∙ x.written_is)
+  where
+    by_entry : (o : Option Entry) → false ≡ is_some o → o ≡ None
+    by_entry None h = refl
+    by_entry (Some e) h = let none : false ≡ true = h in absurd (cc)
+
+pub asks-of : (n : Next) (m : Message) → Some m ≡ message_in n → n ≡ Asks m
+asks-of (Asks x) m h = let same : m ≡ x = cc in ap Asks (sym same)
+asks-of (Finishes x) m h = let none : Some m ≡ None = h in absurd (cc)
+
+-- ---- what is wanted
+
+module _ (lane : Low) (rules : Rules) (J : List LaneEvent) (line : ℕ) (row : Low) (written : Bool) (t : Standing) (m : Message) (x : IsStanding lane rules J line row written t) (next : next_at t ≡ Asks m) where
+  wants : (e : LaneEvent) → BodyGives line x.entry m m.body e → IsWanted lane rules line t.plan.operation e J
+  wants e gives = inr (record {
+    distributor = sender_of t;
+    state = x.state;
+    stamp = t.plan.stamp;
+    acting = x.acting;
+    under_way = (((x.stands).knows).plan).is_under_way;
+    wants = inr (record {
+      row = row;
+      written = x.entry;
+      standing = t;
+      stands = x.stands;
+      gives = subst (λ (n : Next). NextGives line x.entry n (Adds e)) (sym next) gives;
+    });
+  })
+
+  pub wants-sent : (number : ℕ) → HasWritten x.entry m.body → IsWanted lane rules line t.plan.operation (sending number m) J
+  wants-sent number has = wants (sending number m) (gives x.entry m.body has)
+    where
+      gives : (o : Option Entry) (z : Body) → HasWritten o z → BodyGives line o m z (sending number m)
+      gives None (body.Store e) h = let none : None ≡ Some e = h in absurd (cc)
+      gives None body.Ask h = (number, refl)
+      gives None (body.Read b only) h = (number, refl)
+      gives None (body.Apply b es) h = (number, refl)
+      gives None (body.Delete b k) h = (number, refl)
+      gives None (body.Split b) h = (number, refl)
+      gives None (body.Join b) h = (number, refl)
+      gives None (body.Ready b) h = (number, refl)
+      gives None (body.Activate b) h = (number, refl)
+      gives (Some e) z h = (number, refl)
+
+  pub wants-wrote : (e : Entry) → x.entry ≡ None → m.body ≡ body.Store e → IsWanted lane rules line t.plan.operation (event.Wrote line e) J
+  wants-wrote e none is = wants (event.Wrote line e) (subst (λ (o : Option Entry). BodyGives line o m m.body (event.Wrote line e)) (sym none)
+      (subst (λ (z : Body). BodyGives line None m z (event.Wrote line e)) (sym is) refl))
+
+-- ---- runs
+
+module _ (lane : Low) (rules : Rules) (line : ℕ) (o : Operation) where
+  pub run-delivered : (ns : List ℕ) (I J K : List LaneEvent) → AreDelivered ns J K → IsRun lane rules line o I J → IsRun lane rules line o I K
+  run-delivered ns I J K h run = over-all (λ (X : List LaneEvent). IsRun lane rules line o I X) (λ n r X x. More (event.Delivered n r) X x (inl tt)) ns J K h run
+
+  pub run-dealt : (f : Fate) (n : ℕ) (I J K : List LaneEvent) → IsDealt f n J K → IsRun lane rules line o I J → IsRun lane rules line o I K
+  run-dealt fate.Deliver n I J K h run = subst (λ (X : List LaneEvent). IsRun lane rules line o I X) (sym h.1) (More (event.Returned n) _ (More (event.Delivered n h.0) J run (inl tt)) (inl tt))
+  run-dealt fate.LoseRequest n I J K h run = subst (λ (X : List LaneEvent). IsRun lane rules line o I X) (sym h) run
+  run-dealt fate.LoseReply n I J K h run = subst (λ (X : List LaneEvent). IsRun lane rules line o I X) (sym h.1) (More (event.Delivered n h.0) J run (inl tt))
+  run-dealt fate.Twice n I J K h run = subst (λ (X : List LaneEvent). IsRun lane rules line o I X) (sym h.2) (More (event.Delivered n h.1) _ (More (event.Returned n) _ (More (event.Delivered n h.0) J run (inl tt)) (inl tt)) (inl tt))
+  run-dealt (fate.Late k) n I J K h run = subst (λ (X : List LaneEvent). IsRun lane rules line o I X) (sym h) run
+
+-- ---- it stays under way
+
+going-by : (lane : Low) (J K : List LaneEvent) (line : ℕ) (p : Plan) → K ≡ J → IsGoing lane J line p → IsGoing lane K line p
+going-by lane J K line p e g = subst (λ (X : List LaneEvent). IsGoing lane X line p) (sym e) g
+
+module _ (lane : Low) (line : ℕ) (p : Plan) where
+  going-delivered : (J : List LaneEvent) (n : ℕ) (r : NotedReply) → IsGoing lane J line p → IsGoing lane (event.Delivered n r ∷ J) line p
+  going-delivered J n r g = record { state = g.state; acting = record { holds = (g.acting).holds; published = (g.acting).published; owner = (g.acting).owner }; under_way = g.under_way }
+
+  going-returned : (J : List LaneEvent) (n : ℕ) → IsGoing lane J line p → IsGoing lane (event.Returned n ∷ J) line p
+  going-returned J n g = record { state = g.state; acting = record { holds = (g.acting).holds; published = (g.acting).published; owner = (g.acting).owner }; under_way = g.under_way }
+
+  pub going-sent : (J : List LaneEvent) (n : ℕ) (m : Message) → IsGoing lane J line p → IsGoing lane (sending n m ∷ J) line p
+  going-sent J n m g = record { state = g.state; acting = record { holds = (g.acting).holds; published = (g.acting).published; owner = (g.acting).owner }; under_way = g.under_way }
+
+  pub going-wrote : (J : List LaneEvent) (e : Entry) → IsGoing lane J line p → IsGoing lane (event.Wrote line e ∷ J) line p
+  going-wrote J e g = record { state = g.state; acting = record { holds = (g.acting).holds; published = (g.acting).published; owner = (g.acting).owner }; under_way = g.under_way }
+
+  pub going-late : (ns : List ℕ) (J K : List LaneEvent) → AreDelivered ns J K → IsGoing lane J line p → IsGoing lane K line p
+  going-late ns J K h g = over-all (λ (X : List LaneEvent). IsGoing lane X line p) (λ n r X x. going-delivered X n r x) ns J K h g
+
+  pub going-dealt : (f : Fate) (n : ℕ) (J K : List LaneEvent) → IsDealt f n J K → IsGoing lane J line p → IsGoing lane K line p
+  going-dealt fate.Deliver n J K h g = going-by lane _ K line p h.1 (going-returned _ n (going-delivered J n h.0 g))
+  going-dealt fate.LoseRequest n J K h g = going-by lane J K line p h g
+  going-dealt fate.LoseReply n J K h g = going-by lane _ K line p h.1 (going-delivered J n h.0 g)
+  going-dealt fate.Twice n J K h g = going-by lane _ K line p h.2 (going-delivered _ n h.1 (going-returned _ n (going-delivered J n h.0 g)))
+  going-dealt (fate.Late k) n J K h g = going-by lane J K line p h g
+
+pub going-of : (lane : Low) (rules : Rules) (J : List LaneEvent) (line : ℕ) (row : Low) (written : Bool) (t : Standing) → IsStanding lane rules J line row written t → IsGoing lane J line t.plan
+going-of lane rules J line row written t x = record { state = x.state; acting = x.acting; under_way = (((x.stands).knows).plan).is_under_way }
+
+pub run-more : (lane : Low) (rules : Rules) (line : ℕ) (o : Operation) (I J K : List LaneEvent) → IsRun lane rules line o I J → IsRun lane rules line o J K → IsRun lane rules line o I K
+run-more lane rules line o I J K run Same = run
+run-more lane rules line o I J K run (More e L r w) = More e L (run-more lane rules line o I J L run r) w
+
+-- ---- in a lane
+
+pub stands-to : (c e : LaneState) (K : List LaneEvent) (line : ℕ) (row : Low) (written : Bool) (t : Standing) → e.lane ≡ c.lane → e.rules ≡ c.rules → journal_of e ≡ K → IsStanding c.lane c.rules K line row written t → StandsIn e line row written t
+stands-to c e K line row written t lane rules is h =
+    subst (λ (b : Low). IsStanding b e.rules (journal_of e) line row written t) (sym lane) (subst (λ (r : Rules). IsStanding c.lane r (journal_of e) line row written t) (sym rules)
+    (subst (λ (J : List LaneEvent). IsStanding c.lane c.rules J line row written t) (sym is) h))
+
+pub awaits-to : (c e : LaneState) (K : List LaneEvent) (line : ℕ) (row : Low) (written : Bool) (t : Standing) (number : ℕ) (m : Message) → e.lane ≡ c.lane → e.rules ≡ c.rules → journal_of e ≡ K → IsAwaiting c.lane c.rules K line row written t number m → AwaitsIn e line row written t number m
+awaits-to c e K line row written t number m lane rules is h =
+    subst (λ (b : Low). IsAwaiting b e.rules (journal_of e) line row written t number m) (sym lane) (subst (λ (r : Rules). IsAwaiting c.lane r (journal_of e) line row written t number m) (sym rules)
+    (subst (λ (J : List LaneEvent). IsAwaiting c.lane c.rules J line row written t number m) (sym is) h))
+
+pub hears-by : (c e : LaneState) (K : List LaneEvent) (number : ℕ) (m : Message) (t x : Standing) → e.lane ≡ c.lane → e.rules ≡ c.rules → journal_of e ≡ K
+    → ((line : ℕ) (row : Low) (written : Bool) → AwaitsIn c line row written t number m → IsStanding c.lane c.rules K line row written x) → HearsIn c e number m t x
+hears-by c e K number m t x lane rules is h = λ line row written w. stands-to c e K line row written x lane rules is (h line row written w)
+
+-- it was delivered, and none came
+pub hears-lost : (c b : LaneState) (number : ℕ) (m : Message) (r : NotedReply) (t x : Standing) → b.lane ≡ c.lane → b.rules ≡ c.rules → journal_of b ≡ event.Delivered number r ∷ journal_of c → IsLegal (setting_of c.lane c.rules) (journal_of c)
+    → HearsIn b b number m t x → HearsIn c b number m t x
+hears-lost c b number m r t x lane rules is legal h = λ line row written w.
+    h line row written (awaits-to c b (event.Delivered number r ∷ journal_of c) line row written t number m lane rules is (awaiting-delivered c.lane c.rules (journal_of c) line row written t number r legal number m w))
+
+-- it was heard, and delivered again
+pub hears-again : (c b e : LaneState) (number : ℕ) (m : Message) (r : NotedReply) (t x : Standing) → e.lane ≡ b.lane → e.rules ≡ b.rules → journal_of e ≡ event.Delivered number r ∷ journal_of b → IsLegal (setting_of b.lane b.rules) (journal_of b)
+    → HearsIn c b number m t x → HearsIn c e number m t x
+hears-again c b e number m r t x lane rules is legal h = λ line row written w.
+    stands-to b e (event.Delivered number r ∷ journal_of b) line row written x lane rules is (standing-delivered b.lane b.rules (journal_of b) line row written x number r legal (h line row written w))
+
+-- a message is sent and dealt with, and late ones are delivered
+pub sent-on : (c b d e : LaneState) (m : Message) (t x : Standing) → b.lane ≡ c.lane → b.rules ≡ c.rules → d.lane ≡ b.lane → d.rules ≡ b.rules → e.lane ≡ d.lane → e.rules ≡ d.rules → b.last ≡ c.last + 1 → journal_of b ≡ sending (c.last + 1) m ∷ journal_of c
+    → ((line : ℕ) (row : Low) (written : Bool) → IsReady written m.body → StandsIn c line row written t → IsAwaiting c.lane c.rules (sending (c.last + 1) m ∷ journal_of c) line row written t (c.last + 1) m)
+    → HearsIn b d b.last m t x → (ns : List ℕ) → AreDelivered ns (journal_of d) (journal_of e) → IsLegal (setting_of e.lane e.rules) (journal_of e) → SentIn c e m t x
+sent-on c b d e m t x bl br dl dr el er last is asks h ns late legal = λ line row written ready st.
+    let at : AwaitsIn b line row written t (c.last + 1) m = awaits-to c b (sending (c.last + 1) m ∷ journal_of c) line row written t (c.last + 1) m bl br is (asks line row written ready st) in
+    let told : StandsIn d line row written x = h line row written (subst (λ (i : ℕ). AwaitsIn b line row written t i m) (sym last) at) in
+    let lawful : IsLegal (setting_of d.lane d.rules) (journal_of e) = subst (λ (l : Low). IsLegal (setting_of l d.rules) (journal_of e)) el (subst (λ (r : Rules). IsLegal (setting_of e.lane r) (journal_of e)) er legal) in
+    stands-to d e (journal_of e) line row written x el er refl (standing-late d.lane d.rules ns (journal_of d) (journal_of e) line row written x late lawful told)
+
+pub run-same : (c e : LaneState) (line : ℕ) (t : Standing) → journal_of e ≡ journal_of c → RunsIn c e line t
+run-same c e line t is = subst (λ (J : List LaneEvent). IsRun c.lane c.rules line t.plan.operation (journal_of c) J) (sym is) Same
+
+pub run-on : (c b e : LaneState) (line : ℕ) (t : Standing) → b.lane ≡ c.lane → b.rules ≡ c.rules → RunsIn c b line t → RunsIn b e line t → RunsIn c e line t
+run-on c b e line t lane rules first next = run-more c.lane c.rules line t.plan.operation (journal_of c) (journal_of b) (journal_of e) first
+    (subst (λ (l : Low). IsRun l c.rules line t.plan.operation (journal_of b) (journal_of e)) lane (subst (λ (r : Rules). IsRun b.lane r line t.plan.operation (journal_of b) (journal_of e)) rules next))
+
+pub goes-to : (c e : LaneState) (line : ℕ) (p : Plan) → e.lane ≡ c.lane → journal_of e ≡ journal_of c → GoesIn c line p → GoesIn e line p
+goes-to c e line p lane is g = subst (λ (l : Low). IsGoing l (journal_of e) line p) (sym lane) (subst (λ (J : List LaneEvent). IsGoing c.lane J line p) (sym is) g)
+
+-- the entry is written
+pub writes-on : (c e : LaneState) (line : ℕ) (row : Low) (written : Bool) (t : Standing) (m : Message) (x : Entry) → e.lane ≡ c.lane → e.rules ≡ c.rules → journal_of e ≡ event.Wrote line x ∷ journal_of c
+    → written ≡ false → m.body ≡ body.Store x → next_at t ≡ Asks m → (st : StandsIn c line row written t) → MayWriteNext c.lane c.rules (journal_of c) (sender_of t) st.state line row t x → StandsIn e line row true t × RunsIn c e line t
+writes-on c e line row written t m x lane rules is not_yet body next st may = (
+  stands-to c e (event.Wrote line x ∷ journal_of c) line row true t lane rules is (standing-wrote c.lane c.rules (journal_of c) line row written t st x may),
+  subst (λ (J : List LaneEvent). IsRun c.lane c.rules line t.plan.operation (journal_of c) J) (sym is)
+      (More (event.Wrote line x) (journal_of c) Same (wants-wrote c.lane c.rules (journal_of c) line row written t m st next x (unwritten c.lane c.rules (journal_of c) line row written t st not_yet) body)),
+)
+
+-- the entry is written, and room is made
+pub wrote-in : (c b a : LaneState) (line : ℕ) (written now : Bool) (m : Message) (t : Standing) → b.lane ≡ c.lane → b.rules ≡ c.rules → a.lane ≡ b.lane → a.rules ≡ b.rules → journal_of a ≡ journal_of b → WritesOn c b line written now m → next_at t ≡ Asks m
+    → (row : Low) → StandsIn c line row written t → RunsIn c a line t × StandsIn a line row now t
+wrote-in c b a line written now m t bl br al ar is writes next row st =
+    let w = writes row t next st in
+    (run-on c b a line t bl br w.1 (run-same b a line t is), stands-to b a (journal_of b) line row now t al ar is w.0)
+
+-- and the message is sent
+pub sent-in : (c a e : LaneState) (line : ℕ) (now : Bool) (m : Message) (t : Standing) (row : Low) → a.lane ≡ c.lane → a.rules ≡ c.rules → SendsIn a e m t → IsReady now m.body → RunsIn c a line t × StandsIn a line row now t → RunsIn c e line t × GoesIn e line t.plan
+sent-in c a e line now m t row lane rules sends ready w = let s = sends line row now ready w.1 in (run-on c a e line t lane rules w.0 s.0, s.1)
+
+-- ---- nothing else happens
+
+quiet-by : (J K L : List LaneEvent) → L ≡ K → IsUneventful J K → IsUneventful J L
+quiet-by J K L e q = subst (λ (X : List LaneEvent). IsUneventful J X) (sym e) q
+
+pub quiet-on : (J K L : List LaneEvent) → IsUneventful J K → IsUneventful K L → IsUneventful J L
+quiet-on J K L p q = record { newest = q.newest ∙ p.newest; counted = λ v. q.counted v ∙ p.counted v; rounds = λ v b. q.rounds v b ∙ p.rounds v b }
+
+pub quiet-same : (J K : List LaneEvent) → K ≡ J → IsUneventful J K
+quiet-same J K e = subst (λ (X : List LaneEvent). IsUneventful J X) (sym e) (record { newest = refl; counted = λ v. refl; rounds = λ v b. refl })
+
+module _ (J : List LaneEvent) where
+  quiet-delivered : (K : List LaneEvent) (n : ℕ) (r : NotedReply) → IsUneventful J K → IsUneventful J (event.Delivered n r ∷ K)
+  quiet-delivered K n r q = record { newest = q.newest; counted = q.counted; rounds = q.rounds }
+
+  quiet-returned : (K : List LaneEvent) (n : ℕ) → IsUneventful J K → IsUneventful J (event.Returned n ∷ K)
+  quiet-returned K n q = record { newest = q.newest; counted = q.counted; rounds = q.rounds }
+
+  pub quiet-sent : (n : ℕ) (m : Message) → IsUneventful J (sending n m ∷ J)
+  quiet-sent n m = record { newest = refl; counted = λ v. refl; rounds = λ v b. refl }
+
+  pub quiet-wrote : (line : ℕ) (e : Entry) → IsUneventful J (event.Wrote line e ∷ J)
+  quiet-wrote line e = record { newest = refl; counted = λ v. refl; rounds = λ v b. refl }
+
+  pub quiet-late : (ns : List ℕ) (K L : List LaneEvent) → AreDelivered ns K L → IsUneventful J K → IsUneventful J L
+  quiet-late ns K L h q = over-all (λ (X : List LaneEvent). IsUneventful J X) (λ n r X x. quiet-delivered X n r x) ns K L h q
+
+  pub quiet-dealt : (f : Fate) (n : ℕ) (K L : List LaneEvent) → IsDealt f n K L → IsUneventful J K → IsUneventful J L
+  quiet-dealt fate.Deliver n K L h q = quiet-by J _ L h.1 (quiet-returned _ n (quiet-delivered K n h.0 q))
+  quiet-dealt fate.LoseRequest n K L h q = quiet-by J K L h q
+  quiet-dealt fate.LoseReply n K L h q = quiet-by J _ L h.1 (quiet-delivered K n h.0 q)
+  quiet-dealt fate.Twice n K L h q = quiet-by J _ L h.2 (quiet-delivered _ n h.1 (quiet-returned _ n (quiet-delivered K n h.0 q)))
+  quiet-dealt (fate.Late k) n K L h q = quiet-by J K L h q

@@ -1,5 +1,0 @@
-use Rattle.lane_rest.proofs.Beginning.{rests-from}
-use Rattle.lane_rest.proofs.laws.a_pass_brings_rest.Goals as goal
-
-pub returns : goal.returns
-returns c = λ s before resent after sound begun r p. rests-from s sound before resent after begun r p

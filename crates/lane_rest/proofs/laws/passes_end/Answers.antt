@@ -1,8 +1,0 @@
-use Rattle.lane_rest.proofs.Existing.{passes-exist, one-node, one-node-sound}
-use Rattle.lane_rest.proofs.laws.passes_end.Goals as goal
-
-pub returns-clause-pass : goal.returns-clause-pass
-returns-clause-pass c = λ s U before sound sane. passes-exist s sound U before sane
-
-pub returns-clause-settings : goal.returns-clause-settings
-returns-clause-settings c = (one-node, one-node-sound)

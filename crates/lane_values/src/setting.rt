@@ -1,0 +1,13 @@
+use cluster_states::ClusterState;
+use distributor_part::Rules;
+
+/// What a session is set to.
+#[derive(Clone, Copy, PartialEq, Eq)]
+pub struct Setting {
+    /// How many low bits of a key tell the lanes apart, 1 to 6.
+    pub bits: u8,
+    /// What every lane is set up with.
+    pub rules: Rules,
+    /// The cluster state that is published first.
+    pub initial: ClusterState,
+}

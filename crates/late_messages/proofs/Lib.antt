@@ -1,2 +1,0 @@
-pub mod Eaches
-pub mod Falling

@@ -1,0 +1,6 @@
+-- Shared: other crates cite these.
+pub mod Sizes
+pub mod Receivers
+-- Of this crate alone.
+mod Falling
+mod Ideal

@@ -1,7 +1,0 @@
-use Rattle.std.proofs.Common.{sym, subst}
-use Rattle.replica_store.specs.Replicas.{LieIn}
-use Rattle.node_tables.proofs.Inside.{lie_in}
-use Rattle.node_tables.proofs.reading.read_entries.Goals as goal
-
-pub returns : goal.returns
-returns c = subst (LieIn c.args.bucket) (sym c.in_ok-within.ensures) (lie_in c.args.bucket _)

@@ -1,0 +1,16 @@
+-- Shared: other crates cite these.
+pub mod Lines
+pub mod Counting
+pub mod Judged
+pub mod Messages
+pub mod Ending
+pub mod Preparing
+pub mod Opening
+pub mod Waiting
+-- Of this crate alone.
+mod Plain
+mod Sending
+mod Hearing
+mod Told
+mod Agreeing
+mod Left

@@ -1,0 +1,5 @@
+-- `OperationKeeping` says what is known of the operation that is under way, `Laws` what the laws say, `Left` how many
+-- messages are left.
+pub mod OperationKeeping
+pub mod Laws
+pub mod Left

@@ -1,0 +1,6 @@
+-- Shared: other crates cite these.
+pub mod Tests
+pub mod Numbers
+pub mod Options
+pub mod Results
+pub mod Lists

@@ -1,5 +1,0 @@
-use Rattle.quiet_passes.proofs.Splitting.{go-parts}
-use Rattle.quiet_passes.proofs.laws.spans_of_nodes_part.Goals as goal
-
-pub returns : goal.returns
-returns c = λ J K L old now X Y first second h. go-parts c.upkeep_goes_on.ensures.behind J K L old now X Y first second h

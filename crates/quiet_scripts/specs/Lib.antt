@@ -1,2 +1,0 @@
--- What a caller needs: `Scripts`.
-pub mod Scripts

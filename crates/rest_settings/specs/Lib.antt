@@ -1,2 +1,0 @@
--- What a caller needs: `Found`.
-pub mod Found

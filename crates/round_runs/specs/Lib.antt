@@ -1,0 +1,3 @@
+-- `RoundRuns` says what calls make of a round, `Carrying` what becomes of a message by its fate.
+pub mod RoundRuns
+pub mod RoundShortages

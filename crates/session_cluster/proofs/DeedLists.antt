@@ -1,0 +1,178 @@
+-- The states, the deeds and the plans of a session's lines, line by line.
+use Rattle.std.proofs.Common.{◌≡◌, ◌≢◌, ◌==◌, ◌<◌, ◌≤◌, ◌+◌, ℕ, zero, suc, Bool, true, false, List, [], ◌∷◌, ◌++◌, Option, None, Some, refl, sym, ap, ap₂, ◌∙◌, arith, length, if◌then◌else◌}
+use Rattle.std.proofs.lemmas.Bool.Decides.{nat_tests}
+use Rattle.carriers.specs.Fates.{planned_with}
+use Rattle.carriers.specs.declared.fate.Fate.{Fate}
+use Rattle.cluster_states.specs.Publishing.{Told, publish_fault}
+use Rattle.cluster_states.specs.declared.cluster_state.ClusterState.{ClusterState}
+use Rattle.cluster_states.specs.declared.states.PublishFault.{PublishFault}
+use Rattle.messages.specs.declared.operation.Operation.{Operation}
+use Rattle.lane_keeping.specs.Tidings.{stopped_next, started_next}
+use Rattle.lane_journals.specs.declared.event.LaneEvent.TheVariants.{Published}
+use Rattle.lane_values.specs.declared.setting.Setting.{Setting}
+use Rattle.lane_lives.specs.Lives.{Deed, Runs, lines_of, last_line, states_in, deed_events}
+use Rattle.session_cluster.specs.Deeds.{first_told, told_with, told_next, told_by, told_of, with_operation, with_state, with_line, with_lines, deeds_of_lane, planned_next, planned_for}
+use Rattle.session_cluster.specs.Lanes.{lane_of_id}
+use Rattle.session_cluster.specs.declared.asked.Asked.{Asked}
+use Rattle.session_cluster.specs.declared.asked.Asked.TheVariants as command
+
+-- ---- one line more
+
+pub told_push : (told : Told) (cs : List Asked) (c : Asked) → told_by told (cs ++ c ∷ []) ≡ told_next c (told_by told cs)
+told_push told [] c = refl
+told_push told (x ∷ cs) c = told_push (told_next x told) cs c
+
+with_push : (s : Setting) (lane : ℕ) (told : Told) (line : ℕ) (cs : List Asked) (c : Asked) (deeds : List Deed)
+    → with_lines s lane told line (cs ++ c ∷ []) deeds ≡ with_line s lane (told_by told cs) (line + length cs) c (with_lines s lane told line cs deeds)
+with_push s lane told line [] c deeds = ap (λ n. with_line s lane told n c deeds) (omega arith)
+with_push s lane told line (x ∷ cs) c deeds =
+    let more = with_line s lane told line x deeds in
+    with_push s lane (told_next x told) (suc line) cs c more
+    ∙ ap (λ n. with_line s lane (told_by (told_next x told) cs) n c (with_lines s lane (told_next x told) (suc line) cs more)) (omega arith)
+
+pub deeds_push : (s : Setting) (lane k : ℕ) (cs : List Asked) (c : Asked) → k ≡ length cs + 1
+    → deeds_of_lane s lane (cs ++ c ∷ []) ≡ with_line s lane (told_of s cs) k c (deeds_of_lane s lane cs)
+deeds_push s lane k cs c is =
+    with_push s lane (first_told s) 1 cs c [] ∙ ap (λ n. with_line s lane (told_of s cs) n c (deeds_of_lane s lane cs)) (omega (arith, is))
+
+pub planned_push : (lane : ℕ) (takes : Bool) (planned : List Fate) (cs : List Asked) (c : Asked) → planned_for lane takes planned (cs ++ c ∷ []) ≡ planned_next lane takes c (planned_for lane takes planned cs)
+planned_push lane takes planned [] c = refl
+planned_push lane takes planned (x ∷ cs) c = planned_push lane takes (planned_next lane takes x planned) cs c
+
+-- ---- the lane of an operation, and others
+
+same_lane : (a b : ℕ) → a ≡ b → (a == b) ≡ true
+same_lane a b h = grind (arith, nat_tests)
+
+other_lane : (a b : ℕ) → a ≢ b → (a == b) ≡ false
+other_lane a b h = grind (arith, nat_tests)
+
+pub with_own : (s : Setting) (lane line : ℕ) (op : Operation) (via : Option ℕ) (deeds : List Deed) → lane_of_id s.bits op.id ≡ lane
+    → with_operation s lane line op via deeds ≡ Runs (record { number = line; operation = op; via = via }) ∷ deeds
+with_own s lane line op via deeds h = ap (λ t. if t then Runs (record { number = line; operation = op; via = via }) ∷ deeds else deeds) (same_lane _ _ h)
+
+pub with_other : (s : Setting) (lane line : ℕ) (op : Operation) (via : Option ℕ) (deeds : List Deed) → lane_of_id s.bits op.id ≢ lane → with_operation s lane line op via deeds ≡ deeds
+with_other s lane line op via deeds h = ap (λ t. if t then Runs (record { number = line; operation = op; via = via }) ∷ deeds else deeds) (other_lane _ _ h)
+
+pub plan_own : (lane at : ℕ) (takes : Bool) (fates planned : List Fate) → at ≡ lane → planned_next lane takes (command.Net at fates) planned ≡ planned_with takes planned fates
+plan_own lane at takes fates planned h = ap (λ t. if t then planned_with takes planned fates else planned) (same_lane _ _ h)
+
+pub plan_other : (lane at : ℕ) (takes : Bool) (fates planned : List Fate) → at ≢ lane → planned_next lane takes (command.Net at fates) planned ≡ planned
+plan_other lane at takes fates planned h = ap (λ t. if t then planned_with takes planned fates else planned) (other_lane _ _ h)
+
+-- ---- no line among the deeds has a greater number than there are lines
+
+last_if : (t : Bool) (line : ℕ) (op : Operation) (via : Option ℕ) (deeds : List Deed) → last_line (lines_of deeds) < line
+    → last_line (lines_of (if t then Runs (record { number = line; operation = op; via = via }) ∷ deeds else deeds)) < suc line
+last_if true line op via deeds h = omega arith
+last_if false line op via deeds h = omega (arith, h)
+
+last_state : (o : Option PublishFault) (state : ClusterState) (deaf line : ℕ) (deeds : List Deed) → last_line (lines_of deeds) < line → last_line (lines_of (with_state o state deaf deeds)) < suc line
+last_state None state deaf line deeds h = omega (arith, h)
+last_state (Some why) state deaf line deeds h = omega (arith, h)
+
+last_with : (s : Setting) (lane : ℕ) (told : Told) (line : ℕ) (c : Asked) (deeds : List Deed) → last_line (lines_of deeds) < line → last_line (lines_of (with_line s lane told line c deeds)) < suc line
+last_with s lane told line command.Blank deeds h = omega (arith, h)
+last_with s lane told line command.TooLong deeds h = omega (arith, h)
+last_with s lane told line (command.Bad why) deeds h = omega (arith, h)
+last_with s lane told line (command.Feed op via) deeds h = last_if (lane_of_id s.bits op.id == lane) line op via deeds h
+last_with s lane told line (command.State state deaf) deeds h = last_state (publish_fault told state) state deaf line deeds h
+last_with s lane told line (command.BadState offset) deeds h = omega (arith, h)
+last_with s lane told line (command.Stop node) deeds h = omega (arith, h)
+last_with s lane told line (command.Start node) deeds h = omega (arith, h)
+last_with s lane told line (command.Net at fates) deeds h = omega (arith, h)
+last_with s lane told line command.Maintain deeds h = omega (arith, h)
+
+last_low : (s : Setting) (lane : ℕ) (told : Told) (line : ℕ) (cs : List Asked) (deeds : List Deed) → last_line (lines_of deeds) < line → last_line (lines_of (with_lines s lane told line cs deeds)) < line + length cs
+last_low s lane told line [] deeds h = omega (arith, h)
+last_low s lane told line (c ∷ cs) deeds h =
+    let low = last_low s lane (told_next c told) (suc line) cs (with_line s lane told line c deeds) (last_with s lane told line c deeds h) in
+    omega (arith, low)
+
+pub lines_low : (s : Setting) (lane : ℕ) (cs : List Asked) → last_line (lines_of (deeds_of_lane s lane cs)) ≤ length cs
+lines_low s lane cs = let low = last_low s lane (first_told s) 1 cs [] (omega arith) in omega (arith, low)
+
+-- ---- the states among the deeds are those that are told
+
+states_operation : (s : Setting) (lane line : ℕ) (op : Operation) (via : Option ℕ) (deeds : List Deed) (t : Bool) → states_in s (if t then Runs (record { number = line; operation = op; via = via }) ∷ deeds else deeds) ≡ states_in s deeds
+states_operation s lane line op via deeds true = refl
+states_operation s lane line op via deeds false = refl
+
+states_state : (s : Setting) (o : Option PublishFault) (state : ClusterState) (deaf : ℕ) (told : Told) (deeds : List Deed) → states_in s deeds ≡ told.states → states_in s (with_state o state deaf deeds) ≡ (told_with o state told).states
+states_state s None state deaf told deeds h = ap (λ l. l ++ state ∷ []) h
+states_state s (Some why) state deaf told deeds h = h
+
+states_with : (s : Setting) (lane : ℕ) (told : Told) (line : ℕ) (c : Asked) (deeds : List Deed) → states_in s deeds ≡ told.states → states_in s (with_line s lane told line c deeds) ≡ (told_next c told).states
+states_with s lane told line command.Blank deeds h = h
+states_with s lane told line command.TooLong deeds h = h
+states_with s lane told line (command.Bad why) deeds h = h
+states_with s lane told line (command.Feed op via) deeds h = states_operation s lane line op via deeds (lane_of_id s.bits op.id == lane) ∙ h
+states_with s lane told line (command.State state deaf) deeds h = states_state s (publish_fault told state) state deaf told deeds h
+states_with s lane told line (command.BadState offset) deeds h = h
+states_with s lane told line (command.Stop node) deeds h = h
+states_with s lane told line (command.Start node) deeds h = h
+states_with s lane told line (command.Net at fates) deeds h = h
+states_with s lane told line command.Maintain deeds h = h
+
+states_by : (s : Setting) (lane : ℕ) (told : Told) (line : ℕ) (cs : List Asked) (deeds : List Deed) → states_in s deeds ≡ told.states → states_in s (with_lines s lane told line cs deeds) ≡ (told_by told cs).states
+states_by s lane told line [] deeds h = h
+states_by s lane told line (c ∷ cs) deeds h = states_by s lane (told_next c told) (suc line) cs (with_line s lane told line c deeds) (states_with s lane told line c deeds h)
+
+acks_with : (o : Option PublishFault) (state : ClusterState) (told : Told) → (told_with o state told).acks ≡ told.acks
+acks_with None state told = refl
+acks_with (Some why) state told = refl
+
+acks_next : (c : Asked) (told : Told) → (told_next c told).acks ≡ told.acks
+acks_next command.Blank told = refl
+acks_next command.TooLong told = refl
+acks_next (command.Bad why) told = refl
+acks_next (command.Feed op via) told = refl
+acks_next (command.State state deaf) told = acks_with (publish_fault told state) state told
+acks_next (command.BadState offset) told = refl
+acks_next (command.Stop node) told = refl
+acks_next (command.Start node) told = refl
+acks_next (command.Net at fates) told = refl
+acks_next command.Maintain told = refl
+
+acks_by : (told : Told) (cs : List Asked) → (told_by told cs).acks ≡ told.acks
+acks_by told [] = refl
+acks_by told (c ∷ cs) = acks_by (told_next c told) cs ∙ acks_next c told
+
+abbrev told_as : ℕ → List ClusterState → Told
+told_as acks states = record { acks = acks; states = states }
+
+pub deeds_told : (s : Setting) (lane : ℕ) (cs : List Asked) → told_as (s.rules).acks (states_in s (deeds_of_lane s lane cs)) ≡ told_of s cs
+deeds_told s lane cs = ap₂ told_as (sym (acks_by (first_told s) cs)) (states_by s lane (first_told s) 1 cs [] refl)
+
+-- ---- the events of states and nodes are the same in every lane
+
+events_operation : (s : Setting) (line : ℕ) (op : Operation) (via : Option ℕ) (deeds : List Deed) (t : Bool) → deed_events s (if t then Runs (record { number = line; operation = op; via = via }) ∷ deeds else deeds) ≡ deed_events s deeds
+events_operation s line op via deeds true = refl
+events_operation s line op via deeds false = refl
+
+events_state : (s : Setting) (o : Option PublishFault) (state : ClusterState) (deaf : ℕ) (ds es : List Deed) → deed_events s ds ≡ deed_events s es → deed_events s (with_state o state deaf ds) ≡ deed_events s (with_state o state deaf es)
+events_state s None state deaf ds es h = ap (λ J. Published state ∷ J) h
+events_state s (Some why) state deaf ds es h = h
+
+events_with : (s : Setting) (lane other : ℕ) (told : Told) (line : ℕ) (c : Asked) (ds es : List Deed) → deed_events s ds ≡ deed_events s es
+    → deed_events s (with_line s lane told line c ds) ≡ deed_events s (with_line s other told line c es)
+events_with s lane other told line command.Blank ds es h = h
+events_with s lane other told line command.TooLong ds es h = h
+events_with s lane other told line (command.Bad why) ds es h = h
+events_with s lane other told line (command.Feed op via) ds es h =
+    events_operation s line op via ds (lane_of_id s.bits op.id == lane) ∙ h ∙ sym (events_operation s line op via es (lane_of_id s.bits op.id == other))
+events_with s lane other told line (command.State state deaf) ds es h = events_state s (publish_fault told state) state deaf ds es h
+events_with s lane other told line (command.BadState offset) ds es h = h
+events_with s lane other told line (command.Stop node) ds es h = ap (stopped_next node) h
+events_with s lane other told line (command.Start node) ds es h = ap (started_next node) h
+events_with s lane other told line (command.Net at fates) ds es h = h
+events_with s lane other told line command.Maintain ds es h = h
+
+events_by : (s : Setting) (lane other : ℕ) (told : Told) (line : ℕ) (cs : List Asked) (ds es : List Deed) → deed_events s ds ≡ deed_events s es
+    → deed_events s (with_lines s lane told line cs ds) ≡ deed_events s (with_lines s other told line cs es)
+events_by s lane other told line [] ds es h = h
+events_by s lane other told line (c ∷ cs) ds es h =
+    events_by s lane other (told_next c told) (suc line) cs (with_line s lane told line c ds) (with_line s other told line c es) (events_with s lane other told line c ds es h)
+
+pub deeds_together : (s : Setting) (lane other : ℕ) (cs : List Asked) → deed_events s (deeds_of_lane s lane cs) ≡ deed_events s (deeds_of_lane s other cs)
+deeds_together s lane other cs = events_by s lane other (first_told s) 1 cs [] [] refl

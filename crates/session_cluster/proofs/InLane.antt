@@ -1,0 +1,215 @@
+-- The lane of a document, and what may be asked of lanes.
+use Rattle.std.proofs.Common.{◌≡◌, ◌<◌, ◌≤◌, ◌^◌, ◌+◌, ℕ, Bool, List, Option, None, Some, IfSome, refl, sym, ap, ◌∙◌, subst, arith, length, map, slice_get, slice_index_or, set}
+use Rattle.std.specs.Option.{IsSome}
+use Rattle.std.proofs.Math.Pow.{pow_mono}
+use Rattle.std.proofs.lemmas.List.{length-map}
+use Rattle.std.proofs.lemmas.Option.{get_or_from_slice_get}
+use Rattle.bucket_ids.specs.Buckets.{Low, IsIn}
+use Rattle.cluster_states.specs.Publishing.{Told, publish_fault}
+use Rattle.cluster_states.specs.declared.cluster_state.ClusterState.{ClusterState}
+use Rattle.global_ids.specs.Keys as keys
+use Rattle.global_ids.proofs.KeyLaws.{key_small}
+use Rattle.messages.specs.declared.operation.Operation.{Operation}
+use Rattle.messages.specs.declared.outcome.Outcome.{Outcome}
+use Rattle.carriers.specs.Fates.{planned_with}
+use Rattle.carriers.specs.declared.fate.Fate.{Fate}
+use Rattle.cluster_states.specs.declared.states.PublishFault.{PublishFault}
+use Rattle.reports.specs.declared.answer.Answer.{Answer}
+use Rattle.reports.specs.declared.answer.Answer.TheVariants as answer
+use Rattle.lane_journals.specs.Buckets.{key_of}
+use Rattle.lane_journals.specs.Meanings.{history}
+use Rattle.lane_journals.specs.Readers.{held}
+use Rattle.lane_values.specs.LaneValues.{LaneValue, IsLaneValue}
+use Rattle.lane_keeping.specs.Tidings.{last_state}
+use Rattle.lane_values.specs.declared.setting.Setting.{Setting}
+use Rattle.lane_values.specs.Settings.{lane_count}
+use Rattle.lane_lives.specs.Lives.{Deed, lines_of, last_line, newest_in}
+use Rattle.lane_core.specs.Runs.{IsLineRun}
+use Rattle.lane_lives.specs.Serving.{bucket_in, IsServing}
+use Rattle.lane_core.proofs.Served.{serving_fresh, serving_heard, serving_newest, serving_told}
+use Rattle.session_cluster.specs.Cells.{Cell}
+use Rattle.session_cluster.specs.Deeds.{told_with, deeds_of_lane}
+use Rattle.session_cluster.specs.Keeping.{IsReady}
+use Rattle.session_cluster.specs.Lanes.{lane_of_id}
+use Rattle.session_cluster.specs.Output.{state_answer, plan_answer}
+use Rattle.session_cluster.specs.Spans.{spans_of}
+use Rattle.session_cluster.specs.Steps.{with_room, after_state, EachLane, IsTelling, IsRoomy, MayAnnounce, MayMaintain, MayRun, IsOperatedIn, IsDoneInEach, IsStateTold, IsToldRoomy, IsPlannedIn}
+use Rattle.session_cluster.proofs.DeedLists.{deeds_told, lines_low}
+use Rattle.session_cluster.proofs.Elements.{element_map, set_there, seen_map}
+use Rattle.session_cluster.proofs.KeptLanes.{lane_there}
+use Rattle.session_cluster.proofs.LaneLists.{lane_small}
+
+-- ---- which lane it is
+
+pub within : (s : Setting) (line at : ℕ) (c : Cell) → IsReady s line c → at < 2 ^ s.bits → at < length c.lanes
+within s line at c ready small = let count : length c.lanes ≡ lane_count s = ready.kept.lanes in subst (λ m. at < m) (sym count) small
+
+pub in_bounds : (s : Setting) (line at : ℕ) (op : Operation) (c : Cell) → IsReady s line c → at ≡ lane_of_id s.bits op.id → at < length c.lanes
+in_bounds s line at op c ready is = within s line at c ready (subst (λ n. n < 2 ^ s.bits) (sym is) (lane_small s.bits op.id))
+
+-- the lane that is looked up is that of the number
+pub found : (at n : ℕ) (c : Cell) (vs : List LaneValue) (v : LaneValue) → at < length c.lanes → vs ≡ c.lanes → n ≡ at → v ≡ slice_index_or vs n v → slice_get c.lanes at ≡ Some v
+found at n c vs v below same from value =
+    let there = lane_there c.lanes at below in
+    let one : v ≡ there.0 = value ∙ ap (λ m. slice_index_or vs m v) from ∙ ap (λ ws. slice_index_or ws at v) same ∙ get_or_from_slice_get c.lanes at there.0 v there.1 in
+    there.1 ∙ ap Some (sym one)
+
+pub look_up : (at n : ℕ) (c : Cell) (vs : List LaneValue) → at < length c.lanes → vs ≡ c.lanes → n ≡ at → n < length vs
+look_up at n c vs below same from = subst (λ m. m < length vs) (sym from) (subst (λ ws. at < length ws) (sym same) below)
+
+pub operated_in : (line at n : ℕ) (op : Operation) (via : Option ℕ) (old new : Cell) (vs : List LaneValue) (v w : LaneValue) (x : Outcome) → at < length old.lanes → vs ≡ old.lanes → n ≡ at → v ≡ slice_index_or vs n v
+    → IsLineRun (record { number = line; operation = op; via = via }) v w x → new ≡ record old { lanes = set vs n w; dealt = line } → IsOperatedIn at line op via old new x
+operated_in line at n op via old new vs v w x below same from value ran now = record {
+  before = v;
+  after = w;
+  there = found at n old vs v below same from value;
+  ran = ran;
+  now = now ∙ ap (λ us. record old { lanes = set us n w; dealt = line }) same ∙ ap (λ m. record old { lanes = set old.lanes m w; dealt = line }) from;
+}
+
+pub planned_in : (line at n : ℕ) (given fates : List Fate) (old new : Cell) (vs : List LaneValue) (v w : LaneValue) (taken : Bool) → at < length old.lanes → vs ≡ old.lanes → n ≡ at → v ≡ slice_index_or vs n v
+    → given ≡ fates → taken ≡ v.takes_plans → w ≡ record v { planned = planned_with taken v.planned given } → new ≡ record old { lanes = set vs n w; dealt = line } → IsPlannedIn line at fates old new
+planned_in line at n given fates old new vs v w taken below same from value are took after now = record {
+  before = v;
+  there = found at n old vs v below same from value;
+  now = now ∙ ap (λ us. record old { lanes = set us n w; dealt = line }) same ∙ ap (λ m. record old { lanes = set old.lanes m w; dealt = line }) from
+      ∙ ap (λ (x : LaneValue). record old { lanes = set old.lanes at x; dealt = line }) (after ∙ ap (λ t. record v { planned = planned_with t v.planned given }) took ∙ ap (λ fs. record v { planned = planned_with v.takes_plans v.planned fs }) are);
+}
+
+-- what the plan is answered
+pub plan_told : (at n : ℕ) (fates : List Fate) (c : Cell) (vs : List LaneValue) (v w : LaneValue) (taken : Bool) → at < length c.lanes → vs ≡ c.lanes → n ≡ at → taken ≡ v.takes_plans
+    → w ≡ record v { planned = planned_with taken v.planned fates } → Some (answer.Planned taken) ≡ plan_answer (slice_get (set vs n w) at)
+plan_told at n fates c vs v w taken below same from took after =
+    ap (λ t. Some (answer.Planned t)) (took ∙ sym (ap (λ (x : LaneValue). x.takes_plans) after))
+    ∙ ap plan_answer (sym (ap (λ m. slice_get (set vs n w) m) (sym from) ∙ set_there vs n w (look_up at n c vs below same from)))
+
+-- ---- what may be asked of it
+
+some_there : {A : Type 0} (o : Option A) (x : A) → o ≡ Some x → IsSome o
+some_there o x is = subst IsSome (sym is) refl
+
+in_bucket : (bits : ℕ) (id : List ℕ) → IsIn (keys.lane_bucket bits (lane_of_id bits id)) (key_of id)
+unfolding lane_of_id key_of
+in_bucket bits id = (key_small id, refl)
+
+via_holds : (s : Setting) (planned : List Fate) (lane : ℕ) (deeds : List Deed) (v : LaneValue) (via : Option ℕ) → IsServing s planned lane deeds v → IfSome via (λ d. d < 32) → IfSome via (λ d. IsSome (held d (history v.journal)))
+via_holds s planned lane deeds v None is small = tt
+via_holds s planned lane deeds v (Some d) is small = serving_heard s planned lane deeds v d is small
+
+pub may_run : (s : Setting) (line at : ℕ) (op : Operation) (via : Option ℕ) (c : Cell) → IsReady s line c → at ≡ lane_of_id s.bits op.id → IfSome via (λ d. d < 32)
+    → (v : LaneValue) → slice_get c.lanes at ≡ Some v → MayRun line op via v
+may_run s line at op via c ready is small v there =
+    let deeds = deeds_of_lane s at ready.commands in
+    let serving = ready.kept.serving at v there in
+    let low : last_line (lines_of deeds) ≤ length ready.commands = lines_low s at ready.commands in
+    record {
+      idle = serving.idle;
+      fresh = serving_fresh s _ at deeds v line serving (omega (arith, low, ready.next));
+      published = some_there (last_state v.journal) (newest_in s deeds) (serving_newest s _ at deeds v serving);
+      holds = via_holds s _ at deeds v via serving small;
+      in_lane = subst (λ (b : Low). IsIn b (key_of op.id)) (sym (serving.lane_is ∙ ap (bucket_in s) is)) (in_bucket s.bits op.id);
+    }
+
+pub some_line : (s : Setting) (line : ℕ) (c : Cell) → IsReady s line c → 1 ≤ line
+some_line s line c ready = omega (arith, ready.next)
+
+-- ---- what may be told to all
+
+pub all_telling : (s : Setting) (line : ℕ) (c : Cell) → IsReady s line c → EachLane (IsTelling c.told) c.lanes
+all_telling s line c ready lane v at =
+    let serving = ready.kept.serving lane v at in
+    let deeds = deeds_of_lane s lane ready.commands in
+    record { idle = serving.idle; told_is = serving_told s _ lane deeds v serving ∙ deeds_told s lane ready.commands ∙ sym ready.kept.told }
+
+-- ---- what may be kept in order
+
+pub all_may_maintain : (s : Setting) (line : ℕ) (c : Cell) → IsReady s line c → EachLane MayMaintain c.lanes
+all_may_maintain s line c ready lane v at =
+    let serving = ready.kept.serving lane v at in
+    let deeds = deeds_of_lane s lane ready.commands in
+    record { idle = serving.idle; published = some_there (last_state v.journal) (newest_in s deeds) (serving_newest s _ lane deeds v serving) }
+
+few_lanes : (bits : ℕ) → bits ≤ 6 → 2 ^ bits ≤ 64
+few_lanes bits few = pow_mono few
+
+pub few_of : (s : Setting) (line : ℕ) (c : Cell) → IsReady s line c → length c.lanes ≤ 64
+few_of s line c ready = subst (λ n. n ≤ 64) (sym ready.kept.lanes) (few_lanes s.bits ready.setting.most)
+
+pub new_line : (s : Setting) (line : ℕ) (c : Cell) → IsReady s line c → spans_of line c.upkeeps ≡ None
+new_line s line c ready = ready.kept.unkept line (omega (arith, ready.next, ready.kept.dealt))
+
+telling_roomy : (t : Told) (v : LaneValue) → IsTelling t v → IsRoomy (with_room v)
+telling_roomy t v is = record { idle = is.idle; room = refl }
+
+pub all_roomy : (t : Told) (vs ws : List LaneValue) → EachLane (IsTelling t) vs → ws ≡ map with_room vs → EachLane IsRoomy ws
+all_roomy t vs ws telling now lane w at =
+    let is = element_map with_room vs lane w (subst (λ us. slice_get us lane ≡ Some w) now at) in
+    subst IsRoomy (sym is.1.1) (telling_roomy t is.0 (telling lane is.0 is.1.0))
+
+telling_may : (t : Told) (state : ClusterState) (v : LaneValue) → publish_fault t state ≡ None → IsTelling t v → MayAnnounce state (with_room v)
+telling_may t state v none is = record { roomy = telling_roomy t v is; accepted = ap (λ x. publish_fault x state) is.told_is ∙ none }
+
+pub all_may_announce : (t : Told) (state : ClusterState) (vs ws : List LaneValue) → publish_fault t state ≡ None → EachLane (IsTelling t) vs → ws ≡ map with_room vs → EachLane (MayAnnounce state) ws
+all_may_announce t state vs ws none telling now lane w at =
+    let is = element_map with_room vs lane w (subst (λ us. slice_get us lane ≡ Some w) now at) in
+    subst (MayAnnounce state) (sym is.1.1) (telling_may t state is.0 none (telling lane is.0 is.1.0))
+
+-- ---- what all did where room was made
+
+pub done_roomy : (line : ℕ) (f : LaneValue → LaneValue) (old mid new : Cell) → ((v : LaneValue) → f (with_room v) ≡ f v) → mid ≡ record old { lanes = map with_room old.lanes } → IsDoneInEach line f mid new → IsDoneInEach line f old new
+done_roomy line f old mid new same room d = record {
+  now = d.now ∙ ap (λ (x : Cell). record x { lanes = map f x.lanes; dealt = line }) room ∙ ap (λ vs. record old { lanes = vs; dealt = line }) (seen_map with_room f same old.lanes);
+  holds = d.holds;
+}
+
+told_roomy : (line : ℕ) (o : Option PublishFault) (state : ClusterState) (deaf : ℕ) (old mid new : Cell) → mid ≡ record old { lanes = map with_room old.lanes } → IsToldRoomy line o state deaf mid new → IsStateTold line o state deaf old new
+told_roomy line None state deaf old mid new room d = record {
+  now = d.now ∙ ap (λ (x : Cell). record x { told = told_with None state x.told; lanes = map (after_state state deaf) x.lanes; dealt = line }) room
+      ∙ ap (λ vs. record old { told = told_with None state old.told; lanes = vs; dealt = line }) (seen_map with_room (after_state state deaf) (λ v. refl) old.lanes);
+  holds = d.holds;
+}
+told_roomy line (Some why) state deaf old mid new room d = d ∙ ap (λ (x : Cell). record x { dealt = line }) room
+
+abbrev fault_in : ClusterState → Cell → Option PublishFault
+fault_in state c = publish_fault c.told state
+
+-- what was told where room was made, and what it is answered
+pub told_where_roomy : (line : ℕ) (state : ClusterState) (deaf : ℕ) (old mid new : Cell) (a : Option Answer) → mid ≡ record old { lanes = map with_room old.lanes }
+    → IsToldRoomy line (publish_fault mid.told state) state deaf mid new → a ≡ state_answer (publish_fault mid.told state) state
+    → IsStateTold line (publish_fault old.told state) state deaf old new × (a ≡ state_answer (publish_fault old.told state) state)
+told_where_roomy line state deaf old mid new a room d told =
+    let same : fault_in state mid ≡ fault_in state old = ap (fault_in state) room in
+    (told_roomy line (publish_fault old.told state) state deaf old mid new room (subst (λ o. IsToldRoomy line o state deaf mid new) same d), told ∙ ap (λ o. state_answer o state) same)
+
+-- the lanes of a cluster in which room was made
+pub roomy_after : (old mid : Cell) → mid ≡ record old { lanes = map with_room old.lanes } → EachLane (IsTelling old.told) old.lanes → EachLane IsRoomy mid.lanes
+roomy_after old mid room telling = all_roomy old.told old.lanes mid.lanes telling (ap (λ (x : Cell). x.lanes) room)
+
+pub may_announce_after : (state : ClusterState) (old mid : Cell) → mid ≡ record old { lanes = map with_room old.lanes } → EachLane (IsTelling old.told) old.lanes → publish_fault mid.told state ≡ None → EachLane (MayAnnounce state) mid.lanes
+may_announce_after state old mid room telling none = all_may_announce old.told state old.lanes mid.lanes (sym (ap (fault_in state) room) ∙ none) telling (ap (λ (x : Cell). x.lanes) room)
+
+-- every lane of a cluster did it
+pub all_did : (line : ℕ) (f : LaneValue → LaneValue) (old inside : Cell) (vs ws shown : List LaneValue) → inside ≡ old → vs ≡ inside.lanes → ws ≡ map f vs → EachLane IsLaneValue ws → shown ≡ ws
+    → IsDoneInEach line f old (record inside { lanes = shown; dealt = line })
+all_did line f old inside vs ws shown is same after holds shows = record {
+  now = ap (λ (x : Cell). record x { lanes = shown; dealt = line }) is ∙ ap (λ us. record old { lanes = us; dealt = line }) (shows ∙ after ∙ ap (map f) (same ∙ ap (λ (x : Cell). x.lanes) is));
+  holds = subst (EachLane IsLaneValue) (sym shows) holds;
+}
+
+-- nothing stands against the state
+pub no_fault : (state : ClusterState) (old inside : Cell) → inside ≡ old → publish_fault inside.told state ≡ None → publish_fault old.told state ≡ None
+no_fault state old inside is none = sym (ap (fault_in state) is) ∙ none
+
+pub all_announced : (line : ℕ) (state : ClusterState) (deaf : ℕ) (old inside : Cell) (vs ws shown : List LaneValue) (now : Told) → inside ≡ old → vs ≡ inside.lanes → now ≡ told_with None state inside.told → ws ≡ map (after_state state deaf) vs
+    → EachLane IsLaneValue ws → publish_fault inside.told state ≡ None → shown ≡ ws → IsToldRoomy line (publish_fault old.told state) state deaf old (record inside { told = now; lanes = shown; dealt = line })
+all_announced line state deaf old inside vs ws shown now is same told after holds none shows =
+    subst (λ o. IsToldRoomy line o state deaf old (record inside { told = now; lanes = shown; dealt = line })) (sym (no_fault state old inside is none)) (record {
+      now = ap (λ (x : Cell). record x { told = now; lanes = shown; dealt = line }) is
+          ∙ ap (λ t. record old { told = t; lanes = shown; dealt = line }) (told ∙ ap (λ (x : Cell). told_with None state x.told) is)
+          ∙ ap (λ us. record old { told = told_with None state old.told; lanes = us; dealt = line }) (shows ∙ after ∙ ap (map (after_state state deaf)) (same ∙ ap (λ (x : Cell). x.lanes) is));
+      holds = subst (EachLane IsLaneValue) (sym shows) holds;
+    })
+
+-- as many lanes as before
+pub same_many : (f : LaneValue → LaneValue) (inside vs ws : List LaneValue) (n : ℕ) → n ≡ length inside → vs ≡ inside → ws ≡ map f vs → length ws ≡ n
+same_many f inside vs ws n count same after = ap length after ∙ length-map vs f ∙ ap length same ∙ sym count

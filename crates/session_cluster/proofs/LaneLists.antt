@@ -1,0 +1,49 @@
+-- Lanes and their journals as lists.
+use Rattle.std.proofs.Common.{◌≡◌, ◌≢◌, ◌<◌, ◌≤◌, ◌^◌, ℕ, zero, suc, List, [], ◌∷◌, Some, refl, sym, ap, ◌∙◌, arith, length, map, set, slice_get, get_or-set_same, get_or-set_other}
+use Rattle.std.proofs.lemmas.List.{get_or_past, map-set, length-map}
+use Rattle.std.proofs.lemmas.Nat.{mod_below, pow_pos}
+use Rattle.global_ids.specs.Keys.{key_of, lane_of}
+use Rattle.lane_journals.specs.KeptJournals.{past}
+use Rattle.lane_values.specs.LaneValues.{LaneValue}
+use Rattle.session_cluster.specs.Lanes.{Journal, lane_of_id, journal_in}
+
+pub lane_small : (bits : ℕ) (id : List ℕ) → lane_of_id bits id < 2 ^ bits
+unfolding lane_of_id
+lane_small bits id = mod_below (key_of id) (2 ^ bits) (pow_pos bits)
+
+-- ---- journals of lanes
+
+abbrev pub journal_is : LaneValue → Journal
+journal_is v = v.journal
+
+pub journal_at : (vs : List LaneValue) (lane : ℕ) (v : LaneValue) → slice_get vs lane ≡ Some v → journal_in lane (map journal_is vs) ≡ v.journal
+journal_at [] zero v h = cc h
+journal_at [] (suc lane) v h = cc h
+journal_at (w ∷ vs) zero v h = ap journal_is (some_is h)
+  where
+    some_is : {x y : LaneValue} → Some x ≡ Some y → x ≡ y
+    some_is e = cc
+journal_at (w ∷ vs) (suc lane) v h = journal_at vs lane v h
+
+pub journal_past : (vs : List LaneValue) (lane : ℕ) → length vs ≤ lane → journal_in lane (map journal_is vs) ≡ []
+journal_past vs lane h = get_or_past (map journal_is vs) lane [] (omega (arith, length-map vs journal_is, h))
+
+-- the journals where one lane is another
+pub journal_set : (vs : List LaneValue) (at : ℕ) (w : LaneValue) → at < length vs → journal_in at (map journal_is (set vs at w)) ≡ w.journal
+journal_set vs at w h = ap (journal_in at) (map-set journal_is vs at w) ∙ get_or-set_same (map journal_is vs) at w.journal [] (omega (arith, length-map vs journal_is, h))
+
+pub journal_other : (vs : List LaneValue) (at lane : ℕ) (w : LaneValue) → at ≢ lane → journal_in lane (map journal_is (set vs at w)) ≡ journal_in lane (map journal_is vs)
+journal_other vs at lane w h = ap (journal_in lane) (map-set journal_is vs at w) ∙ get_or-set_other (map journal_is vs) at lane w.journal [] (λ e. h (sym e))
+
+-- the lane of a document's key is its lane
+pub lane_is : (at key bits : ℕ) (id : List ℕ) → at ≡ lane_of key bits → key ≡ key_of id → at ≡ lane_of_id bits id
+unfolding lane_of_id
+lane_is at key bits id a b = a ∙ ap (λ k. lane_of k bits) b
+
+past_none : past [] ≡ []
+unfolding past
+past_none = refl
+
+-- the journal of a lane that isn't there
+pub no_journal : (vs shown : List LaneValue) (lane at : ℕ) → shown ≡ vs → at ≡ lane → length shown ≤ at → past [] ≡ journal_in lane (map journal_is vs)
+no_journal vs shown lane at same is h = past_none ∙ sym (journal_past vs lane (omega (arith, ap length same, is, h)))

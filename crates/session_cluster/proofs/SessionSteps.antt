@@ -1,0 +1,314 @@
+-- One line more keeps what a session keeps.
+use Rattle.std.proofs.Common.{◌≡◌, ◌≢◌, ◌⊎◌, ◌<◌, ◌≤◌, ◌+◌, ℕ, zero, suc, true, false, List, [], ◌∷◌, ◌++◌, Option, None, Some, inl, inr, refl, sym, ap, ◌∙◌, subst, arith, length, length-append, length-set, map, slice_get, set}
+use Rattle.std.proofs.lemmas.List.{length-map}
+use Rattle.std.proofs.lemmas.Option.{slice_get_within}
+use Rattle.carriers.specs.Fates.{planned_with}
+use Rattle.carriers.specs.declared.fate.Fate.{Fate}
+use Rattle.cluster_states.specs.Publishing.{Told, publish_fault}
+use Rattle.cluster_states.specs.declared.cluster_state.ClusterState.{ClusterState}
+use Rattle.cluster_states.specs.declared.states.PublishFault.{PublishFault}
+use Rattle.messages.specs.declared.operation.Operation.{Operation}
+use Rattle.messages.specs.declared.outcome.Outcome.{Outcome}
+use Rattle.lane_values.specs.LaneValues.{LaneValue, IsLaneValue}
+use Rattle.lane_values.specs.declared.setting.Setting.{Setting}
+use Rattle.lane_lives.specs.Lives.{Deed, Announces, Stops, Starts, Runs, Maintains, lines_of, last_line}
+use Rattle.lane_lives.specs.Serving.{IsServing}
+use Rattle.lane_core.proofs.Served.{serves_run, serves_announced, serves_stopped, serves_started, serves_room, serves_planned, serves_upkept}
+use Rattle.session_cluster.specs.Steps.{IsRoomier}
+use Rattle.session_cluster.specs.Cells.{Cell}
+use Rattle.session_cluster.specs.Deeds.{first_told, told_with, told_next, told_of, with_operation, with_state, with_line, deeds_of_lane, planned_next, planned_for}
+use Rattle.session_cluster.specs.Keeping.{IsKept}
+use Rattle.session_cluster.specs.Lanes.{lane_of_id}
+use Rattle.lane_lives.specs.Upkeep.{MayBeUpkept}
+use Rattle.session_cluster.specs.Spans.{spans_of}
+use Rattle.session_cluster.specs.Steps.{with_room, without_room, after_state, after_stop, after_start, EachLane, IsOperatedIn, IsDoneInEach, IsPublished, IsStateTold, IsPlannedIn, MayHavePassed, MayHaveAllPassed, HasSpans, IsMaintained, IsAfter}
+use Rattle.session_cluster.specs.declared.asked.Asked.{Asked}
+use Rattle.session_cluster.specs.declared.asked.Asked.TheVariants as command
+use Rattle.session_cluster.proofs.DeedLists.{told_push, deeds_push, planned_push, with_own, with_other, plan_own, plan_other, lines_low}
+use Rattle.session_cluster.proofs.Elements.{element_set, element_map, element_seen}
+use Rattle.session_cluster.proofs.SpanLists.{spans_other}
+
+count_next : (cs : List Asked) (c : Asked) (k : ℕ) → k ≡ length cs + 1 → k ≡ length (cs ++ c ∷ [])
+count_next cs c k is = omega (arith, is, length-append cs (c ∷ []))
+
+-- each lane serves the lines so far and this one more
+abbrev ServesNext : Setting → (ℕ → List Fate) → List Asked → Asked → ℕ → List LaneValue → Type 0
+ServesNext s plans cs c k vs = (lane : ℕ) (v : LaneValue) → slice_get vs lane ≡ Some v
+    → IsServing s (planned_next lane v.takes_plans c (planned_for lane v.takes_plans (plans lane) cs)) lane (with_line s lane (told_of s cs) k c (deeds_of_lane s lane cs)) v
+
+-- another line has the spans that it had
+abbrev pub LeavesSpans : ℕ → Cell → Cell → Type 0
+LeavesSpans k old new = (line : ℕ) → k ≢ line → spans_of line new.upkeeps ≡ spans_of line old.upkeeps
+
+same_spans : (k : ℕ) (old new : Cell) → new.upkeeps ≡ old.upkeeps → LeavesSpans k old new
+same_spans k old new same line other = ap (spans_of line) same
+
+kept_next : (s : Setting) (plans : ℕ → List Fate) (cs : List Asked) (c : Asked) (old new : Cell) (k : ℕ) → IsKept s plans cs old → k ≡ length cs + 1
+    → new.bits ≡ old.bits → new.told ≡ told_next c old.told → new.dealt ≡ k → length new.lanes ≡ length old.lanes → ServesNext s plans cs c k new.lanes → LeavesSpans k old new → IsKept s plans (cs ++ c ∷ []) new
+kept_next s plans cs c old new k kept is bits told dealt lanes serving spans = record {
+  bits = bits ∙ kept.bits;
+  told = told ∙ ap (told_next c) kept.told ∙ sym (told_push (first_told s) cs c);
+  dealt = dealt ∙ count_next cs c k is;
+  lanes = lanes ∙ kept.lanes;
+  serving = λ lane v at.
+      subst (λ p. IsServing s p lane (deeds_of_lane s lane (cs ++ c ∷ [])) v) (sym (planned_push lane v.takes_plans (plans lane) cs c))
+      (subst (λ ds. IsServing s (planned_next lane v.takes_plans c (planned_for lane v.takes_plans (plans lane) cs)) lane ds v) (sym (deeds_push s lane k cs c is)) (serving lane v at));
+  unkept = λ line later. spans line (λ e. absurd (omega (arith, e, later, dealt))) ∙ kept.unkept line (omega (arith, later, dealt, is, kept.dealt));
+}
+
+-- ---- a line that does nothing in the lanes
+
+serves_same : (s : Setting) (plans : ℕ → List Fate) (cs : List Asked) (old new : Cell) (k : ℕ) → IsKept s plans cs old → new ≡ record old { dealt = k }
+    → (lane : ℕ) (v : LaneValue) → slice_get new.lanes lane ≡ Some v → IsServing s (planned_for lane v.takes_plans (plans lane) cs) lane (deeds_of_lane s lane cs) v
+serves_same s plans cs old new k kept now lane v at = kept.serving lane v (subst (λ (x : Cell). slice_get x.lanes lane ≡ Some v) now at)
+
+kept_plain : (s : Setting) (plans : ℕ → List Fate) (cs : List Asked) (c : Asked) (old new : Cell) (k : ℕ) → IsKept s plans cs old → k ≡ length cs + 1 → ((told : Told) → told_next c told ≡ told)
+    → ServesNext s plans cs c k new.lanes → new ≡ record old { dealt = k } → IsKept s plans (cs ++ c ∷ []) new
+kept_plain s plans cs c old new k kept is none serving now =
+    kept_next s plans cs c old new k kept is (ap (λ (x : Cell). x.bits) now) (ap (λ (x : Cell). x.told) now ∙ sym (none old.told)) (ap (λ (x : Cell). x.dealt) now) (ap (λ (x : Cell). length x.lanes) now) serving (same_spans k old new (ap (λ (x : Cell). x.upkeeps) now))
+
+-- ---- an operation
+
+-- the lane of the operation serves it
+served : (s : Setting) (plans : ℕ → List Fate) (cs : List Asked) (op : Operation) (via : Option ℕ) (old new : Cell) (k at : ℕ) (x : Outcome) → IsKept s plans cs old → k ≡ length cs + 1 → (d : IsOperatedIn at k op via old new x)
+    → IsServing s (planned_for at (d.after).takes_plans (plans at) cs) at (Runs (record { number = k; operation = op; via = via }) ∷ deeds_of_lane s at cs) d.after
+served s plans cs op via old new k at x kept is d =
+    let low : last_line (lines_of (deeds_of_lane s at cs)) ≤ length cs = lines_low s at cs in
+    subst (λ t. IsServing s (planned_for at t (plans at) cs) at (Runs (record { number = k; operation = op; via = via }) ∷ deeds_of_lane s at cs) d.after) (sym (ap (λ (v : LaneValue). v.takes_plans) (d.ran).after))
+    (serves_run s (planned_for at (d.before).takes_plans (plans at) cs) at (deeds_of_lane s at cs) d.before d.after (record { number = k; operation = op; via = via }) x (kept.serving at d.before d.there) (omega (arith, is, low)) d.ran)
+
+serves_operation : (s : Setting) (plans : ℕ → List Fate) (cs : List Asked) (op : Operation) (via : Option ℕ) (old new : Cell) (k : ℕ) (x : Outcome) → IsKept s plans cs old → k ≡ length cs + 1
+    → (d : IsOperatedIn (lane_of_id s.bits op.id) k op via old new x) → ServesNext s plans cs (command.Feed op via) k (set old.lanes (lane_of_id s.bits op.id) d.after)
+serves_operation s plans cs op via old new k x kept is d lane v h =
+    let at = lane_of_id s.bits op.id in
+    let p = planned_for lane v.takes_plans (plans lane) cs in
+    elim (element_set old.lanes at lane d.after v h) [
+      | inl here ↦
+          subst (λ ds. IsServing s p lane ds v) (sym (with_own s lane k op via (deeds_of_lane s lane cs) here.0))
+          (subst (λ (w : LaneValue). IsServing s (planned_for lane w.takes_plans (plans lane) cs) lane (Runs (record { number = k; operation = op; via = via }) ∷ deeds_of_lane s lane cs) w) here.1
+          (subst (λ n. IsServing s (planned_for n (d.after).takes_plans (plans n) cs) n (Runs (record { number = k; operation = op; via = via }) ∷ deeds_of_lane s n cs) d.after) here.0
+          (served s plans cs op via old new k at x kept is d)))
+      | inr there ↦
+          subst (λ ds. IsServing s p lane ds v) (sym (with_other s lane k op via (deeds_of_lane s lane cs) there.0)) (kept.serving lane v there.1)
+    ]
+
+kept_operation : (s : Setting) (plans : ℕ → List Fate) (cs : List Asked) (op : Operation) (via : Option ℕ) (old new : Cell) (k : ℕ) (x : Outcome) → IsKept s plans cs old → k ≡ length cs + 1
+    → IsOperatedIn (lane_of_id s.bits op.id) k op via old new x → IsKept s plans (cs ++ command.Feed op via ∷ []) new
+kept_operation s plans cs op via old new k x kept is d =
+    kept_next s plans cs (command.Feed op via) old new k kept is (ap (λ (c : Cell). c.bits) d.now) (ap (λ (c : Cell). c.told) d.now) (ap (λ (c : Cell). c.dealt) d.now)
+    (ap (λ (c : Cell). length c.lanes) d.now ∙ length-set old.lanes (lane_of_id s.bits op.id) d.after)
+    (λ lane v at. serves_operation s plans cs op via old new k x kept is d lane v (subst (λ (c : Cell). slice_get c.lanes lane ≡ Some v) d.now at))
+    (same_spans k old new (ap (λ (c : Cell). c.upkeeps) d.now))
+
+-- ---- what every lane does
+
+-- each lane is what f makes of it, f leaves alone whether its carrier takes plans, and what f makes serves these deeds
+serves_each : (s : Setting) (plans : ℕ → List Fate) (cs : List Asked) (old new : Cell) (f : LaneValue → LaneValue) (more : ℕ → List Deed) → IsKept s plans cs old → new.lanes ≡ map f old.lanes
+    → ((v : LaneValue) → (f v).takes_plans ≡ v.takes_plans)
+    → ((lane : ℕ) (v : LaneValue) (p : List Fate) → slice_get new.lanes lane ≡ Some (f v) → IsServing s p lane (deeds_of_lane s lane cs) v → IsServing s p lane (more lane) (f v))
+    → (lane : ℕ) (v : LaneValue) → slice_get new.lanes lane ≡ Some v → IsServing s (planned_for lane v.takes_plans (plans lane) cs) lane (more lane) v
+serves_each s plans cs old new f more kept now takes step lane v at =
+    let found = element_map f old.lanes lane v (subst (λ vs. slice_get vs lane ≡ Some v) now at) in
+    let w = found.0 in
+    subst (λ (x : LaneValue). IsServing s (planned_for lane x.takes_plans (plans lane) cs) lane (more lane) x) (sym found.1.1)
+    (subst (λ t. IsServing s (planned_for lane t (plans lane) cs) lane (more lane) (f w)) (sym (takes w))
+    (step lane w (planned_for lane w.takes_plans (plans lane) cs) (subst (λ x. slice_get new.lanes lane ≡ Some x) found.1.1 at) (kept.serving lane w found.1.0)))
+
+-- a state was announced
+serves_state : (s : Setting) (plans : ℕ → List Fate) (cs : List Asked) (state : ClusterState) (deaf : ℕ) (old new : Cell) (k : ℕ) → IsKept s plans cs old → IsPublished k state deaf old new
+    → (lane : ℕ) (v : LaneValue) → slice_get new.lanes lane ≡ Some v → IsServing s (planned_for lane v.takes_plans (plans lane) cs) lane (Announces state deaf ∷ deeds_of_lane s lane cs) v
+serves_state s plans cs state deaf old new k kept d =
+    serves_each s plans cs old new (after_state state deaf) (λ lane. Announces state deaf ∷ deeds_of_lane s lane cs) kept (ap (λ (x : Cell). x.lanes) d.now) (λ v. refl)
+    (λ lane v p at is. serves_announced s p lane (deeds_of_lane s lane cs) v (after_state state deaf v) state deaf is refl (d.holds lane (after_state state deaf v) at))
+
+-- room was made
+serves_roomy : (s : Setting) (plans : ℕ → List Fate) (cs : List Asked) (old new : Cell) → IsKept s plans cs old → new.lanes ≡ map with_room old.lanes
+    → (lane : ℕ) (v : LaneValue) → slice_get new.lanes lane ≡ Some v → IsServing s (planned_for lane v.takes_plans (plans lane) cs) lane (deeds_of_lane s lane cs) v
+serves_roomy s plans cs old new kept now =
+    serves_each s plans cs old new with_room (λ lane. deeds_of_lane s lane cs) kept now (λ v. refl) (λ lane v p at is. serves_room s p lane (deeds_of_lane s lane cs) v (with_room v) is refl)
+
+serves_told : (s : Setting) (plans : ℕ → List Fate) (cs : List Asked) (o : Option PublishFault) (state : ClusterState) (deaf : ℕ) (old new : Cell) (k : ℕ) → IsKept s plans cs old → IsStateTold k o state deaf old new
+    → (lane : ℕ) (v : LaneValue) → slice_get new.lanes lane ≡ Some v → IsServing s (planned_for lane v.takes_plans (plans lane) cs) lane (with_state o state deaf (deeds_of_lane s lane cs)) v
+serves_told s plans cs None state deaf old new k kept d = serves_state s plans cs state deaf old new k kept d
+serves_told s plans cs (Some why) state deaf old new k kept d = serves_roomy s plans cs old new kept (ap (λ (x : Cell). x.lanes) d)
+
+-- what else is told, dealt with and there then
+record IsToldThen (k : ℕ) (o : Option PublishFault) (state : ClusterState) (old new : Cell) : Type 0 where
+  bits : new.bits ≡ old.bits
+  told : new.told ≡ told_with o state old.told
+  dealt : new.dealt ≡ k
+  lanes : length new.lanes ≡ length old.lanes
+  upkeeps : new.upkeeps ≡ old.upkeeps
+
+told_then : (k : ℕ) (o : Option PublishFault) (state : ClusterState) (deaf : ℕ) (old new : Cell) → IsStateTold k o state deaf old new → IsToldThen k o state old new
+told_then k None state deaf old new d = record {
+  bits = ap (λ (x : Cell). x.bits) d.now;
+  told = ap (λ (x : Cell). x.told) d.now;
+  dealt = ap (λ (x : Cell). x.dealt) d.now;
+  lanes = ap (λ (x : Cell). length x.lanes) d.now ∙ length-map old.lanes (after_state state deaf);
+  upkeeps = ap (λ (x : Cell). x.upkeeps) d.now;
+}
+told_then k (Some why) state deaf old new d = record {
+  bits = ap (λ (x : Cell). x.bits) d;
+  told = ap (λ (x : Cell). x.told) d;
+  dealt = ap (λ (x : Cell). x.dealt) d;
+  lanes = ap (λ (x : Cell). length x.lanes) d ∙ length-map old.lanes with_room;
+  upkeeps = ap (λ (x : Cell). x.upkeeps) d;
+}
+
+kept_told : (s : Setting) (plans : ℕ → List Fate) (cs : List Asked) (state : ClusterState) (deaf : ℕ) (old new : Cell) (k : ℕ) → IsKept s plans cs old → k ≡ length cs + 1
+    → IsStateTold k (publish_fault old.told state) state deaf old new → IsKept s plans (cs ++ command.State state deaf ∷ []) new
+kept_told s plans cs state deaf old new k kept is d =
+    let told = told_then k (publish_fault old.told state) state deaf old new d in
+    kept_next s plans cs (command.State state deaf) old new k kept is told.bits told.told told.dealt told.lanes
+    (λ lane v at. subst (λ t. IsServing s (planned_for lane v.takes_plans (plans lane) cs) lane (with_state (publish_fault t state) state deaf (deeds_of_lane s lane cs)) v) kept.told
+    (serves_told s plans cs (publish_fault old.told state) state deaf old new k kept d lane v at))
+    (same_spans k old new told.upkeeps)
+
+kept_stop : (s : Setting) (plans : ℕ → List Fate) (cs : List Asked) (node : ℕ) (old new : Cell) (k : ℕ) → IsKept s plans cs old → k ≡ length cs + 1 → IsDoneInEach k (after_stop node) old new → IsKept s plans (cs ++ command.Stop node ∷ []) new
+kept_stop s plans cs node old new k kept is d =
+    kept_next s plans cs (command.Stop node) old new k kept is (ap (λ (x : Cell). x.bits) d.now) (ap (λ (x : Cell). x.told) d.now) (ap (λ (x : Cell). x.dealt) d.now)
+    (ap (λ (x : Cell). length x.lanes) d.now ∙ length-map old.lanes (after_stop node))
+    (serves_each s plans cs old new (after_stop node) (λ lane. Stops node ∷ deeds_of_lane s lane cs) kept (ap (λ (x : Cell). x.lanes) d.now) (λ v. refl)
+    (λ lane v p at on. serves_stopped s p lane (deeds_of_lane s lane cs) v (after_stop node v) node on refl (d.holds lane (after_stop node v) at)))
+    (same_spans k old new (ap (λ (x : Cell). x.upkeeps) d.now))
+
+kept_start : (s : Setting) (plans : ℕ → List Fate) (cs : List Asked) (node : ℕ) (old new : Cell) (k : ℕ) → IsKept s plans cs old → k ≡ length cs + 1 → IsDoneInEach k (after_start node) old new → IsKept s plans (cs ++ command.Start node ∷ []) new
+kept_start s plans cs node old new k kept is d =
+    kept_next s plans cs (command.Start node) old new k kept is (ap (λ (x : Cell). x.bits) d.now) (ap (λ (x : Cell). x.told) d.now) (ap (λ (x : Cell). x.dealt) d.now)
+    (ap (λ (x : Cell). length x.lanes) d.now ∙ length-map old.lanes (after_start node))
+    (serves_each s plans cs old new (after_start node) (λ lane. Starts node ∷ deeds_of_lane s lane cs) kept (ap (λ (x : Cell). x.lanes) d.now) (λ v. refl)
+    (λ lane v p at on. serves_started s p lane (deeds_of_lane s lane cs) v (after_start node v) node on refl (d.holds lane (after_start node v) at)))
+    (same_spans k old new (ap (λ (x : Cell). x.upkeeps) d.now))
+
+-- ---- a plan of messages
+
+-- the lane once these fates were planned
+abbrev pub after_plan : List Fate → LaneValue → LaneValue
+after_plan fates v = record v { planned = planned_with v.takes_plans v.planned fates }
+
+planned_here : (s : Setting) (plans : ℕ → List Fate) (cs : List Asked) (at k : ℕ) (fates : List Fate) (old new : Cell) → IsKept s plans cs old → (d : IsPlannedIn k at fates old new)
+    → IsServing s (planned_with (d.before).takes_plans (planned_for at (d.before).takes_plans (plans at) cs) fates) at (deeds_of_lane s at cs) (after_plan fates d.before)
+planned_here s plans cs at k fates old new kept d =
+    let is = kept.serving at d.before d.there in
+    subst (λ p. IsServing s (planned_with (d.before).takes_plans p fates) at (deeds_of_lane s at cs) (after_plan fates d.before)) is.planned_are
+    (serves_planned s (planned_for at (d.before).takes_plans (plans at) cs) at (deeds_of_lane s at cs) d.before (after_plan fates d.before) (planned_with (d.before).takes_plans (d.before).planned fates) is refl)
+
+serves_plan : (s : Setting) (plans : ℕ → List Fate) (cs : List Asked) (at k : ℕ) (fates : List Fate) (old new : Cell) → IsKept s plans cs old → (d : IsPlannedIn k at fates old new)
+    → ServesNext s plans cs (command.Net at fates) k (set old.lanes at (after_plan fates d.before))
+serves_plan s plans cs at k fates old new kept d lane v h =
+    let p = planned_for lane v.takes_plans (plans lane) cs in
+    elim (element_set old.lanes at lane (after_plan fates d.before) v h) [
+      | inl here ↦
+          subst (λ q. IsServing s q lane (deeds_of_lane s lane cs) v) (sym (plan_own lane at v.takes_plans fates p here.0))
+          (subst (λ (w : LaneValue). IsServing s (planned_with w.takes_plans (planned_for lane w.takes_plans (plans lane) cs) fates) lane (deeds_of_lane s lane cs) w) here.1
+          (subst (λ n. IsServing s (planned_with (d.before).takes_plans (planned_for n (d.before).takes_plans (plans n) cs) fates) n (deeds_of_lane s n cs) (after_plan fates d.before)) here.0
+          (planned_here s plans cs at k fates old new kept d)))
+      | inr there ↦
+          subst (λ q. IsServing s q lane (deeds_of_lane s lane cs) v) (sym (plan_other lane at v.takes_plans fates p there.0)) (kept.serving lane v there.1)
+    ]
+
+kept_plan : (s : Setting) (plans : ℕ → List Fate) (cs : List Asked) (at k : ℕ) (fates : List Fate) (old new : Cell) → IsKept s plans cs old → k ≡ length cs + 1 → IsPlannedIn k at fates old new
+    → IsKept s plans (cs ++ command.Net at fates ∷ []) new
+kept_plan s plans cs at k fates old new kept is d =
+    kept_next s plans cs (command.Net at fates) old new k kept is (ap (λ (x : Cell). x.bits) d.now) (ap (λ (x : Cell). x.told) d.now) (ap (λ (x : Cell). x.dealt) d.now)
+    (ap (λ (x : Cell). length x.lanes) d.now ∙ length-set old.lanes at (after_plan fates d.before))
+    (λ lane v h. serves_plan s plans cs at k fates old new kept d lane v (subst (λ (x : Cell). slice_get x.lanes lane ≡ Some v) d.now h))
+    (same_spans k old new (ap (λ (x : Cell). x.upkeeps) d.now))
+
+-- ---- upkeep
+
+-- the lane as it was
+pub lane_was : (vs ws : List LaneValue) (lane : ℕ) (w : LaneValue) → length ws ≡ length vs → slice_get ws lane ≡ Some w → (v : LaneValue) × (slice_get vs lane ≡ Some v)
+lane_was [] ws lane w count at = absurd (omega (arith, count, slice_get_within ws lane w at))
+lane_was (v ∷ vs) [] lane w count at = absurd (omega (arith, count))
+lane_was (v ∷ vs) (x ∷ ws) zero w count at = (v, refl)
+lane_was (v ∷ vs) (x ∷ ws) (suc lane) w count at = lane_was vs ws lane w (omega (arith, count)) at
+
+-- it may have made a pass, and is legal
+pub passed_legal : (v w : LaneValue) → MayHavePassed v w → IsLaneValue v → MayBeUpkept v w × IsLaneValue w
+passed_legal v w (inl same) holds = (inl same, subst IsLaneValue (sym same) holds)
+passed_legal v w (inr m) holds = (inr m.0, m.1)
+
+pub takes_same : (v w : LaneValue) → MayHavePassed v w → w.takes_plans ≡ v.takes_plans
+takes_same v w (inl same) = ap (λ (x : LaneValue). x.takes_plans) same
+takes_same v w (inr m) = ap (λ (x : LaneValue). x.takes_plans) (m.0).after
+
+serves_maintain : (s : Setting) (plans : ℕ → List Fate) (cs : List Asked) (old new : Cell) (k : ℕ) → IsKept s plans cs old → MayHaveAllPassed old.lanes new.lanes → ServesNext s plans cs command.Maintain k new.lanes
+serves_maintain s plans cs old new k kept d lane w at =
+    let was = lane_was old.lanes new.lanes lane w d.count at in
+    let v = was.0 in
+    let may = d.each lane v w was.1 at in
+    let serving = kept.serving lane v was.1 in
+    let legal = passed_legal v w may serving.holds in
+    subst (λ t. IsServing s (planned_for lane t (plans lane) cs) lane (Maintains ∷ deeds_of_lane s lane cs) w) (sym (takes_same v w may))
+    (serves_upkept s (planned_for lane v.takes_plans (plans lane) cs) lane (deeds_of_lane s lane cs) v w serving legal.0 legal.1)
+
+leaves_noted : (k : ℕ) (old new : Cell) → (new.upkeeps ≡ old.upkeeps) ⊎ HasSpans k old new → LeavesSpans k old new
+leaves_noted k old new (inl same) line other = ap (spans_of line) same
+leaves_noted k old new (inr h) line other = ap (spans_of line) h.noted ∙ spans_other line old.upkeeps (record { line = k; spans = h.spans }) other
+
+kept_maintain : (s : Setting) (plans : ℕ → List Fate) (cs : List Asked) (old new : Cell) (k : ℕ) → IsKept s plans cs old → k ≡ length cs + 1 → IsMaintained k old new → IsKept s plans (cs ++ command.Maintain ∷ []) new
+kept_maintain s plans cs old new k kept is d =
+    kept_next s plans cs command.Maintain old new k kept is (ap (λ (x : Cell). x.bits) d.now) (ap (λ (x : Cell). x.told) d.now) (ap (λ (x : Cell). x.dealt) d.now) (d.lanes).count
+    (serves_maintain s plans cs old new k kept d.lanes) (leaves_noted k old new d.spans)
+
+-- ---- any line
+
+pub kept_more : (s : Setting) (plans : ℕ → List Fate) (cs : List Asked) (c : Asked) (old new : Cell) (k : ℕ) → IsKept s plans cs old → k ≡ length cs + 1 → IsAfter s k c old new → IsKept s plans (cs ++ c ∷ []) new
+kept_more s plans cs command.Blank old new k kept is now = kept_plain s plans cs command.Blank old new k kept is (λ told. refl) (serves_same s plans cs old new k kept now) now
+kept_more s plans cs command.TooLong old new k kept is now = kept_plain s plans cs command.TooLong old new k kept is (λ told. refl) (serves_same s plans cs old new k kept now) now
+kept_more s plans cs (command.Bad why) old new k kept is now = kept_plain s plans cs (command.Bad why) old new k kept is (λ told. refl) (serves_same s plans cs old new k kept now) now
+kept_more s plans cs (command.Feed op via) old new k kept is now = kept_operation s plans cs op via old new k now.0 kept is now.1
+kept_more s plans cs (command.State state deaf) old new k kept is now = kept_told s plans cs state deaf old new k kept is now
+kept_more s plans cs (command.BadState offset) old new k kept is now = kept_plain s plans cs (command.BadState offset) old new k kept is (λ told. refl) (serves_same s plans cs old new k kept now) now
+kept_more s plans cs (command.Stop node) old new k kept is now = kept_stop s plans cs node old new k kept is now
+kept_more s plans cs (command.Start node) old new k kept is now = kept_start s plans cs node old new k kept is now
+kept_more s plans cs (command.Net at fates) old new k kept is now = kept_plan s plans cs at k fates old new kept is now
+kept_more s plans cs command.Maintain old new k kept is now = kept_maintain s plans cs old new k kept is now
+
+-- ---- whose spans a line leaves
+
+-- it asked for upkeep, or noted none
+pub noted_after : (s : Setting) (c : Asked) (old new : Cell) (k : ℕ) → IsAfter s k c old new → (c ≡ command.Maintain) ⊎ (new.upkeeps ≡ old.upkeeps)
+noted_after s command.Blank old new k now = inr (ap (λ (x : Cell). x.upkeeps) now)
+noted_after s command.TooLong old new k now = inr (ap (λ (x : Cell). x.upkeeps) now)
+noted_after s (command.Bad why) old new k now = inr (ap (λ (x : Cell). x.upkeeps) now)
+noted_after s (command.Feed op via) old new k now = inr (ap (λ (x : Cell). x.upkeeps) (now.1).now)
+noted_after s (command.State state deaf) old new k now = inr (told_then k (publish_fault old.told state) state deaf old new now).upkeeps
+noted_after s (command.BadState offset) old new k now = inr (ap (λ (x : Cell). x.upkeeps) now)
+noted_after s (command.Stop node) old new k now = inr (ap (λ (x : Cell). x.upkeeps) now.now)
+noted_after s (command.Start node) old new k now = inr (ap (λ (x : Cell). x.upkeeps) now.now)
+noted_after s (command.Net at fates) old new k now = inr (ap (λ (x : Cell). x.upkeeps) now.now)
+noted_after s command.Maintain old new k now = inl refl
+
+pub leaves_spans : (s : Setting) (c : Asked) (old new : Cell) (k : ℕ) → IsAfter s k c old new → LeavesSpans k old new
+leaves_spans s c old new k after = elim (noted_after s c old new k after) [
+  | inl is ↦ leaves_noted k old new (subst (λ (x : Asked). IsAfter s k x old new) is after).spans
+  | inr same ↦ same_spans k old new same
+]
+
+-- ---- room alone
+
+-- a lane of which all but the room is the same
+but_room : (v w : LaneValue) → without_room v ≡ without_room w → v ≡ record w { has_room = v.has_room }
+but_room v w same = ap (λ (x : LaneValue). record x { has_room = v.has_room }) same
+
+serves_roomier : (s : Setting) (plans : ℕ → List Fate) (cs : List Asked) (old new : Cell) → IsKept s plans cs old → map without_room new.lanes ≡ map without_room old.lanes
+    → (lane : ℕ) (v : LaneValue) → slice_get new.lanes lane ≡ Some v → IsServing s (planned_for lane v.takes_plans (plans lane) cs) lane (deeds_of_lane s lane cs) v
+serves_roomier s plans cs old new kept same lane v at =
+    let found = element_seen without_room old.lanes new.lanes lane v same at in
+    let w = found.0 in
+    let is = but_room v w found.1.1 in
+    subst (λ t. IsServing s (planned_for lane t (plans lane) cs) lane (deeds_of_lane s lane cs) v) (sym (ap (λ (x : LaneValue). x.takes_plans) is))
+    (serves_room s (planned_for lane w.takes_plans (plans lane) cs) lane (deeds_of_lane s lane cs) w v (kept.serving lane w found.1.0) is)
+
+pub kept_roomier : (s : Setting) (plans : ℕ → List Fate) (cs : List Asked) (old new : Cell) → IsRoomier old new → IsKept s plans cs old → IsKept s plans cs new
+kept_roomier s plans cs old new r kept = record {
+  bits = ap (λ (x : Cell). x.bits) r.rest ∙ kept.bits;
+  told = ap (λ (x : Cell). x.told) r.rest ∙ kept.told;
+  dealt = ap (λ (x : Cell). x.dealt) r.rest ∙ kept.dealt;
+  lanes = sym (length-map new.lanes without_room) ∙ ap length r.lanes ∙ length-map old.lanes without_room ∙ kept.lanes;
+  serving = serves_roomier s plans cs old new kept r.lanes;
+  unkept = λ line later. ap (λ (x : Cell). spans_of line x.upkeeps) r.rest ∙ kept.unkept line (subst (λ (x : Cell). x.dealt < line) r.rest later);
+}

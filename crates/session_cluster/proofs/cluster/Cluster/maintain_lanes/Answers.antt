@@ -1,0 +1,19 @@
+use Rattle.std.proofs.Common.{sym, ap, ◌∙◌, subst}
+use Rattle.std.proofs.lemmas.List.{with_items_is}
+use Rattle.session_cluster.specs.Cells.{Cell}
+use Rattle.session_cluster.specs.Steps.{EachLane, MayMaintain}
+use Rattle.session_cluster.proofs.Passing.{passed_many, lanes_made, lanes_passed, lanes_spans}
+use Rattle.session_cluster.proofs.cluster.Cluster.maintain_lanes.Goals as goal
+
+pub maintain_all-made-requires-clause-may : goal.maintain_all-made-requires-clause-may
+maintain_all-made-requires-clause-may g c = subst (EachLane MayMaintain) (sym (c.deref_mut.ensures.value ∙ ap (λ (x : Cell). x.lanes) c.self.view_is)) c.requires.may
+
+pub returns-clause-passed : goal.returns-clause-passed
+returns-clause-passed g c =
+    lanes_passed c.args.self.now _ _ c.maintain_all-made.new.lanes _ c.self.view_is c.deref_mut.ensures.value c.maintain_all-made.ensures.passed
+    (with_items_is c.self.inside.lanes c.maintain_all-made.new.lanes (passed_many c.self.inside.lanes.items _ c.maintain_all-made.new.lanes _ c.self.inside.lanes.ok.0 c.deref_mut.ensures.value c.maintain_all-made.ensures.passed))
+
+pub returns-clause-spans : goal.returns-clause-spans
+returns-clause-spans g c =
+    lanes_spans _ c.args.self.now _ _ c.maintain_all-made.new.lanes _ _ c.self.view_is c.deref_mut.ensures.value c.maintain_all-made.ensures.spans
+    (with_items_is c.self.inside.lanes c.maintain_all-made.new.lanes (passed_many c.self.inside.lanes.items _ c.maintain_all-made.new.lanes _ c.self.inside.lanes.ok.0 c.deref_mut.ensures.value c.maintain_all-made.ensures.passed))

@@ -1,0 +1,46 @@
+-- How a cluster is seen.
+use Rattle.std.specs.Prelude.{◌≡◌, ◌==◌, ◌&&◌, ◌⊎◌, ℕ, ◌^◌, ◌≤◌, Bool, List, length, map, refl}
+use Rattle.std.specs.Coded.{Coded, code_by, coded×, coded_ℕ, coded_list}
+use Rattle.cluster_states.specs.Publishing.{Told}
+use Rattle.cluster_states.specs.declared.cluster_state.ClusterState.{ClusterState}
+use Rattle.cluster_states.specs.contracts.cluster_state.ClusterState as states
+use Rattle.lane_values.specs.LaneValues.{LaneValue, lane_code}
+use Rattle.lane_journals.specs.declared.event.LaneEvent.{LaneEvent}
+use Rattle.session_cluster.specs.declared.spans.LineSpans.{LineSpans}
+use Rattle.session_cluster.specs.contracts.spans.LineSpans as line_spans
+
+-- how many low bits of a key tell the lanes apart; the states that were published, and how many acknowledgements a
+-- write needs; what each lane is; how many lines were dealt with; and how the upkeep went that lines asked for
+pub record Cell : Type 0 where
+  pub bits : ℕ
+  pub told : Told
+  pub lanes : List LaneValue
+  pub dealt : ℕ
+  pub upkeeps : List LineSpans
+
+abbrev pub told_code : Coded Told
+told_code = code_by (ℕ × List ClusterState) (coded× coded_ℕ (coded_list states.the_row.coded)) (λ t. (t.acks, t.states)) (λ p. record { acks = p.0; states = p.1 }) (λ _. refl)
+
+abbrev pub cell_code : Coded Cell
+cell_code = code_by (ℕ × (Told × (List LaneValue × (ℕ × List LineSpans))))
+    (coded× coded_ℕ (coded× told_code (coded× (coded_list lane_code) (coded× coded_ℕ (coded_list line_spans.the_row.coded)))))
+    (λ c. (c.bits, (c.told, (c.lanes, (c.dealt, c.upkeeps)))))
+    (λ p. record { bits = p.0; told = p.1.0; lanes = p.1.1.0; dealt = p.1.1.1.0; upkeeps = p.1.1.1.1 })
+    (λ _. refl)
+
+-- the journal of each lane, newest event first
+abbrev pub journals : List LaneValue → List (List LaneEvent)
+journals vs = map (λ (v : LaneValue). v.journal) vs
+
+abbrev pub journals_of : Cell → List (List LaneEvent)
+journals_of c = journals c.lanes
+
+-- there is no lane, no line was dealt with, and no upkeep was made
+abbrev pub is_empty : Cell → Bool
+is_empty c = length c.lanes == 0 && (c.dealt == 0 && length c.upkeeps == 0)
+
+-- a cluster has no lane, or all that its bits tell apart
+pub record IsCluster (bits lanes : ℕ) : Type 0 where
+  pub some : 1 ≤ bits
+  pub most : bits ≤ 6
+  pub whole : (lanes ≡ 0) ⊎ (lanes ≡ 2 ^ bits)

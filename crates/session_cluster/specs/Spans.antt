@@ -1,0 +1,36 @@
+-- How the upkeep went that lines asked for.
+use Rattle.std.specs.Prelude.{◌==◌, ℕ, nat_eq, Bool, true, false, List, [], ◌∷◌, Option, None, Some, option_and_then, slice_get, if◌then◌else◌}
+use Rattle.std.specs.List.{count_by}
+use Rattle.upkeep_spans.specs.declared.answers.Upkeep.{Upkeep}
+use Rattle.upkeep_spans.specs.declared.answers.Upkeep.TheVariants.{Rested, Blocked, Disturbed}
+use Rattle.lane_lives.specs.declared.spans.UpkeepSpan.{UpkeepSpan}
+use Rattle.session_cluster.specs.declared.spans.LineSpans.{LineSpans}
+
+-- it was noted of this line
+abbrev pub is_of : ℕ → LineSpans → Bool
+is_of line u = nat_eq u.line line
+
+-- the spans of a line that asked for upkeep and was answered
+abbrev pub spans_of : ℕ → List LineSpans → Option (List UpkeepSpan)
+spans_of line [] = None
+spans_of line (u ∷ us) = if u.line == line then Some u.spans else spans_of line us
+
+-- that of a lane among them
+abbrev pub span_in : ℕ → ℕ → List LineSpans → Option UpkeepSpan
+span_in lane line us = option_and_then (λ spans. slice_get spans lane) (spans_of line us)
+
+abbrev pub is_rested : Upkeep → Bool
+is_rested Rested = true
+is_rested _ = false
+
+abbrev pub is_blocked : Upkeep → Bool
+is_blocked (Blocked absent) = true
+is_blocked _ = false
+
+abbrev pub is_disturbed : Upkeep → Bool
+is_disturbed (Disturbed message) = true
+is_disturbed _ = false
+
+-- in how many lanes the answer is of a kind
+abbrev pub count_of : (Upkeep → Bool) → List UpkeepSpan → ℕ
+count_of is spans = count_by (λ (s : UpkeepSpan). is s.answer) spans

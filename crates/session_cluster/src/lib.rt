@@ -1,0 +1,25 @@
+//! The cluster of a session: all its lanes, and what a line does in them.
+//!
+//! A contract sees a `Cluster` as a `Cell`: the bits that tell its lanes apart, the states that were published, what each lane
+//! is (its journal, newest event first, and the fates of its messages), how many lines were dealt with, and how the upkeep
+//! went that lines asked for. `specs/Steps.antt` says what one line makes of it, `specs/Deeds.antt` the same as deeds of each lane,
+//! and `specs/Output.antt` with which bytes it is answered, read off the lanes.
+//!
+//! ```text
+//! let mut cluster = Cluster::empty(alloc);
+//! open_cluster(alloc, &setting, &mut carriers, &mut cluster)?;
+//! cluster.deal(alloc, line, asked)?;
+//! ```
+#![tactic(auto)]
+
+pub mod asked;
+pub mod cluster;
+mod dealing;
+mod every_lane;
+pub mod opening;
+pub mod spans;
+mod upkeep;
+
+pub use asked::Asked;
+pub use cluster::Cluster;
+pub use spans::{LineSpans, SpanList};

@@ -1,5 +1,0 @@
-use Rattle.session_lanes.proofs.Refusals.{refused_with_cause}
-use Rattle.session_lanes.proofs.laws.lines_are_refused_with_cause.Goals as goal
-
-pub returns : goal.returns
-returns c = refused_with_cause

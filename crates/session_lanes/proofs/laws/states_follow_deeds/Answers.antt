@@ -1,5 +1,0 @@
-use Rattle.session_lanes.proofs.Living.{events_told, states_published, newest_published}
-use Rattle.session_lanes.proofs.laws.states_follow_deeds.Goals as goal
-
-pub returns : goal.returns
-returns c = record { events = events_told; states = states_published; newest = newest_published }

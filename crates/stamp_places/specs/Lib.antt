@@ -1,2 +1,0 @@
--- `Places` says which place is kept for a stamp.
-pub mod Places

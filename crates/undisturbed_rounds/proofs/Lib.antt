@@ -1,0 +1,6 @@
+mod Rounding
+mod Uniting
+mod Noted
+mod Running
+mod Bounds
+mod Ended

@@ -1,5 +1,0 @@
-use Rattle.upkeep_runs.proofs.Ending.{pass_ends}
-use Rattle.upkeep_runs.proofs.laws.passes_end.Goals as goal
-
-pub returns : goal.returns
-returns c = λ s still first v made notes ns sound x. pass_ends s still first v made notes ns sound x

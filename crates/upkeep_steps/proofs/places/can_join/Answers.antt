@@ -1,5 +1,0 @@
-use Rattle.upkeep_steps.proofs.Siblings.{can_join_is}
-use Rattle.upkeep_steps.proofs.places.can_join.Goals as goal
-
-pub returns : goal.returns
-returns c = λ row found. can_join_is c.args.part.now c.args.at row c.can_join.result c.can_join.ensures c.rows-rows.ensures.of_lane found

@@ -1,6 +1,0 @@
-use Rattle.std.proofs.Common.{◌≡◌, drop}
-use Rattle.upkeep_steps.specs.Settling.{serial_among}
-use Rattle.upkeep_steps.proofs.settling.serial_at.Given as goal
-
-abbrev pub invariant-loop-exact : goal.invariant-loop-exact
-invariant-loop-exact l = serial_among (l.note.exact).items l.node ≡ serial_among (drop l.exact-index (l.note.exact).items) l.node
