@@ -54,7 +54,7 @@ fn other_half(low: u64, half: u64) -> u64
 }
 
 impl Bucket {
-    /// The bucket of these low bits; takes no memory.
+    /// The bucket of these low bits.
     pub fn new(bits: u8, low: u64) -> Bucket
         requires some { 1 ≤ bits }
         requires most { bits ≤ 58 }
@@ -173,8 +173,7 @@ impl Bucket {
         (first, first + (u64::MAX >> self.bits))
     }
 
-    /// The bucket's number, `bits * 2^58 + low`, in 16 lower-case hexadecimal digits. The only
-    /// error is want of memory.
+    /// The bucket's number, `bits * 2^58 + low`, in 16 lower-case hexadecimal digits.
     pub fn print(self, alloc: Global) -> Result<String, NoMemory>
         ensures { IfOk result (λ text. string_bytes text ≡ printed self) }
     {
@@ -201,7 +200,7 @@ impl Bucket {
         Ok(Bucket { bits, low })
     }
 
-    /// The bucket that this text is printed of; takes no memory.
+    /// The bucket that this text is printed of.
     pub fn parse(text: &str) -> Result<Bucket, BadBucket>
         ensures read { IfOk result (λ b. IsBucket b × (text.now ≡ printed b)) }
         ensures exact { (b : Low) → IsBucket b → text.now ≡ printed b → result ≡ Ok b }

@@ -23,7 +23,7 @@ pub trait Carrier {
     /// The number of faults that is counted last, where there is one.
     ghost last: { Option ℕ };
 
-    /// The fate of the message of this number, the next one; takes no memory.
+    /// The fate of the message of this number, the next one.
     fn fate(&mut self, number: u64) -> Fate
         requires next { number ≡ length (given self.old) + 1 }
         ensures given { given self.new ≡ given self.old ++ result ∷ [] }
@@ -53,7 +53,7 @@ pub trait Carriers {
     /// The fates that are planned for each lane from the start.
     ghost plans: { Self → ℕ → List Fate };
 
-    /// The carrier of a lane, which gave no fate yet. The only error is want of memory.
+    /// The carrier of a lane, which gave no fate yet.
     fn make(&mut self, alloc: Global, lane: u8) -> Result<Self::One, NoMemory>
         ensures new { IfOk result (λ one. Self.One.given one ≡ []) }
         ensures planned { IfOk result (λ one. Self.One.planned one ≡ plans self.old lane) }

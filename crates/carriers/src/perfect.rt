@@ -22,7 +22,7 @@ impl Model for PerfectCarrier {
 }
 
 impl PerfectCarrier {
-    /// A carrier that gave no fate; takes no memory.
+    /// A carrier that gave no fate.
     pub fn new() -> PerfectCarrier
         ensures { result ≡ 0 }
     {

@@ -102,7 +102,7 @@ fn have_numbers(number: u64, count: usize) -> bool
 }
 
 impl PlanCarrier {
-    /// A carrier that gave no fate and has none planned; takes no memory.
+    /// A carrier that gave no fate and has none planned.
     pub fn new(alloc: Global) -> PlanCarrier
         ensures { result ≡ record { given = []; planned = []; waiting = []; faults = 0 } }
     {

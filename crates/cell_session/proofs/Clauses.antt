@@ -1,5 +1,5 @@
 -- What the ends of a session say, clause by clause.
-use Rattle.std.proofs.Common.{◌≡◌, ◌==◌, ◌&&◌, IsTrue, ℕ, zero, suc, ◌<◌, ◌≤◌, true, List, [], ◌∷◌, Option, None, Some, inl, inr, refl, sym, ap, ◌∙◌, subst, arith, length, map, take, slice_get, IsSome}
+use Rattle.std.proofs.Common.{◌≡◌, ◌==◌, ◌&&◌, IsTrue, ℕ, zero, suc, ◌<◌, ◌≤◌, true, List, [], ◌∷◌, Option, None, Some, inl, inr, refl, sym, ap, ◌∙◌, subst, arith, length, map, slice_get, IsSome}
 use Rattle.std.proofs.lemmas.Bool.{false≢true}
 use Rattle.std.proofs.lemmas.Bool.Decides.{nat_tests}
 use Rattle.std.proofs.lemmas.List.{length-map}
@@ -23,28 +23,27 @@ use Rattle.lane_values.specs.Settings.{lane_count, IsSetting}
 use Rattle.session_settings.specs.declared.choice.Choice.{Choice}
 use Rattle.lane_values.specs.declared.setting.Setting.{Setting}
 use Rattle.session_settings.proofs.Choosing.{one_choice, chosen_setting}
-use Rattle.lane_lives.specs.Promises.{IsComplete, KeepsWrites}
+use Rattle.lane_promises.specs.Promises.{IsComplete, KeepsWrites}
+use Rattle.lane_promises.proofs.Before.{legal_tail}
 use Rattle.lane_lives.specs.Serving.{bucket_in}
 use Rattle.lane_lives.proofs.Living.{in_order}
 use Rattle.session_cluster.specs.declared.asked.Asked.{Asked}
-use Rattle.cell_session.specs.Causes.{HaveCauses}
 use Rattle.session_cluster.specs.Cells.{Cell, journals_of, is_empty}
 use Rattle.session_cluster.specs.Deeds.{deeds_of_lane}
+use Rattle.cell_session.specs.Counting.{AreFew}
 use Rattle.cell_session.specs.Dealing.{EndsAs}
 use Rattle.cell_session.specs.Ends.{IfTold, AreFirst, OfFirst, HasLanes, PassesLimit, StopsAt, DealsWith, UsageEnd, Writes}
-use Rattle.cell_session.specs.Hearing.{HaveHeard}
-use Rattle.session_cluster.specs.Keeping.{IsKept}
-use Rattle.session_cluster.specs.Lanes.{Journal, journal_in, AreLegal, AreDurable, AreInOrder, AreTogether, AreComplete}
-use Rattle.cell_session.specs.Operations.{IsCommandAt, WereAsked, HaveOutcomes, HaveFates}
-use Rattle.session_cluster.specs.Output.{output_of}
-use Rattle.cell_session.specs.Upkeep.{HaveUpkeeps}
+use Rattle.cell_session.specs.Lines.{HaveLines}
+use Rattle.session_cluster.specs.Lanes.{Journal, journal_in, AreLegal, AreInOrder, AreTogether}
+use Rattle.cell_session.specs.LanePromises.{AreDurable, AreComplete, AreShownRight}
+use Rattle.cell_session.specs.Operations.{IsCommandAt, WereAsked, HaveFates}
 use Rattle.cell_session.specs.declared.status.Status.{Status}
 use Rattle.cell_session.specs.declared.status.Status.TheVariants as status
 use Rattle.cell_session.proofs.KeptCauses.{AllRefused, AllShort, AllHold, AllHear, kept_causes, kept_heard}
-use Rattle.cell_session.proofs.KeptClauses.{kept_outcomes, kept_fates, kept_together}
+use Rattle.cell_session.proofs.KeptClauses.{kept_outcomes, kept_fates, kept_shown, kept_together}
 use Rattle.session_cluster.proofs.KeptLanes.{in_lanes, kept_legal}
 use Rattle.session_cluster.proofs.LaneLists.{journal_is, journal_at}
-use Rattle.cell_session.proofs.Loops.{appends_nothing, first_none, unopened_ends}
+use Rattle.cell_session.proofs.Loops.{appends_nothing, few_none, first_none, unopened_ends}
 use Rattle.cell_session.proofs.UpkeepLaws.{none_upkept}
 
 -- ---- what is promised of every lane
@@ -56,13 +55,15 @@ abbrev pub AllComplete : Type 0
 AllComplete = (s : Setting) → IsSetting s → (lane : Low) (v : LaneValue) → IsLegal (setting_of lane s.rules) v.journal → IsCarried v.given v.journal → IsComplete s lane v
 
 pub legal_durable : AllDurable → (words : List Text) (x : Choice) (Js : List Journal) → Chooses words x → AreLegal x.setting Js → AreDurable x.setting Js
-legal_durable law words x Js chosen legal lane = law (bucket_in x.setting lane) x.setting.rules (chosen_setting words x chosen).rules.some_acks (journal_in lane Js) (legal lane)
+legal_durable law words x Js chosen legal lane later J is =
+    let set = setting_of (bucket_in x.setting lane) x.setting.rules in
+    law (bucket_in x.setting lane) x.setting.rules (chosen_setting words x chosen).rules.some_acks J (legal_tail set later J (subst (IsLegal set) is (legal lane)))
 
-pub legal_complete : AllComplete → (words : List Text) (x : Choice) (types : Types) (bits : ℕ) (plans : ℕ → List Fate) (text : Option (List ℕ)) (dealt : ℕ) (vs : List LaneValue) → Chooses words x → AreLegal x.setting (map journal_is vs)
-    → HaveFates types bits plans text dealt vs → AreComplete x.setting vs
-legal_complete law words x types bits plans text dealt vs chosen legal fates lane v at =
+pub legal_complete : AllComplete → (words : List Text) (x : Choice) (plans : ℕ → List Fate) (asked : List Asked) (vs : List LaneValue) → Chooses words x → AreLegal x.setting (map journal_is vs)
+    → HaveFates plans asked vs → AreComplete x.setting vs
+legal_complete law words x plans asked vs chosen legal fates lane v at =
     law x.setting (chosen_setting words x chosen) (bucket_in x.setting lane) v
-    (subst (λ J. IsLegal (setting_of (bucket_in x.setting lane) x.setting.rules) J) (journal_at vs lane v at) (legal lane)) (fates.fates lane v at).carried
+    (subst (λ J. IsLegal (setting_of (bucket_in x.setting lane) x.setting.rules) J) (journal_at vs lane v at) (legal lane)) (fates lane v at).carried
 
 -- ---- where there is no lane
 
@@ -103,7 +104,7 @@ pub ends_in_order : (end : Status) (s : Setting) (types : Types) (plans : ℕ �
 ends_in_order end s types plans text left c before now (inl none) = none_in_order c none.none
 ends_in_order end s types plans text left c before now (inr some) = λ lane.
     in_lanes (λ n J. IsOrdered J) c.lanes (λ n earlier line early first second. absurd (false≢true second))
-    (λ n v at. let is = some.kept.serving n v at in in_order s (bucket_in s n) (deeds_of_lane s n some.commands) v.journal is.life is.rising) lane
+    (λ n v at. let is = some.kept.serving n v at in in_order s (bucket_in s n) (deeds_of_lane s c.upkeeps n some.commands) v.journal is.life is.rising) lane
 
 pub none_together : (c : Cell) → c.lanes ≡ [] → AreTogether (journals_of c)
 none_together c none lane other there = absurd (omega (arith, there, ap (λ vs. length (map journal_is vs)) none))
@@ -112,7 +113,7 @@ pub ends_together : (end : Status) (s : Setting) (types : Types) (plans : ℕ �
 ends_together end s types plans text left c before now (inl none) = none_together c none.none
 ends_together end s types plans text left c before now (inr some) = kept_together s plans some.commands c some.kept
 
-all_lanes : (end : Status) (s : Setting) (cs : List Asked) (c : Cell) (before now : Option (List ℕ)) → length (journals_of c) ≡ lane_count s → Writes end s cs c before now → HasLanes end s (journals_of c)
+all_lanes : (end : Status) (s : Setting) (cs : List Asked) (c : Cell) (before now : Option (List ℕ)) → length c.lanes ≡ lane_count s → Writes end s cs c before now → HasLanes end s c
 all_lanes status.Done s cs c before now is wrote = is
 all_lanes status.ReadFault s cs c before now is wrote = is
 all_lanes status.WriteFault s cs c before now is wrote = is
@@ -120,9 +121,15 @@ all_lanes status.NoMemory s cs c before now is wrote = inr is
 all_lanes (status.Limit which) s cs c before now is wrote = is
 all_lanes status.Usage s cs c before now is wrote = absurd wrote
 
-pub ends_lanes : (end : Status) (s : Setting) (types : Types) (plans : ℕ → List Fate) (text left : Option (List ℕ)) (c : Cell) (before now : Option (List ℕ)) → EndsAs end s types plans text left c before now → HasLanes end s (journals_of c)
-ends_lanes end s types plans text left c before now (inl none) = subst (λ e. HasLanes e s (journals_of c)) (sym none.memory) (inl (ap (λ vs. length (map journal_is vs)) none.none))
-ends_lanes end s types plans text left c before now (inr some) = all_lanes end s some.commands c before now (length-map c.lanes journal_is ∙ some.kept.lanes) some.output
+pub ends_lanes : (end : Status) (s : Setting) (types : Types) (plans : ℕ → List Fate) (text left : Option (List ℕ)) (c : Cell) (before now : Option (List ℕ)) → EndsAs end s types plans text left c before now → HasLanes end s c
+ends_lanes end s types plans text left c before now (inl none) = subst (λ e. HasLanes e s c) (sym none.memory) (inl (ap length none.none, none.dealt))
+ends_lanes end s types plans text left c before now (inr some) = all_lanes end s some.commands c before now some.kept.lanes some.output
+
+-- ---- what is shown of them
+
+pub ends_shown : (end : Status) (s : Setting) (types : Types) (plans : ℕ → List Fate) (text left : Option (List ℕ)) (c : Cell) (before now : Option (List ℕ)) → EndsAs end s types plans text left c before now → AreShownRight s c
+ends_shown end s types plans text left c before now (inl none) = λ lane v at. absurd (no_lane c.lanes lane v none.none at)
+ends_shown end s types plans text left c before now (inr some) = kept_shown s plans some.commands c some.kept
 
 -- ---- which lines were dealt with
 
@@ -156,77 +163,48 @@ asked_at : (types : Types) (bits : ℕ) (text : Option (List ℕ)) (cs : List As
 asked_at types bits None cs k c first at = tt
 asked_at types bits (Some t) cs k c first at = first.asked k c at
 
-were_asked : (types : Types) (bits : ℕ) (text : Option (List ℕ)) (cs : List Asked) (dealt : ℕ) → length cs ≡ dealt → IfTold text (λ t. AreFirst types bits t cs) → WereAsked types bits text dealt cs
-were_asked types bits text cs dealt count first = record { count = count; told = λ at c there. asked_at types bits text cs at c first there }
+were_asked : (types : Types) (bits : ℕ) (text : Option (List ℕ)) (cs : List Asked) (dealt : ℕ) → length cs ≡ dealt → AreFew cs → IfTold text (λ t. AreFirst types bits t cs) → WereAsked types bits text dealt cs
+were_asked types bits text cs dealt count few first = record { count = count; told = λ at c there. asked_at types bits text cs at c first there; few = few.few; few_states = few.few_states; few_maintains = few.few_maintains }
 
-none_outcomes : (s : Setting) (types : Types) (text : Option (List ℕ)) (c : Cell) → c.lanes ≡ [] → c.dealt ≡ 0 → HaveOutcomes s types text c.dealt (journals_of c)
-none_outcomes s types text c none dealt = record {
+-- where no line was dealt with, for want of memory
+none_lines : (s : Setting) (types : Types) (plans : ℕ → List Fate) (text : Option (List ℕ)) (c : Cell) → c.lanes ≡ [] → c.dealt ≡ 0 → c.upkeeps ≡ [] → HaveLines status.NoMemory s types plans text c
+none_lines s types plans text c none dealt unkept = record {
   asked = [];
-  were_asked = were_asked types s.bits text [] c.dealt (sym dealt) (told_none types s.bits text);
-  lives = λ lane there. absurd (omega (arith, there, ap (λ vs. length (map journal_is vs)) none));
-  no_others = λ lane line other. subst (λ J. IsFresh (history J) line) (sym (nothing_in c.lanes lane none))
-      (record { unbegun = refl; unrefused = refl; unprepared = refl; unwritten = refl; unclosed = refl });
-}
-
-pub ends_outcomes : (end : Status) (s : Setting) (types : Types) (plans : ℕ → List Fate) (text left : Option (List ℕ)) (c : Cell) (before now : Option (List ℕ)) → EndsAs end s types plans text left c before now → HaveOutcomes s types text c.dealt (journals_of c)
-ends_outcomes end s types plans text left c before now (inl none) = none_outcomes s types text c none.none none.dealt
-ends_outcomes end s types plans text left c before now (inr some) = kept_outcomes s types plans text some.commands c (were_asked types s.bits text some.commands c.dealt (sym some.kept.dealt) some.first) some.kept
-
-pub none_fates : (types : Types) (bits : ℕ) (plans : ℕ → List Fate) (text : Option (List ℕ)) (c : Cell) → c.lanes ≡ [] → c.dealt ≡ 0 → HaveFates types bits plans text c.dealt c.lanes
-none_fates types bits plans text c none dealt = record {
-  asked = [];
-  were_asked = were_asked types bits text [] c.dealt (sym dealt) (told_none types bits text);
+  were_asked = were_asked types s.bits text [] c.dealt (sym dealt) few_none (told_none types s.bits text);
+  one_outcome = record {
+    lives = λ lane there. absurd (omega (arith, there, ap length none));
+    no_others = λ lane line other. subst (λ J. IsFresh (history J) line) (sym (nothing_in c.lanes lane none))
+        (record { unbegun = refl; unrefused = refl; unprepared = refl; unwritten = refl; unclosed = refl });
+  };
+  hearings = record { holds = λ lane v at. absurd (no_lane c.lanes lane v none at); hears = λ lane v at. absurd (no_lane c.lanes lane v none at) };
   fates = λ lane v at. absurd (no_lane c.lanes lane v none at);
+  causes = record {
+    refused = λ lane v at line owner version. absurd (no_lane c.lanes lane v none at);
+    short = λ lane v at line answered needed absent. absurd (no_lane c.lanes lane v none at);
+  };
+  upkeeps = none_upkept status.NoMemory s c unkept;
+  reached = tt;
 }
 
-pub ends_fates : (end : Status) (s : Setting) (types : Types) (plans : ℕ → List Fate) (text left : Option (List ℕ)) (c : Cell) (before now : Option (List ℕ)) → EndsAs end s types plans text left c before now
-    → HaveFates types s.bits plans text c.dealt c.lanes
-ends_fates end s types plans text left c before now (inl none) = none_fates types s.bits plans text c none.none none.dealt
-ends_fates end s types plans text left c before now (inr some) = kept_fates s types plans text some.commands c (were_asked types s.bits text some.commands c.dealt (sym some.kept.dealt) some.first) some.kept
+-- what is promised of every lane's lines
+pub record AllLines : Type 0 where
+  pub refused : AllRefused
+  pub short : AllShort
+  pub hold : AllHold
+  pub hear : AllHear
 
-none_causes : (s : Setting) (types : Types) (text : Option (List ℕ)) (c : Cell) → c.lanes ≡ [] → c.dealt ≡ 0 → HaveCauses s types text c.dealt c.lanes
-none_causes s types text c none dealt = record {
-  asked = [];
-  were_asked = were_asked types s.bits text [] c.dealt (sym dealt) (told_none types s.bits text);
-  refused = λ lane v at line owner version. absurd (no_lane c.lanes lane v none at);
-  short = λ lane v at line answered needed absent. absurd (no_lane c.lanes lane v none at);
-}
-
-pub ends_causes : AllRefused → AllShort → (end : Status) (s : Setting) → IsSetting s → (types : Types) (plans : ℕ → List Fate) (text left : Option (List ℕ)) (c : Cell) (before now : Option (List ℕ)) → EndsAs end s types plans text left c before now
-    → HaveCauses s types text c.dealt c.lanes
-ends_causes refused short end s setting types plans text left c before now (inl none) = none_causes s types text c none.none none.dealt
-ends_causes refused short end s setting types plans text left c before now (inr some) =
-    kept_causes refused short s setting types plans text some.commands c (were_asked types s.bits text some.commands c.dealt (sym some.kept.dealt) some.first) some.kept
-
-none_heard : (s : Setting) (types : Types) (text : Option (List ℕ)) (c : Cell) → c.lanes ≡ [] → c.dealt ≡ 0 → HaveHeard s types text c.dealt c.lanes
-none_heard s types text c none dealt = record {
-  asked = [];
-  were_asked = were_asked types s.bits text [] c.dealt (sym dealt) (told_none types s.bits text);
-  holds = λ lane v at. absurd (no_lane c.lanes lane v none at);
-  hears = λ lane v at. absurd (no_lane c.lanes lane v none at);
-}
-
-pub ends_heard : AllHold → AllHear → (end : Status) (s : Setting) (types : Types) (plans : ℕ → List Fate) (text left : Option (List ℕ)) (c : Cell) (before now : Option (List ℕ)) → EndsAs end s types plans text left c before now
-    → HaveHeard s types text c.dealt c.lanes
-ends_heard hold hear end s types plans text left c before now (inl none) = none_heard s types text c none.none none.dealt
-ends_heard hold hear end s types plans text left c before now (inr some) =
-    kept_heard hold hear s types plans text some.commands c (were_asked types s.bits text some.commands c.dealt (sym some.kept.dealt) some.first) some.kept
-
--- ---- upkeep
-
-none_upkeeps : (end : Status) (s : Setting) (types : Types) (text : Option (List ℕ)) (c : Cell) → c.upkeeps ≡ [] → c.dealt ≡ 0 → HaveUpkeeps end s types text c
-none_upkeeps end s types text c none dealt = record {
-  asked = [];
-  were_asked = were_asked types s.bits text [] c.dealt (sym dealt) (told_none types s.bits text);
-  are = none_upkept end s c none;
-}
-
-pub ends_upkeeps : (end : Status) (s : Setting) (types : Types) (plans : ℕ → List Fate) (text left : Option (List ℕ)) (c : Cell) (before now : Option (List ℕ)) → EndsAs end s types plans text left c before now → HaveUpkeeps end s types text c
-ends_upkeeps end s types plans text left c before now (inl none) = none_upkeeps end s types text c none.unkept none.dealt
-ends_upkeeps end s types plans text left c before now (inr some) = record {
+pub ends_lines : AllLines → (end : Status) (s : Setting) → IsSetting s → (types : Types) (plans : ℕ → List Fate) (text left : Option (List ℕ)) (c : Cell) (before now : Option (List ℕ)) → EndsAs end s types plans text left c before now
+    → HaveLines end s types plans text c
+ends_lines all end s setting types plans text left c before now (inl none) = subst (λ e. HaveLines e s types plans text c) (sym none.memory) (none_lines s types plans text c none.none none.dealt none.unkept)
+ends_lines all end s setting types plans text left c before now (inr some) = record {
   asked = some.commands;
-  were_asked = were_asked types s.bits text some.commands c.dealt (sym some.kept.dealt) some.first;
-  are = some.upkept;
+  were_asked = were_asked types s.bits text some.commands c.dealt (sym some.kept.dealt) some.few some.first;
+  one_outcome = kept_outcomes s plans some.commands c some.kept;
+  hearings = kept_heard all.hold all.hear s plans some.commands c some.kept;
+  fates = kept_fates s plans some.commands c some.kept;
+  causes = kept_causes all.refused all.short s setting plans some.commands c some.kept;
+  upkeeps = some.upkept;
+  reached = some.reached;
 }
 
 -- ---- the bytes written
@@ -260,34 +238,19 @@ chosen_legal words a x end plans text left c before now p q ends =
     subst (λ (y : Choice). AreLegal y.setting (journals_of c)) (one_choice words a x p q) (ends_legal end a.setting a.schema plans text left c before now ends)
 
 pub chosen_lanes : (words : List Text) (a x : Choice) (end : Status) (plans : ℕ → List Fate) (text left : Option (List ℕ)) (c : Cell) (before now : Option (List ℕ)) → Chooses words a → Chooses words x
-    → EndsAs end a.setting a.schema plans text left c before now → HasLanes end x.setting (journals_of c)
+    → EndsAs end a.setting a.schema plans text left c before now → HasLanes end x.setting c
 chosen_lanes words a x end plans text left c before now p q ends =
-    subst (λ (y : Choice). HasLanes end y.setting (journals_of c)) (one_choice words a x p q) (ends_lanes end a.setting a.schema plans text left c before now ends)
+    subst (λ (y : Choice). HasLanes end y.setting c) (one_choice words a x p q) (ends_lanes end a.setting a.schema plans text left c before now ends)
 
-pub chosen_outcomes : (words : List Text) (a x : Choice) (end : Status) (plans : ℕ → List Fate) (text left : Option (List ℕ)) (c : Cell) (before now : Option (List ℕ)) → Chooses words a → Chooses words x
-    → EndsAs end a.setting a.schema plans text left c before now → HaveOutcomes x.setting x.schema text c.dealt (journals_of c)
-chosen_outcomes words a x end plans text left c before now p q ends =
-    subst (λ (y : Choice). HaveOutcomes y.setting y.schema text c.dealt (journals_of c)) (one_choice words a x p q) (ends_outcomes end a.setting a.schema plans text left c before now ends)
+pub chosen_shown : (words : List Text) (a x : Choice) (end : Status) (plans : ℕ → List Fate) (text left : Option (List ℕ)) (c : Cell) (before now : Option (List ℕ)) → Chooses words a → Chooses words x
+    → EndsAs end a.setting a.schema plans text left c before now → AreShownRight x.setting c
+chosen_shown words a x end plans text left c before now p q ends =
+    subst (λ (y : Choice). AreShownRight y.setting c) (one_choice words a x p q) (ends_shown end a.setting a.schema plans text left c before now ends)
 
-pub chosen_fates : (words : List Text) (a x : Choice) (end : Status) (plans : ℕ → List Fate) (text left : Option (List ℕ)) (c : Cell) (before now : Option (List ℕ)) → Chooses words a → Chooses words x
-    → EndsAs end a.setting a.schema plans text left c before now → HaveFates x.schema (x.setting).bits plans text c.dealt c.lanes
-chosen_fates words a x end plans text left c before now p q ends =
-    subst (λ (y : Choice). HaveFates y.schema (y.setting).bits plans text c.dealt c.lanes) (one_choice words a x p q) (ends_fates end a.setting a.schema plans text left c before now ends)
-
-pub chosen_causes : AllRefused → AllShort → (words : List Text) (a x : Choice) (end : Status) (plans : ℕ → List Fate) (text left : Option (List ℕ)) (c : Cell) (before now : Option (List ℕ)) → Chooses words a → Chooses words x
-    → EndsAs end a.setting a.schema plans text left c before now → HaveCauses x.setting x.schema text c.dealt c.lanes
-chosen_causes refused short words a x end plans text left c before now p q ends =
-    subst (λ (y : Choice). HaveCauses y.setting y.schema text c.dealt c.lanes) (one_choice words a x p q) (ends_causes refused short end a.setting (chosen_setting words a p) a.schema plans text left c before now ends)
-
-pub chosen_heard : AllHold → AllHear → (words : List Text) (a x : Choice) (end : Status) (plans : ℕ → List Fate) (text left : Option (List ℕ)) (c : Cell) (before now : Option (List ℕ)) → Chooses words a → Chooses words x
-    → EndsAs end a.setting a.schema plans text left c before now → HaveHeard x.setting x.schema text c.dealt c.lanes
-chosen_heard hold hear words a x end plans text left c before now p q ends =
-    subst (λ (y : Choice). HaveHeard y.setting y.schema text c.dealt c.lanes) (one_choice words a x p q) (ends_heard hold hear end a.setting a.schema plans text left c before now ends)
-
-pub chosen_upkeeps : (words : List Text) (a x : Choice) (end : Status) (plans : ℕ → List Fate) (text left : Option (List ℕ)) (c : Cell) (before now : Option (List ℕ)) → Chooses words a → Chooses words x
-    → EndsAs end a.setting a.schema plans text left c before now → HaveUpkeeps end x.setting x.schema text c
-chosen_upkeeps words a x end plans text left c before now p q ends =
-    subst (λ (y : Choice). HaveUpkeeps end y.setting y.schema text c) (one_choice words a x p q) (ends_upkeeps end a.setting a.schema plans text left c before now ends)
+pub chosen_lines : AllLines → (words : List Text) (a x : Choice) (end : Status) (plans : ℕ → List Fate) (text left : Option (List ℕ)) (c : Cell) (before now : Option (List ℕ)) → Chooses words a → Chooses words x
+    → EndsAs end a.setting a.schema plans text left c before now → HaveLines end x.setting x.schema plans text c
+chosen_lines all words a x end plans text left c before now p q ends =
+    subst (λ (y : Choice). HaveLines end y.setting y.schema plans text c) (one_choice words a x p q) (ends_lines all end a.setting (chosen_setting words a p) a.schema plans text left c before now ends)
 
 pub chosen_dealt : (words : List Text) (a x : Choice) (end : Status) (plans : ℕ → List Fate) (text left : Option (List ℕ)) (c : Cell) (before now : Option (List ℕ)) → Chooses words a → Chooses words x
     → EndsAs end a.setting a.schema plans text left c before now → IfTold text (λ t. DealsWith end x.schema (x.setting).bits t c.dealt left)
@@ -330,5 +293,9 @@ empty_in_order c h = none_in_order c (empty_cell c h).0
 pub empty_together : (c : Cell) → IsTrue (is_empty c) → AreTogether (journals_of c)
 empty_together c h = none_together c (empty_cell c h).0
 
-pub empty_fates : (types : Types) (bits : ℕ) (plans : ℕ → List Fate) (text : Option (List ℕ)) (c : Cell) → IsTrue (is_empty c) → HaveFates types bits plans text c.dealt c.lanes
-empty_fates types bits plans text c h = none_fates types bits plans text c (empty_cell c h).0 (empty_cell c h).1.0
+-- in an empty cluster no message had a fate
+pub empty_fates : (plans : ℕ → List Fate) (c : Cell) → IsTrue (is_empty c) → HaveFates plans [] c.lanes
+empty_fates plans c h lane v at = absurd (no_lane c.lanes lane v (empty_cell c h).0 at)
+
+pub empty_shown : (s : Setting) (c : Cell) → IsTrue (is_empty c) → AreShownRight s c
+empty_shown s c h lane v at = absurd (no_lane c.lanes lane v (empty_cell c h).0 at)

@@ -1,9 +1,8 @@
 -- Why lines of a session were refused or got too few answers, and who heard which state, from what it keeps.
-use Rattle.std.proofs.Common.{◌≡◌, ◌<◌, ℕ, false, List, ◌∷◌, ◌++◌, Option, Some, subst, slice_get}
+use Rattle.std.proofs.Common.{◌≡◌, ◌<◌, ℕ, false, List, ◌∷◌, ◌++◌, Some, subst, slice_get}
 use Rattle.node_sets.specs.Members.{has_node}
 use Rattle.bucket_ids.specs.Buckets.{Low}
 use Rattle.carriers.specs.declared.fate.Fate.{Fate}
-use Rattle.doc_types.specs.SchemaCodes.{Types}
 use Rattle.messages.specs.declared.outcome.Outcome.TheVariants.{TooFew, OwnedElsewhere}
 use Rattle.lane_journals.specs.KeptJournals.{IsLegal}
 use Rattle.lane_journals.specs.Meanings.{history}
@@ -14,9 +13,9 @@ use Rattle.lane_keeping.specs.LaneKeeping.{setting_of}
 use Rattle.lane_values.specs.LaneValues.{LaneValue}
 use Rattle.lane_values.specs.Settings.{IsSetting}
 use Rattle.lane_values.specs.declared.setting.Setting.{Setting}
-use Rattle.lane_lives.specs.Hearings.{deaf_in, HeardNewest}
+use Rattle.lane_promises.specs.Hearings.{deaf_in, HeardNewest}
 use Rattle.lane_lives.specs.Lives.{Deed, IsLife, lines_of, newest_in, outcome_in}
-use Rattle.lane_lives.specs.Promises.{WasRefused, LineFellShort}
+use Rattle.lane_promises.specs.Promises.{WasRefused, LineFellShort}
 use Rattle.lane_lives.specs.Serving.{bucket_in}
 use Rattle.cell_session.specs.Causes.{HaveCauses}
 use Rattle.session_cluster.specs.Cells.{Cell}
@@ -24,7 +23,6 @@ use Rattle.session_cluster.specs.Deeds.{deeds_of_lane}
 use Rattle.cell_session.specs.Hearing.{HaveHeard}
 use Rattle.session_cluster.specs.Keeping.{IsKept}
 use Rattle.session_cluster.specs.Lanes.{Journal}
-use Rattle.cell_session.specs.Operations.{WereAsked}
 use Rattle.session_cluster.specs.declared.asked.Asked.{Asked}
 use Rattle.session_cluster.proofs.KeptLanes.{kept_legal}
 use Rattle.session_cluster.proofs.LaneLists.{journal_at}
@@ -47,22 +45,16 @@ AllHear = (s : Setting) (lane : Low) (deeds : List Deed) (J : Journal) → IsLif
 legal_at : (s : Setting) (plans : ℕ → List Fate) (cs : List Asked) (c : Cell) → IsKept s plans cs c → (lane : ℕ) (v : LaneValue) → slice_get c.lanes lane ≡ Some v → IsLegal (setting_of (bucket_in s lane) s.rules) v.journal
 legal_at s plans cs c kept lane v at = subst (λ J. IsLegal (setting_of (bucket_in s lane) s.rules) J) (journal_at c.lanes lane v at) (kept_legal s plans cs c kept lane)
 
-pub kept_causes : AllRefused → AllShort → (s : Setting) → IsSetting s → (types : Types) (plans : ℕ → List Fate) (text : Option (List ℕ)) (cs : List Asked) (c : Cell) → WereAsked types s.bits text c.dealt cs → IsKept s plans cs c
-    → HaveCauses s types text c.dealt c.lanes
-kept_causes refused short s setting types plans text cs c were kept = record {
-  asked = cs;
-  were_asked = were;
-  refused = λ lane v at line owner version. refused s (bucket_in s lane) (deeds_of_lane s lane cs) v.journal (kept.serving lane v at).life (legal_at s plans cs c kept lane v at) line owner version;
+pub kept_causes : AllRefused → AllShort → (s : Setting) → IsSetting s → (plans : ℕ → List Fate) (cs : List Asked) (c : Cell) → IsKept s plans cs c → HaveCauses s cs c
+kept_causes refused short s setting plans cs c kept = record {
+  refused = λ lane v at line owner version. refused s (bucket_in s lane) (deeds_of_lane s c.upkeeps lane cs) v.journal (kept.serving lane v at).life (legal_at s plans cs c kept lane v at) line owner version;
   short = λ lane v at line answered needed absent.
       let is = kept.serving lane v at in
-      short s setting (bucket_in s lane) (deeds_of_lane s lane cs) v.journal v.given is.life (legal_at s plans cs c kept lane v at) (is.holds).carried line answered needed absent;
+      short s setting (bucket_in s lane) (deeds_of_lane s c.upkeeps lane cs) v.journal v.given is.life (legal_at s plans cs c kept lane v at) (is.holds).carried line answered needed absent;
 }
 
-pub kept_heard : AllHold → AllHear → (s : Setting) (types : Types) (plans : ℕ → List Fate) (text : Option (List ℕ)) (cs : List Asked) (c : Cell) → WereAsked types s.bits text c.dealt cs → IsKept s plans cs c
-    → HaveHeard s types text c.dealt c.lanes
-kept_heard hold hear s types plans text cs c were kept = record {
-  asked = cs;
-  were_asked = were;
-  holds = λ lane v at. hold s (bucket_in s lane) (deeds_of_lane s lane cs) v.journal (kept.serving lane v at).life;
-  hears = λ lane v at. hear s (bucket_in s lane) (deeds_of_lane s lane cs) v.journal (kept.serving lane v at).life;
+pub kept_heard : AllHold → AllHear → (s : Setting) (plans : ℕ → List Fate) (cs : List Asked) (c : Cell) → IsKept s plans cs c → HaveHeard s cs c
+kept_heard hold hear s plans cs c kept = record {
+  holds = λ lane v at. hold s (bucket_in s lane) (deeds_of_lane s c.upkeeps lane cs) v.journal (kept.serving lane v at).life;
+  hears = λ lane v at. hear s (bucket_in s lane) (deeds_of_lane s c.upkeeps lane cs) v.journal (kept.serving lane v at).life;
 }

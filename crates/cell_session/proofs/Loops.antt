@@ -15,8 +15,7 @@ use Rattle.io_ends.specs.declared.next.LimitKind.TheVariants as limit
 use Rattle.io_ends.proofs.FeedPlaces.{NoLineFeed-append}
 use Rattle.io_ends.proofs.ReaderStarts.{start_at}
 use Rattle.doc_types.specs.SchemaCodes.{Types}
-use Rattle.session_cluster.specs.Asking.{IsAsked}
-use Rattle.cell_session.specs.Counting.{is_state, is_maintain, state_lines, maintain_lines, one_more, states_with, maintains_with, counts_with}
+use Rattle.cell_session.specs.Counting.{is_state, is_maintain, state_lines, maintain_lines, one_more, states_with, maintains_with, counts_with, AreFew}
 use Rattle.cell_session.specs.declared.counts.Counts.{Counts}
 use Rattle.session_cluster.specs.declared.asked.Asked.{Asked}
 use Rattle.session_cluster.specs.declared.asked.Asked.TheVariants as command
@@ -26,7 +25,7 @@ use Rattle.session_cluster.specs.Steps.{IsRoomier}
 use Rattle.session_cluster.specs.Cells.{Cell}
 use Rattle.session_cluster.specs.Keeping.{IsKept, IsReady}
 use Rattle.cell_session.specs.Dealing.{EndsAs}
-use Rattle.cell_session.specs.Ends.{IfTold, AreFirst, IsReadTo, IsReadNear, PassesKind, PassesLimit, StopsAt, Writes}
+use Rattle.cell_session.specs.Ends.{IfTold, AreFirst, IsReadTo, IsReadNear, PassesKind, PassesLimit, StopsAt, Writes, IsReached, EndsAtLimit}
 use Rattle.session_cluster.specs.Output.{output_of, report_in}
 use Rattle.cell_session.specs.Reads.{Finishes, Shows, HoldsBack, IsReadEnd}
 use Rattle.carriers.specs.declared.fate.Fate.{Fate}
@@ -37,7 +36,7 @@ use Rattle.cell_session.specs.SoFar.{IsBehind, IsSoFar}
 use Rattle.session_cluster.specs.Steps.{without_room, IsSpanNoted, IsAfter}
 use Rattle.cell_session.specs.declared.answering.Stop.{Stop}
 use Rattle.cell_session.specs.declared.answering.Stop.TheVariants as stop
-use Rattle.cell_session.specs.declared.limits.TheConstants.{MOST_LINES, MOST_BYTES, MOST_STATES, MOST_MAINTAINS}
+use Rattle.cell_session.specs.Limits.{most_lines, most_bytes, most_states, most_maintains}
 use Rattle.cell_session.specs.declared.next_command.Step.TheVariants as step
 use Rattle.cell_session.specs.declared.status.Status.{Status}
 use Rattle.cell_session.specs.declared.status.Status.TheVariants as status
@@ -66,9 +65,9 @@ full_is most count false is h = cc h
 -- the counts are those of so many lines
 record AreCounts (counts : Counts) (states maintains : ℕ) : Type 0 where
   states_are : counts.states ≡ states
-  few_states : counts.states ≤ MOST_STATES
+  few_states : counts.states ≤ most_states
   maintains_are : counts.maintains ≡ maintains
-  few_maintains : counts.maintains ≤ MOST_MAINTAINS
+  few_maintains : counts.maintains ≤ most_maintains
 
 -- with a line that is neither
 same_counts : (counts counted : Counts) (states maintains : ℕ) → AreCounts counts states maintains → ◌≡◌ {A = Result Counts LimitKind} (Ok counts) (Ok counted) → AreCounts counted (states + (0 + 0)) (maintains + (0 + 0))
@@ -84,10 +83,10 @@ same_counts counts counted states maintains are h =
     is_same : ◌≡◌ {A = Result Counts LimitKind} (Ok counts) (Ok counted) → counts ≡ counted
     is_same h = cc h
 
-state_counts : (counts counted : Counts) (states maintains : ℕ) (o : Option ℕ) → AreCounts counts states maintains → one_more MOST_STATES counts.states ≡ o → states_with counts o ≡ Ok counted → AreCounts counted (states + (0 + 1)) (maintains + (0 + 0))
+state_counts : (counts counted : Counts) (states maintains : ℕ) (o : Option ℕ) → AreCounts counts states maintains → one_more most_states counts.states ≡ o → states_with counts o ≡ Ok counted → AreCounts counted (states + (0 + 1)) (maintains + (0 + 0))
 state_counts counts counted states maintains None are is h = cc h
 state_counts counts counted states maintains (Some next) are is h =
-    let grown = more_is MOST_STATES counts.states next (counts.states == MOST_STATES) are.few_states refl is in
+    let grown = more_is most_states counts.states next (counts.states == most_states) are.few_states refl is in
     subst (λ (x : Counts). AreCounts x (states + (0 + 1)) (maintains + (0 + 0))) (is_same h) (record {
       states_are = omega (arith, grown.0, are.states_are);
       few_states = grown.1;
@@ -98,10 +97,10 @@ state_counts counts counted states maintains (Some next) are is h =
     is_same : ◌≡◌ {A = Result Counts LimitKind} (Ok (record { states = next; maintains = counts.maintains })) (Ok counted) → ◌≡◌ {A = Counts} (record { states = next; maintains = counts.maintains }) counted
     is_same h = cc h
 
-maintain_counts : (counts counted : Counts) (states maintains : ℕ) (o : Option ℕ) → AreCounts counts states maintains → one_more MOST_MAINTAINS counts.maintains ≡ o → maintains_with counts o ≡ Ok counted → AreCounts counted (states + (0 + 0)) (maintains + (0 + 1))
+maintain_counts : (counts counted : Counts) (states maintains : ℕ) (o : Option ℕ) → AreCounts counts states maintains → one_more most_maintains counts.maintains ≡ o → maintains_with counts o ≡ Ok counted → AreCounts counted (states + (0 + 0)) (maintains + (0 + 1))
 maintain_counts counts counted states maintains None are is h = cc h
 maintain_counts counts counted states maintains (Some next) are is h =
-    let grown = more_is MOST_MAINTAINS counts.maintains next (counts.maintains == MOST_MAINTAINS) are.few_maintains refl is in
+    let grown = more_is most_maintains counts.maintains next (counts.maintains == most_maintains) are.few_maintains refl is in
     subst (λ (x : Counts). AreCounts x (states + (0 + 0)) (maintains + (0 + 1))) (is_same h) (record {
       states_are = omega (arith, are.states_are);
       few_states = are.few_states;
@@ -117,12 +116,12 @@ counts_by counts counted states maintains command.Blank are h = same_counts coun
 counts_by counts counted states maintains command.TooLong are h = same_counts counts counted states maintains are h
 counts_by counts counted states maintains (command.Bad why) are h = same_counts counts counted states maintains are h
 counts_by counts counted states maintains (command.Feed op via) are h = same_counts counts counted states maintains are h
-counts_by counts counted states maintains (command.State state deaf) are h = state_counts counts counted states maintains (one_more MOST_STATES counts.states) are refl h
-counts_by counts counted states maintains (command.BadState offset) are h = state_counts counts counted states maintains (one_more MOST_STATES counts.states) are refl h
+counts_by counts counted states maintains (command.State state deaf) are h = state_counts counts counted states maintains (one_more most_states counts.states) are refl h
+counts_by counts counted states maintains (command.BadState offset) are h = state_counts counts counted states maintains (one_more most_states counts.states) are refl h
 counts_by counts counted states maintains (command.Stop node) are h = same_counts counts counted states maintains are h
 counts_by counts counted states maintains (command.Start node) are h = same_counts counts counted states maintains are h
 counts_by counts counted states maintains (command.Net lane fates) are h = same_counts counts counted states maintains are h
-counts_by counts counted states maintains command.Maintain are h = maintain_counts counts counted states maintains (one_more MOST_MAINTAINS counts.maintains) are refl h
+counts_by counts counted states maintains command.Maintain are h = maintain_counts counts counted states maintains (one_more most_maintains counts.maintains) are refl h
 
 -- with one line more
 counts_more : (counts counted : Counts) (cs : List Asked) (c : Asked) → AreCounts counts (state_lines cs) (maintain_lines cs) → counts_with counts c ≡ Ok counted → AreCounts counted (state_lines (cs ++ c ∷ [])) (maintain_lines (cs ++ c ∷ []))
@@ -134,19 +133,19 @@ counts_more counts counted cs c are with =
 abbrev IsFull : LimitKind → Counts → Asked → Type 0
 IsFull limit.Lines counts c = ⊥
 IsFull limit.Bytes counts c = ⊥
-IsFull limit.States counts c = (is_state c ≡ true) × (counts.states ≡ MOST_STATES)
-IsFull limit.Maintains counts c = (is_maintain c ≡ true) × (counts.maintains ≡ MOST_MAINTAINS)
+IsFull limit.States counts c = (is_state c ≡ true) × (counts.states ≡ most_states)
+IsFull limit.Maintains counts c = (is_maintain c ≡ true) × (counts.maintains ≡ most_maintains)
 
-state_full : (counts : Counts) (c : Asked) (which : LimitKind) (o : Option ℕ) → is_state c ≡ true → one_more MOST_STATES counts.states ≡ o → states_with counts o ≡ Err which → IsFull which counts c
+state_full : (counts : Counts) (c : Asked) (which : LimitKind) (o : Option ℕ) → is_state c ≡ true → one_more most_states counts.states ≡ o → states_with counts o ≡ Err which → IsFull which counts c
 state_full counts c which (Some next) kind is h = cc h
-state_full counts c which None kind is h = subst (λ w. IsFull w counts c) (same h) (kind, full_is MOST_STATES counts.states (counts.states == MOST_STATES) refl is)
+state_full counts c which None kind is h = subst (λ w. IsFull w counts c) (same h) (kind, full_is most_states counts.states (counts.states == most_states) refl is)
   where
     same : ◌≡◌ {A = Result Counts LimitKind} (Err limit.States) (Err which) → limit.States ≡ which
     same h = cc h
 
-maintain_full : (counts : Counts) (c : Asked) (which : LimitKind) (o : Option ℕ) → is_maintain c ≡ true → one_more MOST_MAINTAINS counts.maintains ≡ o → maintains_with counts o ≡ Err which → IsFull which counts c
+maintain_full : (counts : Counts) (c : Asked) (which : LimitKind) (o : Option ℕ) → is_maintain c ≡ true → one_more most_maintains counts.maintains ≡ o → maintains_with counts o ≡ Err which → IsFull which counts c
 maintain_full counts c which (Some next) kind is h = cc h
-maintain_full counts c which None kind is h = subst (λ w. IsFull w counts c) (same h) (kind, full_is MOST_MAINTAINS counts.maintains (counts.maintains == MOST_MAINTAINS) refl is)
+maintain_full counts c which None kind is h = subst (λ w. IsFull w counts c) (same h) (kind, full_is most_maintains counts.maintains (counts.maintains == most_maintains) refl is)
   where
     same : ◌≡◌ {A = Result Counts LimitKind} (Err limit.Maintains) (Err which) → limit.Maintains ≡ which
     same h = cc h
@@ -156,12 +155,12 @@ counts_full counts command.Blank which h = cc h
 counts_full counts command.TooLong which h = cc h
 counts_full counts (command.Bad why) which h = cc h
 counts_full counts (command.Feed op via) which h = cc h
-counts_full counts (command.State state deaf) which h = state_full counts (command.State state deaf) which (one_more MOST_STATES counts.states) refl refl h
-counts_full counts (command.BadState offset) which h = state_full counts (command.BadState offset) which (one_more MOST_STATES counts.states) refl refl h
+counts_full counts (command.State state deaf) which h = state_full counts (command.State state deaf) which (one_more most_states counts.states) refl refl h
+counts_full counts (command.BadState offset) which h = state_full counts (command.BadState offset) which (one_more most_states counts.states) refl refl h
 counts_full counts (command.Stop node) which h = cc h
 counts_full counts (command.Start node) which h = cc h
 counts_full counts (command.Net lane fates) which h = cc h
-counts_full counts command.Maintain which h = maintain_full counts command.Maintain which (one_more MOST_MAINTAINS counts.maintains) refl refl h
+counts_full counts command.Maintain which h = maintain_full counts command.Maintain which (one_more most_maintains counts.maintains) refl refl h
 
 -- ---- the commands of the first lines of a text
 
@@ -180,8 +179,8 @@ pushed (y ∷ cs) c (suc k) x h = elim (pushed cs c k x h) [
 ]
 
 -- one line more
-first_more : (types : Types) (bits : ℕ) (text : List ℕ) (cs : List Asked) (c : Asked) → AreFirst types bits text cs → IsCommandAt types bits (Some text) (length cs) c → length cs < MOST_LINES
-    → end_of (length cs + 1) text ≤ MOST_BYTES → state_lines (cs ++ c ∷ []) ≤ MOST_STATES → maintain_lines (cs ++ c ∷ []) ≤ MOST_MAINTAINS → AreFirst types bits text (cs ++ c ∷ [])
+first_more : (types : Types) (bits : ℕ) (text : List ℕ) (cs : List Asked) (c : Asked) → AreFirst types bits text cs → IsCommandAt types bits (Some text) (length cs) c → length cs < most_lines
+    → end_of (length cs + 1) text ≤ most_bytes → state_lines (cs ++ c ∷ []) ≤ most_states → maintain_lines (cs ++ c ∷ []) ≤ most_maintains → AreFirst types bits text (cs ++ c ∷ [])
 first_more types bits text cs c first last few within few_states few_maintains =
     let longer : length (cs ++ c ∷ []) ≡ length cs + 1 = length-append cs (c ∷ []) in
     record {
@@ -191,33 +190,37 @@ first_more types bits text cs c first last few within few_states few_maintains =
       ];
       some = omega (arith, longer, slice_get_within (lines_of text) (length cs) last.0 last.1.0);
       few = omega (arith, longer, few);
-      within = subst (λ k. end_of k text ≤ MOST_BYTES) (sym longer) within;
+      within = subst (λ k. end_of k text ≤ most_bytes) (sym longer) within;
       few_states = few_states;
       few_maintains = few_maintains;
     }
 
 told_more : (types : Types) (bits : ℕ) (text : Option (List ℕ)) (reader reader' : Reading) (left left' : Option (List ℕ)) (cs : List Asked) (number : ℕ) (c : Asked)
-    → IfTold text (IsBehind types bits reader left cs) → length cs ≡ reader.lines → reader.max_lines ≡ MOST_LINES → reader.max_bytes ≡ MOST_BYTES
+    → IfTold text (IsBehind types bits reader left cs) → length cs ≡ reader.lines → reader.max_lines ≡ most_lines → reader.max_bytes ≡ most_bytes
     → ((t : List ℕ) → StandsIn t reader left → Shows types bits t reader (step.Command number c))
     → ((t : List ℕ) → StandsIn t reader left → StandsIn t reader' left')
-    → state_lines (cs ++ c ∷ []) ≤ MOST_STATES → maintain_lines (cs ++ c ∷ []) ≤ MOST_MAINTAINS
+    → state_lines (cs ++ c ∷ []) ≤ most_states → maintain_lines (cs ++ c ∷ []) ≤ most_maintains
     → IfTold text (IsBehind types bits reader' left' (cs ++ c ∷ []))
 told_more types bits None reader reader' left left' cs number c told count lines bytes shows stands few_states few_maintains = tt
 told_more types bits (Some text) reader reader' left left' cs number c told count lines bytes shows stands few_states few_maintains =
     let shown = shows text told.1 in
     let within = shown.1 in
     let first = first_more types bits text cs c told.0 (subst (λ k. IsCommandAt types bits (Some text) k c) (sym count) shown.0)
-    (omega (arith, within.lines, count, lines)) (subst (λ k. end_of (k + 1) text ≤ MOST_BYTES) (sym count) (omega (arith, within.bytes, bytes))) few_states few_maintains in
+    (omega (arith, within.lines, count, lines)) (subst (λ k. end_of (k + 1) text ≤ most_bytes) (sym count) (omega (arith, within.bytes, bytes))) few_states few_maintains in
     (first, stands text told.1)
 
 first_of : (types : Types) (bits : ℕ) (text : Option (List ℕ)) (cs : List Asked) (reader : Reading) (left : Option (List ℕ)) → IfTold text (IsBehind types bits reader left cs) → IfTold text (λ t. AreFirst types bits t cs)
 first_of types bits None cs reader left told = tt
 first_of types bits (Some text) cs reader left told = told.0
 
+-- no line is no more than a session may have
+pub few_none : AreFew []
+few_none = record { few = omega arith; few_states = omega arith; few_maintains = omega arith }
+
 -- ---- between two lines
 
 abbrev pub first_reading : Reading
-first_reading = record { ahead = []; passed = 0; lines = 0; given = 0; max_lines = MOST_LINES; max_bytes = MOST_BYTES }
+first_reading = record { ahead = []; passed = 0; lines = 0; given = 0; max_lines = most_lines; max_bytes = most_bytes }
 
 pub first_none : (types : Types) (bits : ℕ) (text : List ℕ) → AreFirst types bits text []
 unfolding end_of
@@ -229,7 +232,7 @@ first_none types bits text = record { asked = λ at c there. absurd (no_item at 
 
 told_none : (types : Types) (bits : ℕ) (text : Option (List ℕ)) → IfTold text (IsBehind types bits first_reading text [])
 told_none types bits None = tt
-told_none types bits (Some t) = (first_none types bits t, start_at t MOST_LINES MOST_BYTES)
+told_none types bits (Some t) = (first_none types bits t, start_at t most_lines most_bytes)
 
 abbrev pub no_counts : Counts
 no_counts = record { states = 0; maintains = 0 }
@@ -239,6 +242,7 @@ so_far_new s types plans text before reader c setting is kept none = subst (λ r
   setting = setting;
   commands = [];
   count = refl;
+  few = omega arith;
   states_are = refl;
   few_states = omega arith;
   maintains_are = refl;
@@ -253,48 +257,58 @@ pub so_far_ready : (s : Setting) (types : Types) (plans : ℕ → List Fate) (te
     → IsSoFar s types plans text reader left counts c before now → number ≡ reader.lines + 1 → IsReady s number c
 so_far_ready s types plans text left reader counts c before now number so is = record { setting = so.setting; plans = plans; commands = so.commands; kept = so.kept; next = omega (arith, is, so.count) }
 
+few_of : (cs : List Asked) (counts : Counts) → AreCounts counts (state_lines cs) (maintain_lines cs) → length cs ≤ most_lines → AreFew cs
+few_of cs counts are few = record { few = few; few_states = subst (λ n. n ≤ most_states) are.states_are are.few_states; few_maintains = subst (λ n. n ≤ most_maintains) are.maintains_are are.few_maintains }
+
+so_few : (s : Setting) (types : Types) (plans : ℕ → List Fate) (text : Option (List ℕ)) (reader : Reading) (left : Option (List ℕ)) (counts : Counts) (c : Cell) (before now : Option (List ℕ)) → (so : IsSoFar s types plans text reader left counts c before now) → AreFew so.commands
+so_few s types plans text reader left counts c before now so =
+    few_of so.commands counts (record { states_are = so.states_are; few_states = so.few_states; maintains_are = so.maintains_are; few_maintains = so.few_maintains }) so.few
+
 -- what one line more keeps, whatever was written
 record IsMore (s : Setting) (types : Types) (plans : ℕ → List Fate) (text left' : Option (List ℕ)) (reader reader' : Reading) (counted : Counts) (cs : List Asked) (old new : Cell) (number : ℕ) (c : Asked) : Type 0 where
   count : length (cs ++ c ∷ []) ≡ number
   counts_are : AreCounts counted (state_lines (cs ++ c ∷ [])) (maintain_lines (cs ++ c ∷ []))
+  few : AreFew (cs ++ c ∷ [])
   kept : IsKept s plans (cs ++ c ∷ []) new
   told : IfTold text (IsBehind types s.bits reader' left' (cs ++ c ∷ []))
   earlier : output_of s cs new ≡ output_of s cs old
   output : output_of s (cs ++ c ∷ []) new ≡ output_of s cs old ++ report_in s old.told number c new
 
 line_more : (s : Setting) (types : Types) (plans : ℕ → List Fate) (text left left' : Option (List ℕ)) (reader reader' : Reading) (counts counted : Counts) (old new : Cell) (before now : Option (List ℕ)) (number : ℕ) (c : Asked)
-    → (so : IsSoFar s types plans text reader left counts old before now) → reader.max_lines ≡ MOST_LINES → reader.max_bytes ≡ MOST_BYTES
+    → (so : IsSoFar s types plans text reader left counts old before now) → reader.max_lines ≡ most_lines → reader.max_bytes ≡ most_bytes
     → ((t : List ℕ) → StandsIn t reader left → Shows types s.bits t reader (step.Command number c))
     → ((t : List ℕ) → StandsIn t reader left → StandsIn t reader' left')
-    → counts_with counts c ≡ Ok counted → number ≡ reader.lines + 1 → IsAfter s number c old new
+    → counts_with counts c ≡ Ok counted → number ≡ reader.lines + 1 → number ≤ most_lines → IsAfter s number c old new
     → IsMore s types plans text left' reader reader' counted so.commands old new number c
-line_more s types plans text left left' reader reader' counts counted old new before now number c so lines bytes shows stands with is after =
+line_more s types plans text left left' reader reader' counts counted old new before now number c so lines bytes shows stands with is small after =
     let cs = so.commands in
     let grown = counts_more counts counted cs c (record { states_are = so.states_are; few_states = so.few_states; maintains_are = so.maintains_are; few_maintains = so.few_maintains }) with in
     let k : number ≡ length cs + 1 = omega (arith, is, so.count) in
     record {
       count = omega (arith, length-append cs (c ∷ []), k);
       counts_are = grown;
+      few = few_of (cs ++ c ∷ []) counted grown (omega (arith, length-append cs (c ∷ []), k, small));
       kept = kept_more s plans cs c old new number so.kept k after;
-      told = told_more types s.bits text reader reader' left left' cs number c so.told so.count lines bytes shows stands (subst (λ n. n ≤ MOST_STATES) grown.states_are grown.few_states) (subst (λ n. n ≤ MOST_MAINTAINS) grown.maintains_are grown.few_maintains);
+      told = told_more types s.bits text reader reader' left left' cs number c so.told so.count lines bytes shows stands (subst (λ n. n ≤ most_states) grown.states_are grown.few_states) (subst (λ n. n ≤ most_maintains) grown.maintains_are grown.few_maintains);
       earlier = output_kept s plans cs c old new number so.kept k after;
       output = output_more s plans cs c old new number so.kept k after;
     }
 
 pub so_far_more : (s : Setting) (types : Types) (plans : ℕ → List Fate) (text left left' : Option (List ℕ)) (reader reader' : Reading) (counts counted : Counts) (old new : Cell) (before now now' : Option (List ℕ)) (number : ℕ) (c : Asked)
-    → IsSoFar s types plans text reader left counts old before now → reader.max_lines ≡ MOST_LINES → reader.max_bytes ≡ MOST_BYTES
+    → IsSoFar s types plans text reader left counts old before now → reader.max_lines ≡ most_lines → reader.max_bytes ≡ most_bytes
     → ((t : List ℕ) → StandsIn t reader left → Shows types s.bits t reader (step.Command number c))
     → ((t : List ℕ) → StandsIn t reader left → StandsIn t reader' left')
-    → counts_with counts c ≡ Ok counted → number ≡ reader.lines + 1 → reader'.lines ≡ reader.lines + 1
+    → counts_with counts c ≡ Ok counted → number ≡ reader.lines + 1 → number ≤ most_lines → reader'.lines ≡ reader.lines + 1
     → IsAfter s number c old new → IsSpanNoted number c old new → Appends now now' (report_in s old.told number c new)
     → IsSoFar s types plans text reader' left' counted new before now'
-so_far_more s types plans text left left' reader reader' counts counted old new before now now' number c so lines bytes shows stands with is grows grown noted wrote =
+so_far_more s types plans text left left' reader reader' counts counted old new before now now' number c so lines bytes shows stands with is small grows grown noted wrote =
     let cs = so.commands in
-    let more = line_more s types plans text left left' reader reader' counts counted old new before now number c so lines bytes shows stands with is grown in
+    let more = line_more s types plans text left left' reader reader' counts counted old new before now number c so lines bytes shows stands with is small grown in
     record {
       setting = so.setting;
       commands = cs ++ c ∷ [];
       count = omega (arith, more.count, is, grows);
+      few = (more.few).few;
       states_are = (more.counts_are).states_are;
       few_states = (more.counts_are).few_states;
       maintains_are = (more.counts_are).maintains_are;
@@ -317,16 +331,16 @@ read_to text reader (Some left) count at clear is = (
   ),
 )
 
-passes : (which : LimitKind) (types : Types) (bits : ℕ) (text : List ℕ) (reader : Reading) (cs : List Asked) → length cs ≡ reader.lines → reader.max_lines ≡ MOST_LINES → reader.max_bytes ≡ MOST_BYTES
+passes : (which : LimitKind) (types : Types) (bits : ℕ) (text : List ℕ) (reader : Reading) (cs : List Asked) → length cs ≡ reader.lines → reader.max_lines ≡ most_lines → reader.max_bytes ≡ most_bytes
     → Finishes text reader (status.Limit which) → PassesLimit which types bits text cs
 passes limit.Lines types bits text reader cs is lines bytes past = (omega (arith, is, past.0), omega (arith, is, past.1, lines))
 passes limit.Bytes types bits text reader cs is lines bytes past =
-    (omega (arith, is, past.0), (omega (arith, is, past.1.0, lines), subst (λ k. MOST_BYTES < end_of (k + 1) text) (sym is) (omega (arith, past.1.1, bytes))))
+    (omega (arith, is, past.0), (omega (arith, is, past.1.0, lines), subst (λ k. most_bytes < end_of (k + 1) text) (sym is) (omega (arith, past.1.1, bytes))))
 passes limit.States types bits text reader cs is lines bytes past = absurd past
 passes limit.Maintains types bits text reader cs is lines bytes past = absurd past
 
 stops_of : (end : Status) (types : Types) (bits : ℕ) (text left left' : Option (List ℕ)) (reader reader' : Reading) (cs : List Asked)
-    → IfTold text (IsBehind types bits reader left cs) → length cs ≡ reader.lines → reader.max_lines ≡ MOST_LINES → reader.max_bytes ≡ MOST_BYTES
+    → IfTold text (IsBehind types bits reader left cs) → length cs ≡ reader.lines → reader.max_lines ≡ most_lines → reader.max_bytes ≡ most_bytes
     → ((t : List ℕ) → StandsIn t reader left → Finishes t reader end)
     → ((t : List ℕ) → StandsIn t reader left → StandsIn t reader' left')
     → HoldsBack reader reader' end → (last : Option ℕ) (a b : ℕ) → IsReadEnd end last a b
@@ -341,8 +355,20 @@ stops_of (status.Limit which) types bits (Some text) left left' reader reader' c
 
 -- ---- the ends
 
+-- the reader's limit is reached
+reached_of : (end : Status) (reader reader' : Reading) (cs : List Asked) → length cs ≡ reader.lines → reader.max_lines ≡ most_lines → HoldsBack reader reader' end → EndsAtLimit end cs
+reached_of status.Done reader reader' cs count lines holds = tt
+reached_of status.ReadFault reader reader' cs count lines holds = tt
+reached_of status.Usage reader reader' cs count lines holds = tt
+reached_of status.WriteFault reader reader' cs count lines holds = tt
+reached_of status.NoMemory reader reader' cs count lines holds = tt
+reached_of (status.Limit limit.Lines) reader reader' cs count lines holds = count ∙ holds ∙ lines
+reached_of (status.Limit limit.Bytes) reader reader' cs count lines holds = tt
+reached_of (status.Limit limit.States) reader reader' cs count lines holds = absurd holds
+reached_of (status.Limit limit.Maintains) reader reader' cs count lines holds = absurd holds
+
 over_with : (end : Status) (s : Setting) (types : Types) (plans : ℕ → List Fate) (text left left' : Option (List ℕ)) (reader reader' : Reading) (counts : Counts) (c : Cell) (before now : Option (List ℕ))
-    → (so : IsSoFar s types plans text reader left counts c before now) → reader.max_lines ≡ MOST_LINES → reader.max_bytes ≡ MOST_BYTES
+    → (so : IsSoFar s types plans text reader left counts c before now) → reader.max_lines ≡ most_lines → reader.max_bytes ≡ most_bytes
     → ((t : List ℕ) → StandsIn t reader left → Finishes t reader end)
     → ((t : List ℕ) → StandsIn t reader left → StandsIn t reader' left')
     → HoldsBack reader reader' end → (last : Option ℕ) (a b : ℕ) → IsReadEnd end last a b
@@ -354,6 +380,8 @@ over_with end s types plans text left left' reader reader' states c before now s
   stops = stops_of end types s.bits text left left' reader reader' so.commands so.told so.count lines bytes finishes stands holds last a b may;
   output = wrote;
   upkept = upkept_at end s so.commands c so.upkept;
+  few = so_few s types plans text reader left states c before now so;
+  reached = reached_of end reader reader' so.commands so.count lines holds;
 })
 
 written_by : (end : Status) (s : Setting) (cs : List Asked) (c : Cell) (before now : Option (List ℕ)) (last : Option ℕ) (a b : ℕ) → IsReadEnd end last a b → Appends before now (output_of s cs c)
@@ -367,7 +395,7 @@ written_by (status.Limit which) s cs c before now last a b may wrote = wrote
 
 -- where no line is left to deal with
 pub over_ends : (end : Status) (s : Setting) (types : Types) (plans : ℕ → List Fate) (text left left' : Option (List ℕ)) (reader reader' : Reading) (counts : Counts) (c : Cell) (before now : Option (List ℕ))
-    → IsSoFar s types plans text reader left counts c before now → reader.max_lines ≡ MOST_LINES → reader.max_bytes ≡ MOST_BYTES
+    → IsSoFar s types plans text reader left counts c before now → reader.max_lines ≡ most_lines → reader.max_bytes ≡ most_bytes
     → ((t : List ℕ) → StandsIn t reader left → Finishes t reader end)
     → ((t : List ℕ) → StandsIn t reader left → StandsIn t reader' left')
     → HoldsBack reader reader' end → (last : Option ℕ) (a b : ℕ) → IsReadEnd end last a b
@@ -377,7 +405,7 @@ over_ends end s types plans text left left' reader reader' states c before now s
 
 -- where one more line is of a kind than a session may have
 passes_kind : (of_kind : Asked → Bool) (most : ℕ) (types : Types) (bits : ℕ) (text : Option (List ℕ)) (reader : Reading) (left : Option (List ℕ)) (cs : List Asked) (number : ℕ) (c : Asked)
-    → IfTold text (IsBehind types bits reader left cs) → length cs ≡ reader.lines → reader.max_lines ≡ MOST_LINES → reader.max_bytes ≡ MOST_BYTES
+    → IfTold text (IsBehind types bits reader left cs) → length cs ≡ reader.lines → reader.max_lines ≡ most_lines → reader.max_bytes ≡ most_bytes
     → ((t : List ℕ) → StandsIn t reader left → Shows types bits t reader (step.Command number c))
     → of_kind c ≡ true → count_by of_kind cs ≡ most → IfTold text (λ t. PassesKind of_kind most types bits t cs)
 passes_kind of_kind most types bits None reader left cs number c told count lines bytes shows kind before = tt
@@ -387,7 +415,7 @@ passes_kind of_kind most types bits (Some text) reader left cs number c told cou
       bytes = shown.0.0;
       line = subst (λ k. slice_get (lines_of text) k ≡ Some shown.0.0) (sym count) shown.0.1.0;
       few = omega (arith, shown.1.lines, count, lines);
-      within = subst (λ k. end_of (k + 1) text ≤ MOST_BYTES) (sym count) (omega (arith, shown.1.bytes, bytes));
+      within = subst (λ k. end_of (k + 1) text ≤ most_bytes) (sym count) (omega (arith, shown.1.bytes, bytes));
       command = c;
       asked = shown.0.1.1;
       kind = kind;
@@ -395,18 +423,24 @@ passes_kind of_kind most types bits (Some text) reader left cs number c told cou
     }
 
 full_passes : (which : LimitKind) (s : Setting) (types : Types) (plans : ℕ → List Fate) (text left : Option (List ℕ)) (reader : Reading) (counts : Counts) (c : Cell) (before now : Option (List ℕ)) (number : ℕ) (command : Asked)
-    → (so : IsSoFar s types plans text reader left counts c before now) → reader.max_lines ≡ MOST_LINES → reader.max_bytes ≡ MOST_BYTES
+    → (so : IsSoFar s types plans text reader left counts c before now) → reader.max_lines ≡ most_lines → reader.max_bytes ≡ most_bytes
     → ((t : List ℕ) → StandsIn t reader left → Shows types s.bits t reader (step.Command number command))
     → IsFull which counts command → IfTold text (λ t. PassesLimit which types s.bits t so.commands)
 full_passes limit.Lines s types plans text left reader counts c before now number command so lines bytes shows full = absurd full
 full_passes limit.Bytes s types plans text left reader counts c before now number command so lines bytes shows full = absurd full
 full_passes limit.States s types plans text left reader counts c before now number command so lines bytes shows full =
-    passes_kind is_state MOST_STATES types s.bits text reader left so.commands number command so.told so.count lines bytes shows full.0 (sym so.states_are ∙ full.1)
+    passes_kind is_state most_states types s.bits text reader left so.commands number command so.told so.count lines bytes shows full.0 (sym so.states_are ∙ full.1)
 full_passes limit.Maintains s types plans text left reader counts c before now number command so lines bytes shows full =
-    passes_kind is_maintain MOST_MAINTAINS types s.bits text reader left so.commands number command so.told so.count lines bytes shows full.0 (sym so.maintains_are ∙ full.1)
+    passes_kind is_maintain most_maintains types s.bits text reader left so.commands number command so.told so.count lines bytes shows full.0 (sym so.maintains_are ∙ full.1)
+
+full_reached : (which : LimitKind) (counts : Counts) (cs : List Asked) (c : Asked) → counts.states ≡ state_lines cs → counts.maintains ≡ maintain_lines cs → IsFull which counts c → IsReached which cs
+full_reached limit.Lines counts cs c states maintains full = absurd full
+full_reached limit.Bytes counts cs c states maintains full = absurd full
+full_reached limit.States counts cs c states maintains full = sym states ∙ full.1
+full_reached limit.Maintains counts cs c states maintains full = sym maintains ∙ full.1
 
 pub full_end : (s : Setting) (types : Types) (plans : ℕ → List Fate) (text left left' : Option (List ℕ)) (reader : Reading) (counts : Counts) (c : Cell) (before now : Option (List ℕ)) (number : ℕ) (command : Asked) (which : LimitKind)
-    → IsSoFar s types plans text reader left counts c before now → reader.max_lines ≡ MOST_LINES → reader.max_bytes ≡ MOST_BYTES
+    → IsSoFar s types plans text reader left counts c before now → reader.max_lines ≡ most_lines → reader.max_bytes ≡ most_bytes
     → ((t : List ℕ) → StandsIn t reader left → Shows types s.bits t reader (step.Command number command))
     → counts_with counts command ≡ Err which → EndsAs (status.Limit which) s types plans text left' c before now
 full_end s types plans text left left' reader counts c before now number command which so lines bytes shows full = inr (record {
@@ -416,6 +450,8 @@ full_end s types plans text left left' reader counts c before now number command
   stops = full_passes which s types plans text left reader counts c before now number command so lines bytes shows (counts_full counts command which full);
   output = so.output;
   upkept = upkept_at (status.Limit which) s so.commands c so.upkept;
+  few = so_few s types plans text reader left counts c before now so;
+  reached = full_reached which counts so.commands command so.states_are so.maintains_are (counts_full counts command which full);
 })
 
 -- the reader holds less than a piece
@@ -440,18 +476,18 @@ no_claim types bits (Some text) left cs = tt
 
 -- where the sink failed
 pub fault_ends : (why : Stop) (s : Setting) (types : Types) (plans : ℕ → List Fate) (text left left' : Option (List ℕ)) (reader reader' : Reading) (counts counted : Counts) (old new : Cell) (before now now' : Option (List ℕ)) (number : ℕ) (c : Asked)
-    → IsSoFar s types plans text reader left counts old before now → reader.max_lines ≡ MOST_LINES → reader.max_bytes ≡ MOST_BYTES
+    → IsSoFar s types plans text reader left counts old before now → reader.max_lines ≡ most_lines → reader.max_bytes ≡ most_bytes
     → ((t : List ℕ) → StandsIn t reader left → Shows types s.bits t reader (step.Command number c))
     → ((t : List ℕ) → StandsIn t reader left → StandsIn t reader' left')
-    → counts_with counts c ≡ Ok counted → number ≡ reader.lines + 1 → reader'.lines ≡ reader.lines + 1 → IsLittle reader' → why ≡ stop.Fault → StopsAs why s number c old new now now'
+    → counts_with counts c ≡ Ok counted → number ≡ reader.lines + 1 → number ≤ most_lines → reader'.lines ≡ reader.lines + 1 → IsLittle reader' → why ≡ stop.Fault → StopsAs why s number c old new now now'
     → EndsAs status.WriteFault s types plans text left' new before now'
-fault_ends why s types plans text left left' reader reader' counts counted old new before now now' number c so lines bytes shows stands with is grows little fault stopped =
+fault_ends why s types plans text left left' reader reader' counts counted old new before now now' number c so lines bytes shows stands with is small grows little fault stopped =
     ended (subst (λ w. StopsAs w s number c old new now now') fault stopped)
   where
     ended : (IsAfter s number c old new) × (IsSpanNoted number c old new × AppendsFront now now' (report_in s old.told number c new)) → EndsAs status.WriteFault s types plans text left' new before now'
-    ended (grown, (noted, (front, (rest, (whole, wrote))))) =
+    ended (grown, (noted, (front, (rest, (whole, (some, wrote)))))) =
         let cs = so.commands in
-        let more = line_more s types plans text left left' reader reader' counts counted old new before now number c so lines bytes shows stands with is grown in
+        let more = line_more s types plans text left left' reader reader' counts counted old new before now number c so lines bytes shows stands with is small grown in
         inr (record {
           commands = cs ++ c ∷ [];
           kept = more.kept;
@@ -463,10 +499,13 @@ fault_ends why s types plans text left left' reader reader' counts counted old n
             all = refl;
             front = front;
             rest = rest;
+            cut = some;
             report = ap₂ (λ told k. report_in s told k c new) (sym so.kept.told) more.count ∙ whole;
             output = subst (λ x. Appends before now' (x ++ front)) (sym more.earlier) (Appends-trans before now now' (output_of s cs old) front so.output wrote);
           };
           upkept = upkept_more s plans cs c old new number so.kept (omega (arith, is, so.count)) grown status.WriteFault so.upkept (noted_last s c old new number status.WriteFault noted);
+          few = more.few;
+          reached = tt;
         })
 
 appends_kept : (a b c : Option (List ℕ)) (bs : List ℕ) → Appends a b bs → Keeps b c → Appends a c bs
@@ -487,12 +526,12 @@ roomier_seen old new r lane w at =
 
 -- where memory wanted before a line's report was written
 pub memory_ends : (why : Stop) (s : Setting) (types : Types) (plans : ℕ → List Fate) (text left left' : Option (List ℕ)) (reader reader' : Reading) (counts counted : Counts) (old new : Cell) (before now now' : Option (List ℕ)) (number : ℕ) (c : Asked)
-    → IsSoFar s types plans text reader left counts old before now → reader.max_lines ≡ MOST_LINES → reader.max_bytes ≡ MOST_BYTES
+    → IsSoFar s types plans text reader left counts old before now → reader.max_lines ≡ most_lines → reader.max_bytes ≡ most_bytes
     → ((t : List ℕ) → StandsIn t reader left → Shows types s.bits t reader (step.Command number c))
     → ((t : List ℕ) → StandsIn t reader left → StandsIn t reader' left')
-    → counts_with counts c ≡ Ok counted → number ≡ reader.lines + 1 → why ≡ stop.Memory → StopsAs why s number c old new now now'
+    → counts_with counts c ≡ Ok counted → number ≡ reader.lines + 1 → number ≤ most_lines → why ≡ stop.Memory → StopsAs why s number c old new now now'
     → EndsAs status.NoMemory s types plans text left' new before now'
-memory_ends why s types plans text left left' reader reader' counts counted old new before now now' number c so lines bytes shows stands with is memory stopped =
+memory_ends why s types plans text left left' reader reader' counts counted old new before now now' number c so lines bytes shows stands with is small memory stopped =
     let told = subst (λ w. StopsAs w s number c old new now now') memory stopped in
     ended told.0 (appends_kept before now now' (output_of s so.commands old) so.output told.1)
   where
@@ -504,10 +543,12 @@ memory_ends why s types plans text left left' reader reader' counts counted old 
       stops = no_claim types s.bits text left' so.commands;
       output = inl (subst (Appends before now') (sym (roomier_output s so.commands old new roomier)) wrote);
       upkept = upkept_at status.NoMemory s so.commands new (upkept_roomier s so.commands old new (ap (λ (x : Cell). x.upkeeps) roomier.rest) (roomier_seen old new roomier) so.upkept);
+      few = so_few s types plans text reader left counts old before now so;
+      reached = tt;
     })
     ended (inr grown) wrote =
         let cs = so.commands in
-        let more = line_more s types plans text left left' reader reader' counts counted old new before now number c so lines bytes shows stands with is grown in
+        let more = line_more s types plans text left left' reader reader' counts counted old new before now number c so lines bytes shows stands with is small grown in
         inr (record {
           commands = cs ++ c ∷ [];
           kept = more.kept;
@@ -515,6 +556,8 @@ memory_ends why s types plans text left left' reader reader' counts counted old 
           stops = no_claim types s.bits text left' (cs ++ c ∷ []);
           output = inr (record { earlier = cs; last = c; all = refl; output = subst (Appends before now') (sym more.earlier) wrote });
           upkept = upkept_more s plans cs c old new number so.kept (omega (arith, is, so.count)) grown status.NoMemory so.upkept (cut_last s c old new number grown);
+          few = more.few;
+          reached = tt;
         })
 
 -- where memory wanted before the first line
@@ -534,6 +577,8 @@ opened_ends s types plans text left c before kept none = inr (record {
   stops = no_claim types s.bits text left [];
   output = inl (Appends-nil before);
   upkept = none_upkept status.NoMemory s c none;
+  few = few_none;
+  reached = tt;
 })
 
 pub unopened_ends : (s : Setting) (types : Types) (plans : ℕ → List Fate) (text left : Option (List ℕ)) (c : Cell) (before : Option (List ℕ)) → (c.lanes ≡ []) × ((c.dealt ≡ 0) × (c.upkeeps ≡ [])) → EndsAs status.NoMemory s types plans text left c before before

@@ -1,13 +1,12 @@
 -- The bytes of a line ask for one thing.
-use Rattle.std.proofs.Common.{◌≡◌, ◌⊎◌, ℕ, zero, suc, ◌+◌, ◌<◌, ◌≤◌, List, [], ◌∷◌, ◌++◌, Some, Result, Ok, Err, inl, inr, refl, sym, ap, ap₂, ◌∙◌, subst, arith, length, take, slice_get}
+use Rattle.std.proofs.Common.{◌≡◌, ℕ, zero, suc, ◌+◌, ◌<◌, ◌≤◌, List, [], ◌∷◌, ◌++◌, Some, Result, Ok, Err, inl, inr, refl, sym, ap, ap₂, ◌∙◌, subst, arith, length, take, slice_get}
 use Rattle.std.proofs.lemmas.Bool.{cases_lt}
 use Rattle.text_scanners.specs.Refusals.{Begins, IsRefusedAt}
 use Rattle.text_scanners.proofs.Prefixes.{text_begins}
 use Rattle.cluster_states.specs.StateTexts.{IsStateText}
 use Rattle.cluster_states.proofs.Telling.{tells_one}
 use Rattle.doc_types.specs.SchemaCodes.{Types}
-use Rattle.io_ends.specs.declared.sizes.TheConstants.{LONGEST}
-use Rattle.io_ends.specs.Lines.{lines_of}
+use Rattle.io_ends.specs.Reading.{longest_line}
 use Rattle.feed_lines.specs.Meaning.{line_said}
 use Rattle.feed_lines.specs.declared.command.Cause.{Cause}
 use Rattle.feed_lines.specs.declared.command.Command.{Command}
@@ -62,7 +61,7 @@ by_once (Ok said.Maintain) a b p q = p ∙ sym q
 by_once (Err why) a b p q = p ∙ sym q
 
 pub asked_once : (types : Types) (bits : ℕ) (bytes : List ℕ) (a b : Asked) → IsAsked types bits bytes a → IsAsked types bits bytes b → a ≡ b
-asked_once types bits bytes a b p q = elim (cases_lt LONGEST (length bytes)) [
+asked_once types bits bytes a b p q = elim (cases_lt longest_line (length bytes)) [
   | inl long ↦ p.long long ∙ sym (q.long long)
   | inr short ↦ by_once (line_said types bits bytes) a b (p.short (omega (arith, short))) (q.short (omega (arith, short)))
 ]

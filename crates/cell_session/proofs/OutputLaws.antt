@@ -10,7 +10,7 @@ use Rattle.lane_keeping.specs.LaneKeeping.{setting_of}
 use Rattle.lane_values.specs.declared.setting.Setting.{Setting}
 use Rattle.lane_lives.specs.Lives.{outcome_in}
 use Rattle.lane_lives.specs.Serving.{bucket_in}
-use Rattle.lane_lives.proofs.Answered.{found_written}
+use Rattle.lane_promises.proofs.Answered.{found_written}
 use Rattle.lane_lives.proofs.OneLine.{IsLine}
 use Rattle.session_cluster.specs.Steps.{IsRoomier}
 use Rattle.session_cluster.specs.Cells.{Cell, journals, journals_of}

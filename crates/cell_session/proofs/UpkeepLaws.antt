@@ -14,14 +14,14 @@ use Rattle.lane_journals.specs.declared.event.LaneEvent.{LaneEvent}
 use Rattle.distributor_part.specs.declared.rules.Rules.{Rules}
 use Rattle.lane_keeping.specs.LaneKeeping.{setting_of}
 use Rattle.lane_rest.specs.Rest.{IsAtRest}
-use Rattle.lane_values.specs.LaneValues.{LaneValue, IsLaneValue}
+use Rattle.lane_values.specs.LaneValues.{LaneValue}
 use Rattle.lane_values.specs.Upkept.{IsLaneAtRest}
 use Rattle.lane_values.specs.declared.setting.Setting.{Setting}
-use Rattle.lane_lives.specs.Lives.{Deed, Announces, Stops, Starts, Maintains, IsMaintained}
+use Rattle.lane_lives.specs.Lives.{Deed, Announces, Stops, Starts, Maintains, IsMaintained, IsLife}
 use Rattle.lane_lives.specs.Serving.{bucket_in}
-use Rattle.lane_lives.specs.Upkeep.{IsSpan, SpanStands}
+use Rattle.lane_lives.specs.Upkeep.{SpanStands}
 use Rattle.lane_lives.specs.declared.spans.UpkeepSpan.{UpkeepSpan}
-use Rattle.lane_lives.proofs.Before.{Grown, grown_deed, grown_line}
+use Rattle.lane_promises.proofs.Before.{Grown, grown_deed, grown_line}
 use Rattle.lane_lives.proofs.Upkept.{pass_made}
 use Rattle.session_cluster.specs.Cells.{Cell}
 use Rattle.session_cluster.specs.Deeds.{deeds_of_lane}
@@ -34,6 +34,7 @@ use Rattle.session_cluster.specs.declared.asked.Asked.{Asked}
 use Rattle.session_cluster.specs.declared.asked.Asked.TheVariants as command
 use Rattle.cell_session.specs.declared.status.Status.{Status}
 use Rattle.cell_session.specs.declared.status.Status.TheVariants as status
+use Rattle.session_cluster.proofs.DeedLists.{deeds_same}
 use Rattle.session_cluster.proofs.Elements.{element_set, element_map}
 use Rattle.session_cluster.proofs.SessionSteps.{lane_was, passed_legal, noted_after, leaves_spans}
 use Rattle.session_cluster.proofs.SpanLists.{spans_own}
@@ -63,7 +64,7 @@ grew_one vs ws place lane x y w now there grows at = elim (element_set vs place 
 
 grew_passed : (s : Setting) (v w : LaneValue) → MayHavePassed v w → Grown w.journal v.journal
 grew_passed s v w (inl same) = subst (λ (x : LaneValue). Grown x.journal v.journal) (sym same) (grown_itself v.journal)
-grew_passed s v w (inr m) = grown_deed w.journal s v.lane Maintains v.journal w.journal (inr (pass_made v w m.0)) (grown_itself w.journal)
+grew_passed s v w (inr m) = grown_deed w.journal s v.lane (Maintains None) v.journal w.journal (inr (pass_made v w m.0)) (grown_itself w.journal)
 
 grew_all : (s : Setting) (vs ws : List LaneValue) (lane : ℕ) (w : LaneValue) → MayHaveAllPassed vs ws → slice_get ws lane ≡ Some w → GrewFrom vs lane w
 grew_all s vs ws lane w d at =
@@ -150,6 +151,11 @@ last_there : (cs : List Asked) (c : Asked) → slice_get (cs ++ c ∷ []) (lengt
 last_there [] c = refl
 last_there (y ∷ cs) c = last_there cs c
 
+take_low : (n : ℕ) (cs : List Asked) → length (take n cs) ≤ length cs
+take_low zero cs = omega arith
+take_low (suc n) [] = omega arith
+take_low (suc n) (c ∷ cs) = let low = take_low n cs in omega (arith, low)
+
 -- a lane's span is one of its line's
 spans_there : (lane : ℕ) (o : Option (List UpkeepSpan)) (a : UpkeepSpan) → option_and_then (λ spans. slice_get spans lane) o ≡ Some a → (spans : List UpkeepSpan) × ((o ≡ Some spans) × (slice_get spans lane ≡ Some a))
 spans_there lane None a h = cc h
@@ -159,14 +165,15 @@ module _ (s : Setting) (plans : ℕ → List Fate) (cs : List Asked) (c : Asked)
   same_as : (line : ℕ) → k ≢ line → spans_of line new.upkeeps ≡ spans_of line old.upkeeps
   same_as = leaves_spans s c old new k after
 
-  stood_on : (earlier : List Asked) (line : ℕ) → k ≢ line → HasStood s earlier line old → HasStood s earlier line new
-  stood_on earlier line other h = record {
+  stood_on : (earlier : List Asked) (line : ℕ) → length earlier ≤ length cs → k ≢ line → HasStood s earlier line old → HasStood s earlier line new
+  stood_on earlier line low other h = record {
     spans = h.spans;
     are = same_as line other ∙ h.are;
     count = h.count;
     stand = λ lane w span at there.
         let g = grew_after s c old new k after lane w at in
-        stands_on s (bucket_in s lane) (deeds_of_lane s lane earlier) (g.0).journal w.journal span (h.stand lane g.0 span g.1.0 there) g.1.1;
+        subst (λ ds. SpanStands s (bucket_in s lane) ds w.journal span) (sym (deeds_same s old.upkeeps new.upkeeps k lane earlier (omega (arith, low, is)) same_as))
+        (stands_on s (bucket_in s lane) (deeds_of_lane s old.upkeeps lane earlier) (g.0).journal w.journal span (h.stand lane g.0 span g.1.0 there) g.1.1);
   }
 
   -- ---- the line's own
@@ -192,7 +199,7 @@ module _ (s : Setting) (plans : ℕ → List Fate) (cs : List Asked) (c : Asked)
           record {
             before = v.journal;
             after = w.journal;
-            behind = serving.life;
+            behind = subst (λ ds. IsLife s (bucket_in s lane) ds v.journal) (sym (deeds_same s old.upkeeps new.upkeeps k lane cs (omega (arith, is)) same_as)) serving.life;
             pass = subst (λ (b : Low). IsMaintained b v.journal w.journal) serving.lane_is (pass_made v w made.pass);
             from = made.from;
             to = made.to;
@@ -243,7 +250,7 @@ module _ (s : Setting) (plans : ℕ → List Fate) (cs : List Asked) (c : Asked)
     old_answered at asks =
         let within = slice_get_within cs at command.Maintain asks in
         subst (λ (es : List Asked). HasStood s es (suc at) new) (sym (take-append-le at cs (c ∷ []) (omega (arith, within))))
-        (stood_on (take at cs) (suc at) (λ e. absurd (omega (arith, e, is, within))) (earlier_answered at asks))
+        (stood_on (take at cs) (suc at) (take_low at cs) (λ e. absurd (omega (arith, e, is, within))) (earlier_answered at asks))
 
     all_before : take (length cs) cs' ≡ cs
     all_before = take-append-le (length cs) cs (c ∷ []) (omega arith) ∙ take-length cs
@@ -292,7 +299,7 @@ module _ (s : Setting) (plans : ℕ → List Fate) (cs : List Asked) (c : Asked)
         let was = so.others line (subst IsSome (sym found.1.0) refl) in
         let stood = earlier_answered was.0 was.1.1 in
         let same : stood.spans ≡ found.0 = some_is (sym stood.are ∙ ap (λ n. spans_of n old.upkeeps) (sym was.1.0) ∙ found.1.0) in
-        stands_within s (bucket_in s lane) (deeds_of_lane s lane (take was.0 cs)) v.journal a (stood.stand lane v a there (ap (λ ss. slice_get ss lane) same ∙ found.1.1))
+        stands_within s (bucket_in s lane) (deeds_of_lane s old.upkeeps lane (take was.0 cs)) v.journal a (stood.stand lane v a there (ap (λ ss. slice_get ss lane) same ∙ found.1.1))
 
     same_in : (lane line : ℕ) → k ≢ line → span_in lane line new.upkeeps ≡ span_in lane line old.upkeeps
     same_in lane line other = ap (λ o. option_and_then (λ spans. slice_get spans lane) o) (same_as line other)
@@ -388,7 +395,8 @@ upkept_roomier s cs old new same seen so = record {
       count = stood.count;
       stand = λ lane w span here there.
           let v = seen lane w here in
-          subst (λ J. SpanStands s (bucket_in s lane) (deeds_of_lane s lane (take at cs)) J span) (sym v.1.1) (stood.stand lane v.0 span v.1.0 there);
+          subst (λ us. SpanStands s (bucket_in s lane) (deeds_of_lane s us lane (take at cs)) w.journal span) (sym same)
+          (subst (λ J. SpanStands s (bucket_in s lane) (deeds_of_lane s old.upkeeps lane (take at cs)) J span) (sym v.1.1) (stood.stand lane v.0 span v.1.0 there));
     })
     | inr cut ↦ inr (record { memory = cut.memory; last = cut.last; none = ap (spans_of (suc at)) same ∙ cut.none })
   ];

@@ -1,5 +1,5 @@
 -- What is left where a line's report didn't reach the sink.
-use Rattle.std.specs.Prelude.{◌⊎◌, ℕ, List, Option}
+use Rattle.std.specs.Prelude.{ℕ, List, Option}
 use Rattle.std.specs.Io.KnownBytes.{Keeps}
 use Rattle.io_ends.specs.Causes.{AppendsFront}
 use Rattle.lane_values.specs.declared.setting.Setting.{Setting}

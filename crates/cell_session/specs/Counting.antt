@@ -1,12 +1,12 @@
 -- How many lines of a session are read as states, and how many as upkeep.
-use Rattle.std.specs.Prelude.{◌==◌, ℕ, ◌+◌, Bool, true, false, List, Option, None, Some, Result, Ok, Err, if◌then◌else◌}
+use Rattle.std.specs.Prelude.{◌==◌, ◌≤◌, ℕ, ◌+◌, Bool, true, false, List, length, Option, None, Some, Result, Ok, Err, if◌then◌else◌}
 use Rattle.std.specs.List.{count_by}
 use Rattle.io_ends.specs.declared.next.LimitKind.{LimitKind}
 use Rattle.io_ends.specs.declared.next.LimitKind.TheVariants as limit
 use Rattle.session_cluster.specs.declared.asked.Asked.{Asked}
 use Rattle.session_cluster.specs.declared.asked.Asked.TheVariants as asked
 use Rattle.cell_session.specs.declared.counts.Counts.{Counts}
-use Rattle.cell_session.specs.declared.limits.TheConstants.{MOST_STATES, MOST_MAINTAINS}
+use Rattle.cell_session.specs.Limits.{most_lines, most_states, most_maintains}
 
 -- the line is read as a state, whether or not its text is that of one
 abbrev pub is_state : Asked → Bool
@@ -41,6 +41,12 @@ state_lines commands = count_by is_state commands
 abbrev pub maintain_lines : List Asked → ℕ
 maintain_lines commands = count_by is_maintain commands
 
+-- no more lines than a session may have, nor more that are read as states and as upkeep
+pub record AreFew (commands : List Asked) : Type 0 where
+  pub few : length commands ≤ most_lines
+  pub few_states : state_lines commands ≤ most_states
+  pub few_maintains : maintain_lines commands ≤ most_maintains
+
 -- one more than a count, unless that is the most
 abbrev pub one_more : ℕ → ℕ → Option ℕ
 one_more most count = if count == most then None else Some (count + 1)
@@ -60,9 +66,9 @@ counts_with counts asked.Blank = Ok counts
 counts_with counts asked.TooLong = Ok counts
 counts_with counts (asked.Bad why) = Ok counts
 counts_with counts (asked.Feed op via) = Ok counts
-counts_with counts (asked.State state deaf) = states_with counts (one_more MOST_STATES counts.states)
-counts_with counts (asked.BadState offset) = states_with counts (one_more MOST_STATES counts.states)
+counts_with counts (asked.State state deaf) = states_with counts (one_more most_states counts.states)
+counts_with counts (asked.BadState offset) = states_with counts (one_more most_states counts.states)
 counts_with counts (asked.Stop node) = Ok counts
 counts_with counts (asked.Start node) = Ok counts
 counts_with counts (asked.Net lane fates) = Ok counts
-counts_with counts asked.Maintain = maintains_with counts (one_more MOST_MAINTAINS counts.maintains)
+counts_with counts asked.Maintain = maintains_with counts (one_more most_maintains counts.maintains)

@@ -1,12 +1,13 @@
 -- How a session ends, of all its lines at once: what the clauses of the top call are read off.
-use Rattle.std.specs.Prelude.{◌≡◌, ◌⊎◌, ℕ, List, [], length, Option}
+use Rattle.std.specs.Prelude.{◌≡◌, ◌⊎◌, ℕ, List, [], Option}
 use Rattle.std.specs.Io.KnownBytes.{Keeps}
 use Rattle.carriers.specs.declared.fate.Fate.{Fate}
 use Rattle.doc_types.specs.SchemaCodes.{Types}
 use Rattle.lane_values.specs.declared.setting.Setting.{Setting}
 use Rattle.session_cluster.specs.declared.asked.Asked.{Asked}
 use Rattle.session_cluster.specs.Cells.{Cell}
-use Rattle.cell_session.specs.Ends.{IfTold, AreFirst, StopsAt, Writes}
+use Rattle.cell_session.specs.Counting.{AreFew}
+use Rattle.cell_session.specs.Ends.{IfTold, AreFirst, StopsAt, EndsAtLimit, Writes}
 use Rattle.session_cluster.specs.Keeping.{IsKept}
 use Rattle.cell_session.specs.Upkeep.{AreUpkept}
 use Rattle.cell_session.specs.declared.status.Status.{Status}
@@ -20,6 +21,8 @@ pub record HasDealt (end : Status) (s : Setting) (types : Types) (plans : ℕ �
   pub stops : IfTold text (λ t. StopsAt end types s.bits t left commands)
   pub output : Writes end s commands c before now
   pub upkept : AreUpkept end s commands c
+  pub few : AreFew commands
+  pub reached : EndsAtLimit end commands
 
 -- no lane was made
 pub record HasNothing (end : Status) (c : Cell) (before now : Option (List ℕ)) : Type 0 where

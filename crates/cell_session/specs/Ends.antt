@@ -1,5 +1,5 @@
 -- What each status says.
-use Rattle.std.specs.Prelude.{◌≡◌, ◌⊎◌, ℕ, ◌+◌, ◌<◌, ◌≤◌, Bool, true, List, [], ◌∷◌, ◌++◌, length, drop, Option, None, Some, slice_get}
+use Rattle.std.specs.Prelude.{◌≡◌, ◌≢◌, ◌⊎◌, ℕ, ◌+◌, ◌<◌, ◌≤◌, Bool, true, List, [], ◌∷◌, ◌++◌, length, drop, Option, None, Some, slice_get}
 use Rattle.std.specs.Io.KnownBytes.{Appends, Keeps}
 use Rattle.std.specs.List.{count_by}
 use Rattle.io_ends.specs.Causes.{AppendsFront}
@@ -16,10 +16,9 @@ use Rattle.reports.specs.ReportText.{usage_text}
 use Rattle.session_cluster.specs.Cells.{Cell}
 use Rattle.session_cluster.specs.Deeds.{told_of}
 use Rattle.session_cluster.specs.Output.{report_in, output_of}
-use Rattle.session_cluster.specs.Lanes.{Journal}
 use Rattle.lane_values.specs.Settings.{lane_count}
 use Rattle.lane_values.specs.declared.setting.Setting.{Setting}
-use Rattle.cell_session.specs.declared.limits.TheConstants.{MOST_LINES, MOST_BYTES, MOST_STATES, MOST_MAINTAINS}
+use Rattle.cell_session.specs.Limits.{most_lines, most_bytes, most_states, most_maintains}
 use Rattle.cell_session.specs.declared.status.Status.{Status}
 use Rattle.cell_session.specs.declared.status.Status.TheVariants as status
 
@@ -33,10 +32,10 @@ IfTold (Some bytes) P = P bytes
 pub record AreFirst (types : Types) (bits : ℕ) (text : List ℕ) (commands : List Asked) : Type 0 where
   pub asked : (at : ℕ) (c : Asked) → slice_get commands at ≡ Some c → IsCommandAt types bits (Some text) at c
   pub some : length commands ≤ length (lines_of text)
-  pub few : length commands ≤ MOST_LINES
-  pub within : end_of (length commands) text ≤ MOST_BYTES
-  pub few_states : state_lines commands ≤ MOST_STATES
-  pub few_maintains : maintain_lines commands ≤ MOST_MAINTAINS
+  pub few : length commands ≤ most_lines
+  pub within : end_of (length commands) text ≤ most_bytes
+  pub few_states : state_lines commands ≤ most_states
+  pub few_maintains : maintain_lines commands ≤ most_maintains
 
 -- the first so many lines ask for commands of which this holds
 abbrev pub OfFirst : Types → ℕ → List ℕ → ℕ → (List Asked → Type 0) → Type 0
@@ -45,14 +44,14 @@ OfFirst types bits text count P =
 
 -- ---- lanes
 
--- all lanes are there; where memory wanted, these or none
-abbrev pub HasLanes : Status → Setting → List Journal → Type 0
-HasLanes status.NoMemory s Js = (length Js ≡ 0) ⊎ (length Js ≡ lane_count s)
-HasLanes status.Done s Js = length Js ≡ lane_count s
-HasLanes status.ReadFault s Js = length Js ≡ lane_count s
-HasLanes status.WriteFault s Js = length Js ≡ lane_count s
-HasLanes (status.Limit which) s Js = length Js ≡ lane_count s
-HasLanes status.Usage s Js = ⊥
+-- all lanes are there; where memory wanted before the first line, these or none
+abbrev pub HasLanes : Status → Setting → Cell → Type 0
+HasLanes status.NoMemory s c = ((length c.lanes ≡ 0) × (c.dealt ≡ 0)) ⊎ (length c.lanes ≡ lane_count s)
+HasLanes status.Done s c = length c.lanes ≡ lane_count s
+HasLanes status.ReadFault s c = length c.lanes ≡ lane_count s
+HasLanes status.WriteFault s c = length c.lanes ≡ lane_count s
+HasLanes (status.Limit which) s c = length c.lanes ≡ lane_count s
+HasLanes status.Usage s c = ⊥
 
 -- ---- which lines were dealt with
 
@@ -71,8 +70,8 @@ IsReadNear text count left =
 pub record PassesKind (of_kind : Asked → Bool) (most : ℕ) (types : Types) (bits : ℕ) (text : List ℕ) (commands : List Asked) : Type 0 where
   pub bytes : List ℕ
   pub line : slice_get (lines_of text) (length commands) ≡ Some bytes
-  pub few : length commands < MOST_LINES
-  pub within : end_of (length commands + 1) text ≤ MOST_BYTES
+  pub few : length commands < most_lines
+  pub within : end_of (length commands + 1) text ≤ most_bytes
   pub command : Asked
   pub asked : IsAsked types bits bytes command
   pub kind : of_kind command ≡ true
@@ -81,11 +80,23 @@ pub record PassesKind (of_kind : Asked → Bool) (most : ℕ) (types : Types) (b
 -- there is one line more, and it is past the limit
 abbrev pub PassesLimit : LimitKind → Types → ℕ → List ℕ → List Asked → Type 0
 PassesLimit limit.Lines types bits text commands =
-    (length commands < length (lines_of text)) × (length commands ≡ MOST_LINES)
+    (length commands < length (lines_of text)) × (length commands ≡ most_lines)
 PassesLimit limit.Bytes types bits text commands = (length commands < length (lines_of text))
-    × ((length commands < MOST_LINES) × (MOST_BYTES < end_of (length commands + 1) text))
-PassesLimit limit.States types bits text commands = PassesKind is_state MOST_STATES types bits text commands
-PassesLimit limit.Maintains types bits text commands = PassesKind is_maintain MOST_MAINTAINS types bits text commands
+    × ((length commands < most_lines) × (most_bytes < end_of (length commands + 1) text))
+PassesLimit limit.States types bits text commands = PassesKind is_state most_states types bits text commands
+PassesLimit limit.Maintains types bits text commands = PassesKind is_maintain most_maintains types bits text commands
+
+-- of a limit that is reached: as many lines were dealt with, or of its kind, as a session may have
+abbrev pub IsReached : LimitKind → List Asked → Type 0
+IsReached limit.Lines commands = length commands ≡ most_lines
+IsReached limit.Bytes commands = Unit {0}
+IsReached limit.States commands = state_lines commands ≡ most_states
+IsReached limit.Maintains commands = maintain_lines commands ≡ most_maintains
+
+-- where a limit ends the session, it is reached
+abbrev pub EndsAtLimit : Status → List Asked → Type 0
+EndsAtLimit (status.Limit which) commands = IsReached which commands
+EndsAtLimit _ commands = Unit {0}
 
 -- why no line was dealt with behind those that asked for these
 abbrev pub StopsAt : Status → Types → ℕ → List ℕ → Option (List ℕ) → List Asked → Type 0
@@ -111,6 +122,7 @@ pub record TakesFront (s : Setting) (commands : List Asked) (cell : Cell)
   pub all : commands ≡ earlier ++ last ∷ []
   pub front : List ℕ
   pub rest : List ℕ
+  pub cut : rest ≢ []
   pub report : report_in s (told_of s earlier) (length commands) last cell ≡ front ++ rest
   pub output : Appends before now (output_of s earlier cell ++ front)
 

@@ -1,6 +1,5 @@
 -- Which distributors heard which states.
-use Rattle.std.specs.Prelude.{◌≡◌, ◌<◌, ℕ, false, List, ◌∷◌, ◌++◌, Option, Some, slice_get}
-use Rattle.doc_types.specs.SchemaCodes.{Types}
+use Rattle.std.specs.Prelude.{◌≡◌, ◌<◌, ℕ, false, List, ◌∷◌, ◌++◌, Some, slice_get}
 use Rattle.node_sets.specs.Members.{has_node}
 use Rattle.lane_journals.specs.Meanings.{history}
 use Rattle.lane_journals.specs.Readers.{held}
@@ -8,22 +7,20 @@ use Rattle.lane_journals.specs.declared.event.LaneEvent.{LaneEvent}
 use Rattle.lane_journals.specs.declared.event.LaneEvent.TheVariants.{Heard}
 use Rattle.lane_values.specs.LaneValues.{LaneValue}
 use Rattle.lane_values.specs.declared.setting.Setting.{Setting}
-use Rattle.lane_lives.specs.Hearings.{deaf_in, HeardNewest}
+use Rattle.lane_promises.specs.Hearings.{deaf_in, HeardNewest}
 use Rattle.lane_lives.specs.Lives.{newest_in}
 use Rattle.lane_lives.specs.Serving.{bucket_in}
+use Rattle.session_cluster.specs.Cells.{Cell}
 use Rattle.session_cluster.specs.Deeds.{deeds_of_lane}
-use Rattle.cell_session.specs.Operations.{WereAsked}
 use Rattle.session_cluster.specs.declared.asked.Asked.{Asked}
 
-pub record HaveHeard (s : Setting) (types : Types) (text : Option (List ℕ)) (dealt : ℕ) (vs : List LaneValue) : Type 0 where
-  pub asked : List Asked
-  pub were_asked : WereAsked types s.bits text dealt asked
+pub record HaveHeard (s : Setting) (asked : List Asked) (c : Cell) : Type 0 where
   -- a distributor that isn't deaf to the newest state holds it
-  pub holds : (lane : ℕ) (v : LaneValue) → slice_get vs lane ≡ Some v → (d : ℕ) → d < 32
-      → has_node (deaf_in (deeds_of_lane s lane asked)) d ≡ false
-      → held d (history v.journal) ≡ Some (newest_in s (deeds_of_lane s lane asked)).version
+  pub holds : (lane : ℕ) (v : LaneValue) → slice_get c.lanes lane ≡ Some v → (d : ℕ) → d < 32
+      → has_node (deaf_in (deeds_of_lane s c.upkeeps lane asked)) d ≡ false
+      → held d (history v.journal) ≡ Some (newest_in s (deeds_of_lane s c.upkeeps lane asked)).version
   -- each hearing is of the state that was published last, by a distributor that isn't deaf to it, or by the lane's
   -- owner under it
-  pub hears : (lane : ℕ) (v : LaneValue) → slice_get vs lane ≡ Some v
+  pub hears : (lane : ℕ) (v : LaneValue) → slice_get c.lanes lane ≡ Some v
       → (after before : List LaneEvent) (d version : ℕ) → v.journal ≡ after ++ Heard d version ∷ before
-      → HeardNewest s (bucket_in s lane) (deeds_of_lane s lane asked) before d version
+      → HeardNewest s (bucket_in s lane) (deeds_of_lane s c.upkeeps lane asked) before d version

@@ -1,11 +1,14 @@
--- For a reader: Cells, Lanes, Deeds, Operations, Upkeep, Output and Ends. The others serve the calls below the top one.
+-- For a reader: Lines, Operations, Upkeep, Ends and Limits. The others serve the calls below the top one.
 pub mod StatusNumbers
+pub mod Limits
 pub mod Counting
 pub mod Operations
 pub mod Upkeep
 pub mod Causes
 pub mod Hearing
+pub mod LanePromises
 pub mod Ends
+pub mod Lines
 pub mod Answering
 pub mod Reads
 pub mod Dealing

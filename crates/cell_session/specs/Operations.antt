@@ -1,5 +1,5 @@
 -- What the lines of a session did.
-use Rattle.std.specs.Prelude.{◌≡◌, ℕ, ◌<◌, List, length, Option, None, Some, slice_get}
+use Rattle.std.specs.Prelude.{◌≡◌, ℕ, ◌<◌, ◌≤◌, List, length, Option, None, Some, slice_get}
 use Rattle.io_ends.specs.Lines.{lines_of}
 use Rattle.carriers.specs.declared.fate.Fate.{Fate}
 use Rattle.doc_types.specs.SchemaCodes.{Types}
@@ -13,8 +13,11 @@ use Rattle.lane_lives.specs.Lives.{IsLife, IsNone}
 use Rattle.lane_lives.specs.Serving.{bucket_in}
 use Rattle.session_cluster.specs.Asking.{IsAsked}
 use Rattle.session_cluster.specs.Deeds.{deeds_of_lane, planned_for}
-use Rattle.session_cluster.specs.Lanes.{Journal, journal_in}
+use Rattle.session_cluster.specs.Cells.{Cell, journals_of}
+use Rattle.session_cluster.specs.Lanes.{journal_in}
 use Rattle.session_cluster.specs.declared.asked.Asked.{Asked}
+use Rattle.cell_session.specs.Counting.{state_lines, maintain_lines}
+use Rattle.cell_session.specs.Limits.{most_lines, most_states, most_maintains}
 
 -- ---- what they asked for
 
@@ -25,21 +28,24 @@ IsCommandAt types bits None at c = Unit {0}
 IsCommandAt types bits (Some text) at c =
     (bytes : List ℕ) × ((slice_get (lines_of text) at ≡ Some bytes) × IsAsked types bits bytes c)
 
--- the lines dealt with asked for these
+-- the lines dealt with asked for these, and no more of them than a session may have, nor more that are read as states
+-- and as upkeep
 pub record WereAsked (types : Types) (bits : ℕ) (text : Option (List ℕ)) (dealt : ℕ) (asked : List Asked) : Type 0 where
   pub count : length asked ≡ dealt
   pub told : (at : ℕ) (c : Asked) → slice_get asked at ≡ Some c → IsCommandAt types bits text at c
+  pub few : length asked ≤ most_lines
+  pub few_states : state_lines asked ≤ most_states
+  pub few_maintains : maintain_lines asked ≤ most_maintains
 
 -- ---- what they did
 
 -- each line dealt with that publishes a state, or stops or starts a node, did so in every lane, and each that asks for
--- an operation ran it in the lane of its key, one after the other; and nothing else happened in any lane
-pub record HaveOutcomes (s : Setting) (types : Types) (text : Option (List ℕ)) (dealt : ℕ) (Js : List Journal) : Type 0 where
-  pub asked : List Asked
-  pub were_asked : WereAsked types s.bits text dealt asked
-  pub lives : (lane : ℕ) → lane < length Js → IsLife s (bucket_in s lane) (deeds_of_lane s lane asked) (journal_in lane Js)
+-- an operation ran it in the lane of its key, and each that asks for upkeep made the passes that its spans tell, one after
+-- the other; and nothing else happened in any lane
+pub record HaveOutcomes (s : Setting) (asked : List Asked) (c : Cell) : Type 0 where
+  pub lives : (lane : ℕ) → lane < length c.lanes → IsLife s (bucket_in s lane) (deeds_of_lane s c.upkeeps lane asked) (journal_in lane (journals_of c))
   -- no line but one that asks for an operation has an event in its own name
-  pub no_others : (lane line : ℕ) → IsNone line (life.lines_of (deeds_of_lane s lane asked)) → IsFresh (history (journal_in lane Js)) line
+  pub no_others : (lane line : ℕ) → IsNone line (life.lines_of (deeds_of_lane s c.upkeeps lane asked)) → IsFresh (history (journal_in lane (journals_of c))) line
 
 -- ---- what became of their messages
 
@@ -50,7 +56,5 @@ pub record HasFates (planned : List Fate) (v : LaneValue) : Type 0 where
   pub planned_are : v.planned ≡ planned
 
 -- it is so in each lane, for which the fates were planned from the start, and then by lines, if its carrier takes plans
-pub record HaveFates (types : Types) (bits : ℕ) (plans : ℕ → List Fate) (text : Option (List ℕ)) (dealt : ℕ) (vs : List LaneValue) : Type 0 where
-  pub asked : List Asked
-  pub were_asked : WereAsked types bits text dealt asked
-  pub fates : (lane : ℕ) (v : LaneValue) → slice_get vs lane ≡ Some v → HasFates (planned_for lane v.takes_plans (plans lane) asked) v
+abbrev pub HaveFates : (ℕ → List Fate) → List Asked → List LaneValue → Type 0
+HaveFates plans asked vs = (lane : ℕ) (v : LaneValue) → slice_get vs lane ≡ Some v → HasFates (planned_for lane v.takes_plans (plans lane) asked) v

@@ -2,7 +2,7 @@
 use Rattle.std.specs.Prelude.{◌≡◌, ℕ, ◌+◌, ◌≤◌, List, length, Option, Some, slice_get}
 use Rattle.io_ends.specs.Causes.{HasRisen}
 use Rattle.io_ends.specs.Lines.{lines_of, NoLineFeed}
-use Rattle.io_ends.specs.Reading.{Reading, Grows, IsLittle, IsWithin, Reaches}
+use Rattle.io_ends.specs.Reading.{Reading, Grows, IsLittle, IsAtLimit, IsWithin, Reaches}
 use Rattle.doc_types.specs.SchemaCodes.{Types}
 use Rattle.session_cluster.specs.Asking.{IsAsked, IsOwnAsked}
 use Rattle.cell_session.specs.declared.next_command.Step.{Step}
@@ -10,11 +10,11 @@ use Rattle.cell_session.specs.declared.next_command.Step.TheVariants as step
 use Rattle.cell_session.specs.declared.status.Status.{Status}
 use Rattle.cell_session.specs.declared.status.Status.TheVariants as status
 
--- after a fault no line is given, and what lies ahead is no whole line
+-- after a fault no line is given, and what lies ahead is no whole line; a limit of the reader is reached
 abbrev pub HoldsBack : Reading → Reading → Status → Type 0
 HoldsBack old new status.ReadFault = (new.lines ≡ old.lines) × NoLineFeed new.ahead
 HoldsBack old new status.Done = Unit {0}
-HoldsBack old new (status.Limit which) = Unit {0}
+HoldsBack old new (status.Limit which) = IsAtLimit which old
 HoldsBack old new status.NoMemory = Unit {0}
 HoldsBack old new status.Usage = Unit {0}
 HoldsBack old new status.WriteFault = Unit {0}

@@ -7,7 +7,7 @@ use Rattle.doc_types.specs.SchemaCodes.{Types}
 use Rattle.lane_values.specs.Settings.{IsSetting}
 use Rattle.lane_values.specs.declared.setting.Setting.{Setting}
 use Rattle.session_cluster.specs.declared.asked.Asked.{Asked}
-use Rattle.cell_session.specs.declared.limits.TheConstants.{MOST_STATES, MOST_MAINTAINS}
+use Rattle.cell_session.specs.Limits.{most_lines, most_states, most_maintains}
 use Rattle.cell_session.specs.declared.counts.Counts.{Counts}
 use Rattle.cell_session.specs.declared.status.Status.TheVariants as status
 use Rattle.cell_session.specs.Counting.{state_lines, maintain_lines}
@@ -26,11 +26,12 @@ pub record IsSoFar (s : Setting) (types : Types) (plans : ℕ → List Fate) (te
   pub setting : IsSetting s
   pub commands : List Asked
   pub count : length commands ≡ reader.lines
+  pub few : length commands ≤ most_lines
   -- how many lines were read as states, and how many as upkeep
   pub states_are : counts.states ≡ state_lines commands
-  pub few_states : counts.states ≤ MOST_STATES
+  pub few_states : counts.states ≤ most_states
   pub maintains_are : counts.maintains ≡ maintain_lines commands
-  pub few_maintains : counts.maintains ≤ MOST_MAINTAINS
+  pub few_maintains : counts.maintains ≤ most_maintains
   pub kept : IsKept s plans commands c
   pub output : Appends before now (output_of s commands c)
   pub upkept : AreUpkept status.Done s commands c

@@ -1,6 +1,5 @@
 -- What became of the lines that asked for upkeep.
 use Rattle.std.specs.Prelude.{◌≡◌, ◌<◌, ◌≤◌, ◌⊎◌, ℕ, suc, List, length, take, Option, None, Some, IsSome, slice_get}
-use Rattle.doc_types.specs.SchemaCodes.{Types}
 use Rattle.lane_values.specs.LaneValues.{LaneValue}
 use Rattle.lane_values.specs.Settings.{lane_count}
 use Rattle.lane_values.specs.declared.setting.Setting.{Setting}
@@ -9,7 +8,6 @@ use Rattle.lane_lives.specs.Upkeep.{SpanStands}
 use Rattle.lane_lives.specs.declared.spans.UpkeepSpan.{UpkeepSpan}
 use Rattle.session_cluster.specs.Cells.{Cell}
 use Rattle.session_cluster.specs.Deeds.{deeds_of_lane}
-use Rattle.cell_session.specs.Operations.{WereAsked}
 use Rattle.session_cluster.specs.Spans.{spans_of, span_in}
 use Rattle.session_cluster.specs.declared.asked.Asked.{Asked}
 use Rattle.session_cluster.specs.declared.asked.Asked.TheVariants as command
@@ -24,7 +22,7 @@ pub record HasStood (s : Setting) (earlier : List Asked) (line : ℕ) (c : Cell)
   pub are : spans_of line c.upkeeps ≡ Some spans
   pub count : length spans ≡ lane_count s
   pub stand : (lane : ℕ) (v : LaneValue) (span : UpkeepSpan) → slice_get c.lanes lane ≡ Some v → slice_get spans lane ≡ Some span
-      → SpanStands s (bucket_in s lane) (deeds_of_lane s lane earlier) v.journal span
+      → SpanStands s (bucket_in s lane) (deeds_of_lane s c.upkeeps lane earlier) v.journal span
 
 -- memory wanted as it was the last line
 pub record WasCut (end : Status) (asked : List Asked) (line : ℕ) (c : Cell) : Type 0 where
@@ -44,9 +42,3 @@ pub record AreUpkept (end : Status) (s : Setting) (asked : List Asked) (c : Cell
   -- in each lane that of an earlier line stands before that of a later one
   pub in_order : (lane earlier line : ℕ) → earlier < line → (a b : UpkeepSpan) → span_in lane earlier c.upkeeps ≡ Some a
       → span_in lane line c.upkeeps ≡ Some b → a.to ≤ b.from
-
--- that is so of the lines that were dealt with
-pub record HaveUpkeeps (end : Status) (s : Setting) (types : Types) (text : Option (List ℕ)) (c : Cell) : Type 0 where
-  pub asked : List Asked
-  pub were_asked : WereAsked types s.bits text c.dealt asked
-  pub are : AreUpkept end s asked c

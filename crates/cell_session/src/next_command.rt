@@ -1,4 +1,4 @@
-ghost use Rattle.std.specs.Prelude.{◌≡◌, ◌<◌, ◌≤◌, ℕ, List};
+ghost use Rattle.std.specs.Prelude.{◌<◌, ◌≤◌, ℕ, List};
 ghost use Rattle.io_ends.specs.Reading.{StandsIn};
 ghost use Rattle.cell_session.specs.Reads.{Advances, Shows, CausedBySource, IsOwnStep, IsOfLine};
 

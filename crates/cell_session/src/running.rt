@@ -6,14 +6,12 @@ ghost use Rattle.reports.specs.ReportText.{usage_text};
 ghost use Rattle.session_settings.specs.Choices.{Chooses, AreWrong};
 ghost use Rattle.lane_values.specs.Settings.{IsSetting};
 ghost use Rattle.session_settings.specs.declared.choice.Choice.{Choice};
-ghost use Rattle.cell_session.specs.Causes.{HaveCauses};
 ghost use Rattle.session_cluster.specs.Cells.{is_empty, journals_of};
 ghost use Rattle.cell_session.specs.Dealing.{EndsAs};
 ghost use Rattle.cell_session.specs.Ends.{IfTold, OfFirst, HasLanes, DealsWith, PassesLimit, Writes, UsageEnd};
-ghost use Rattle.cell_session.specs.Hearing.{HaveHeard};
-ghost use Rattle.session_cluster.specs.Lanes.{AreLegal, AreDurable, AreInOrder, AreTogether, AreComplete};
-ghost use Rattle.cell_session.specs.Operations.{HaveOutcomes, HaveFates};
-ghost use Rattle.cell_session.specs.Upkeep.{HaveUpkeeps};
+ghost use Rattle.cell_session.specs.Lines.{HaveLines};
+ghost use Rattle.session_cluster.specs.Lanes.{AreLegal, AreInOrder, AreTogether};
+ghost use Rattle.cell_session.specs.LanePromises.{AreDurable, AreComplete, AreShownRight};
 
 use crate::answering::{Stop, answer_line};
 use crate::counts::{Counts, counts_with};
@@ -23,7 +21,7 @@ use crate::status::Status;
 use carriers::Carriers;
 use doc_types::Schema;
 use io_ends::{LimitKind, LineReader, Sink, Source, write_all};
-use lane_lives::laws::{
+use lane_promises::laws::{
     hearings_follow_deeds, lanes_are_complete, lanes_are_durable, lines_are_refused_with_cause,
     lines_fall_short_with_cause,
 };
@@ -50,31 +48,23 @@ pub fn run_one<S: Source, K: Sink, C: Carriers>(
     requires { IsTrue (is_empty cluster.old) }
 
     // the journals: which are legal, what is kept of them, whether lines overlap, that states, stops and starts come
-    // to all alike, who heard which state, how many there are, what became of messages
+    // to all alike, how many there are, and by what is shown of them
     ensures legal_lanes { (c : Choice) → Chooses (map string_bytes words.now) c
         → AreLegal c.setting (journals_of cluster.new) }
     ensures durability { (c : Choice) → Chooses (map string_bytes words.now) c
         → AreDurable c.setting (journals_of cluster.new) }
     ensures lines_in_order { AreInOrder (journals_of cluster.new) }
     ensures state_events { AreTogether (journals_of cluster.new) }
-    ensures hearings { (c : Choice) → Chooses (map string_bytes words.now) c
-        → HaveHeard c.setting c.schema (S.left source.old) cluster.new.dealt cluster.new.lanes }
-    ensures fates { (c : Choice) → Chooses (map string_bytes words.now) c
-        → HaveFates c.schema c.setting.bits (C.plans carriers.old) (S.left source.old) cluster.new.dealt cluster.new.lanes }
-    ensures lanes { (c : Choice) → Chooses (map string_bytes words.now) c
-        → HasLanes result c.setting (journals_of cluster.new) }
+    ensures lanes { (c : Choice) → Chooses (map string_bytes words.now) c → HasLanes result c.setting cluster.new }
+    ensures shown { (c : Choice) → Chooses (map string_bytes words.now) c → AreShownRight c.setting cluster.new }
 
-    // the lines: which were dealt with, what each of them did, why it was refused or lacked answers, how upkeep went, and
-    // the bytes that answer them
+    // the lines: which were dealt with; what each of them did, who heard which state, what became of messages, why lines
+    // were refused or lacked answers, and how upkeep went; and the bytes that answer them
     ensures dealt_with { (c : Choice) → Chooses (map string_bytes words.now) c
         → IfTold (S.left source.old)
         (λ text. DealsWith result c.schema c.setting.bits text cluster.new.dealt (S.left source.new)) }
-    ensures one_outcome { (c : Choice) → Chooses (map string_bytes words.now) c
-        → HaveOutcomes c.setting c.schema (S.left source.old) cluster.new.dealt (journals_of cluster.new) }
-    ensures causes { (c : Choice) → Chooses (map string_bytes words.now) c
-        → HaveCauses c.setting c.schema (S.left source.old) cluster.new.dealt cluster.new.lanes }
-    ensures upkeeps { (c : Choice) → Chooses (map string_bytes words.now) c
-        → HaveUpkeeps result c.setting c.schema (S.left source.old) cluster.new }
+    ensures lines { (c : Choice) → Chooses (map string_bytes words.now) c
+        → HaveLines result c.setting c.schema (C.plans carriers.old) (S.left source.old) cluster.new }
     ensures completeness { (c : Choice) → Chooses (map string_bytes words.now) c
         → AreComplete c.setting cluster.new.lanes }
     ensures bytes_written { (c : Choice) → Chooses (map string_bytes words.now) c

@@ -1,5 +1,5 @@
 -- A digit more of a number, and the end of one.
-use Rattle.std.proofs.Common.{◌≡◌, ◌⊎◌, ℕ, zero, suc, ◌+◌, ◌-◌, ◌*◌, ◌^◌, ◌<◌, ◌≤◌, ◌&&◌, ◌||◌, Bool, true, false, List, [], ◌∷◌, ◌++◌, length, take, drop, get_or, nat_le, nat_lt, inl, inr, refl, sym, ap, subst, ◌∙◌, arith}
+use Rattle.std.proofs.Common.{◌≡◌, ◌⊎◌, ℕ, zero, suc, ◌+◌, ◌-◌, ◌*◌, ◌^◌, ◌<◌, ◌≤◌, ◌&&◌, ◌||◌, Bool, true, false, cond, nat_eq, codes, List, [], ◌∷◌, ◌++◌, length, take, drop, get_or, nat_le, nat_lt, inl, inr, refl, sym, ap, subst, ◌∙◌, arith}
 use Rattle.std.proofs.lemmas.Bool.{cases_lt}
 use Rattle.std.proofs.lemmas.Bool.Decides.{nat_tests}
 use Rattle.std.proofs.lemmas.List.{length-append, length-take, append-nil}
@@ -10,10 +10,10 @@ use Rattle.cluster_states.specs.ClusterStates.{State, IsState}
 use Rattle.cluster_states.specs.declared.marks.Mark.{Mark}
 use Rattle.cluster_states.specs.declared.marks.Mark.TheVariants.{Up, Down, Retired}
 use Rattle.cluster_states.specs.declared.places.Number.{Number}
-use Rattle.cluster_states.specs.declared.places.Number.TheVariants.{Version, Distributors, Nodes, Marked}
+use Rattle.cluster_states.specs.declared.places.Number.TheVariants.{Version, Distributors, Nodes, Groups, Marked}
 use Rattle.cluster_states.specs.declared.places.Role.{Role}
 use Rattle.cluster_states.specs.declared.places.Role.TheVariants.{Distributor, Storage}
-use Rattle.cluster_states.specs.StateTexts.{after_counts, marks_text}
+use Rattle.cluster_states.specs.StateTexts.{after_counts, after_groups, marks_text}
 use Rattle.cluster_states.specs.Scanning.{value_from, Continues, can_begin, least_of, end_of, marks_of, role_word, TakesNumber, Numbered, Counting, Signed, IsKnown, IsWithin}
 use Rattle.cluster_states.proofs.Numerals.{starts, continued, value_from-le}
 
@@ -25,6 +25,7 @@ pub narrow : (number : Number) (known : State) → IsKnown number known → IsNa
 narrow Version known k = inl (omega arith)
 narrow Distributors known k = inl (omega arith)
 narrow Nodes known k = inl (omega arith)
+narrow Groups known k = inr (omega arith)
 narrow (Marked Distributor least) known k = inr (let few = k.1.state.few_distributors in omega arith)
 narrow (Marked Storage least) known k = inr (let few = k.1.state.few_nodes in omega arith)
 
@@ -32,6 +33,7 @@ pub few_numbers : (number : Number) (known : State) → IsKnown number known →
 few_numbers Version known k = omega arith
 few_numbers Distributors known k = omega arith
 few_numbers Nodes known k = omega arith
+few_numbers Groups known k = omega arith
 few_numbers (Marked Distributor least) known k = let few = k.1.state.few_distributors in omega arith
 few_numbers (Marked Storage least) known k = let few = k.1.state.few_nodes in omega arith
 
@@ -107,6 +109,7 @@ pub takes_within : (number : Number) (known : State) (n : ℕ) (after : List ℕ
 takes_within Version known n after s state h = (omega arith, omega (arith, state.version, h.0))
 takes_within Distributors known n after s state h = (omega (arith, state.some_distributors, h.1.0), omega (arith, state.few_distributors, h.1.0))
 takes_within Nodes known n after s state h = (omega (arith, state.some_nodes, h.1.1.0), omega (arith, state.few_nodes, h.1.1.0))
+takes_within Groups known n after s state h = (h.1.0, omega (arith, state.few_groups, h.1.1.0))
 takes_within (Marked role least) known n after s state h = (h.0, signed_within role n known h.1.0 s h.1.1.1)
 
 -- what is behind a number doesn't begin with a digit
@@ -122,13 +125,21 @@ marks_no_digit Storage n (Down ∷ ms) tail h = inl (omega arith)
 marks_no_digit Distributor n (Retired ∷ ms) tail h = inl (omega arith)
 marks_no_digit Storage n (Retired ∷ ms) tail h = inl (omega arith)
 
+pub groups_no_digit : (s : State) → NoDigit (after_groups s)
+groups_no_digit s = marks_no_digit Distributor 0 s.distributors _ (subst NoDigit (append-nil _) (marks_no_digit Storage 0 s.nodes [] tt))
+
 pub counts_no_digit : (s : State) → NoDigit (after_counts s)
-counts_no_digit s = marks_no_digit Distributor 0 s.distributors _ (subst NoDigit (append-nil _) (marks_no_digit Storage 0 s.nodes [] tt))
+counts_no_digit s = behind (nat_eq s.groups 1) s.groups (after_groups s) (groups_no_digit s)
+  where
+    behind : (b : Bool) (groups : ℕ) (tail : List ℕ) → NoDigit tail → NoDigit (cond b [] (codes " groups:" ++ decimal groups) ++ tail)
+    behind true groups tail h = h
+    behind false groups tail h = inl (omega arith)
 
 pub takes_no_digit : (number : Number) (known : State) (n : ℕ) (after : List ℕ) (s : State) → TakesNumber number known n after s → NoDigit after
 takes_no_digit Version known n after s h = subst NoDigit (sym h.1) (inl (omega arith))
 takes_no_digit Distributors known n after s h = subst NoDigit (sym h.1.1) (inl (omega arith))
 takes_no_digit Nodes known n after s h = subst NoDigit (sym h.1.1.1) (counts_no_digit s)
+takes_no_digit Groups known n after s h = subst NoDigit (sym h.1.1.1) (groups_no_digit s)
 takes_no_digit (Marked role least) known n after s h = subst NoDigit (sym h.1.1.0) (inl (omega arith))
 
 pub head_same : (a b : ℕ) (xs ys : List ℕ) → a ∷ xs ≡ b ∷ ys → a ≡ b

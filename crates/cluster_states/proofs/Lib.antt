@@ -9,6 +9,7 @@ mod Moving
 mod MarkTexts
 mod MarkMoves
 mod SpaceMoves
+mod GroupMoves
 mod GoingOn
 mod Reaching
 mod TextSizes

@@ -96,6 +96,8 @@ up_with known Storage n m h = h
 
 pub state_with : (known : State) (role : Role) (n : ℕ) (m : Mark) → (role ≡ Distributor → m ≢ Retired) → IsState known → IsState (with_mark known role n m)
 state_with known Distributor n m plain h = record {
+  some_groups = h.some_groups;
+  few_groups = h.few_groups;
   version = h.version;
   some_distributors = omega (arith, h.some_distributors, length-set known.distributors n m);
   few_distributors = omega (arith, h.few_distributors, length-set known.distributors n m);
@@ -104,6 +106,8 @@ state_with known Distributor n m plain h = record {
   plain = All-set (λ x. x ≢ Retired) known.distributors n m (plain refl) h.plain;
 }
 state_with known Storage n m plain h = record {
+  some_groups = h.some_groups;
+  few_groups = h.few_groups;
   version = h.version;
   some_distributors = h.some_distributors;
   few_distributors = h.few_distributors;

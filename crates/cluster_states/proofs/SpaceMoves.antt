@@ -25,7 +25,7 @@ abbrev pub Spaced : List ℕ → Type 0
 Spaced [] = ⊤
 Spaced (c ∷ cs) = c ≡ 32
 
-marks_spaced : (role : Role) (n : ℕ) (ms : List Mark) (tail : List ℕ) → Spaced tail → Spaced (marks_text (role_word role) n ms ++ tail)
+pub marks_spaced : (role : Role) (n : ℕ) (ms : List Mark) (tail : List ℕ) → Spaced tail → Spaced (marks_text (role_word role) n ms ++ tail)
 marks_spaced role n [] tail h = h
 marks_spaced role n (Up ∷ ms) tail h = marks_spaced role (n + 1) ms tail h
 marks_spaced Distributor n (Down ∷ ms) tail h = refl
@@ -33,7 +33,7 @@ marks_spaced Storage n (Down ∷ ms) tail h = refl
 marks_spaced Distributor n (Retired ∷ ms) tail h = refl
 marks_spaced Storage n (Retired ∷ ms) tail h = refl
 
-tail_spaced : (role : Role) (s : State) → Spaced (tail_of role s)
+pub tail_spaced : (role : Role) (s : State) → Spaced (tail_of role s)
 tail_spaced Distributor s = subst Spaced (append-nil _) (marks_spaced Storage 0 s.nodes [] tt)
 tail_spaced Storage s = tt
 
@@ -188,7 +188,7 @@ follow_nodes least known text s r f =
       text = f.text ∙ append-nil _ ∙ ap (marks_text (role_word Storage) 0) (sym f.marks) ∙ ap (λ t. t ++ tail_of Distributor s) (sym none);
     }
 
-distributor_space : (least : ℕ) (known : State) (l : ℕ) (more : List ℕ) (s : State) → IsReady Distributor least known → Follows Distributor least known (32 ∷ l ∷ more) s
+pub distributor_space : (least : ℕ) (known : State) (l : ℕ) (more : List ℕ) (s : State) → IsReady Distributor least known → Follows Distributor least known (32 ∷ l ∷ more) s
     → ((l ≡ 100) × At (Word (Marked Distributor least) 0) known more s) ⊎ ((l ≡ 115) × At (Word (Marked Storage 0) 0) known more s)
 distributor_space least known l more s r f = elim (first_mark Distributor least f.rest) [
   | inl none ↦ inr (storage_space 0 known l more s (storage_ready least known r) (nodes_follow least known (32 ∷ l ∷ more) s r f none))
@@ -289,8 +289,8 @@ gap_ends role least known r =
     )
   where
     itself : (role : Role) (known : State) → Others role known known
-    itself Distributor known = (refl, refl)
-    itself Storage known = (refl, refl)
+    itself Distributor known = ((refl, refl), refl)
+    itself Storage known = ((refl, refl), refl)
 
     no_tail : (role : Role) (known : State) → Others_up role known → tail_of role known ≡ []
     no_tail Distributor known up = ap (marks_text (role_word Storage) 0) (up ∙ sym (append-nil (replicate (length known.nodes - 0) Up))) ∙ skip_up Storage 0 (length known.nodes - 0) []
@@ -328,12 +328,12 @@ word_ends number at known k = λ s h.
     absurd (omega (arith, ap length h.1.1.0, length-append (drop at (word_of number)) h.1.0, ap length n.text, length-append (decimal n.value) n.after, some))
 
 -- where a number ends
-pub behind_version : (known : State) (value : ℕ) → IsWithin Version known value
-    → IsBehind Version known value (scan_at (Word Distributors 0) (record { version = value; distributors = known.distributors; nodes = known.nodes }))
-behind_version known value w = (
+pub behind_version : (known : State) (value : ℕ) → IsKnown Version known → IsWithin Version known value
+    → IsBehind Version known value (scan_at (Word Distributors 0) (record { version = value; distributors = known.distributors; nodes = known.nodes; groups = known.groups }))
+behind_version known value k w = (
   tt,
   (
-    (w.1, omega arith),
+    ((w.1, k), omega arith),
     λ more s. (
       (λ h. (h.0, (decimal (length s.distributors) ++ after_distributors s, (h.1.1, record { value = length s.distributors; after = after_distributors s; text = refl; takes = (h.1.0, (refl, refl)) })))),
       (λ h. let n = h.1.1.1 in (h.0, (n.takes.0, h.1.1.0 ∙ ap (λ t. codes " distributor:" ++ t) (n.text ∙ ap₂ (λ a b. decimal a ++ b) (sym n.takes.1.0) n.takes.1.1)))),

@@ -9,13 +9,15 @@ use Rattle.cluster_states.specs.declared.marks.Mark.{Mark}
 use Rattle.cluster_states.specs.declared.marks.Mark.TheVariants.{Up, Down, Retired}
 use Rattle.cluster_states.specs.declared.places.Role.{Role}
 use Rattle.cluster_states.specs.declared.places.Role.TheVariants.{Distributor, Storage}
-use Rattle.cluster_states.specs.StateTexts.{IsStateText, marks_text, after_counts, after_distributors, after_version, state_text}
+use Rattle.cluster_states.specs.StateTexts.{IsStateText, marks_text, after_counts, after_groups, after_distributors, after_version, state_text}
 use Rattle.cluster_states.specs.Scanning.{AreDigits, role_word, letter_of}
 use Rattle.cluster_states.proofs.Numerals.{starts}
-use Rattle.cluster_states.proofs.Counting.{NoDigit, counts_no_digit, head_same, tail_same}
+use Rattle.cluster_states.proofs.Counting.{NoDigit, counts_no_digit, groups_no_digit, head_same, tail_same}
 use Rattle.cluster_states.proofs.MarkTexts.{first_mark, text_of_mark, down_is_not_up, retired_is_not_up}
 use Rattle.cluster_states.proofs.MarkMoves.{letter_tells}
 use Rattle.cluster_states.proofs.SpaceMoves.{role_letter}
+use Rattle.cluster_states.proofs.GroupMoves.{one_group, more_groups}
+use Rattle.std.proofs.lemmas.Bool.{cases_eq}
 
 -- digits and what is behind them are told apart
 digits_cut : (ds es xs ys : List ℕ) → AreDigits ds → AreDigits es → NoDigit xs → NoDigit ys → ds ++ xs ≡ es ++ ys → (ds ≡ es) × (xs ≡ ys)
@@ -119,15 +121,48 @@ nodes_apart n (Up ∷ ms) = nodes_apart (n + 1) ms
 nodes_apart n (Down ∷ ms) = λ e. absurd (omega (arith, e))
 nodes_apart n (Retired ∷ ms) = λ e. absurd (omega (arith, e))
 
+-- marks don't begin as groups do
+abbrev pub Away : List ℕ → Type 0
+Away [] = ⊤
+Away (c ∷ []) = ⊤
+Away (c ∷ d ∷ cs) = d ≢ 103
+
+marks_away : (role : Role) (n : ℕ) (ms : List Mark) (tail : List ℕ) → Away tail → Away (marks_text (role_word role) n ms ++ tail)
+marks_away role n [] tail h = h
+marks_away role n (Up ∷ ms) tail h = marks_away role (n + 1) ms tail h
+marks_away Distributor n (Down ∷ ms) tail h = λ e. absurd (omega (arith, e))
+marks_away Storage n (Down ∷ ms) tail h = λ e. absurd (omega (arith, e))
+marks_away Distributor n (Retired ∷ ms) tail h = λ e. absurd (omega (arith, e))
+marks_away Storage n (Retired ∷ ms) tail h = λ e. absurd (omega (arith, e))
+
+not_groups : (s : State) (more : List ℕ) → after_groups s ≡ codes " groups:" ++ more → ⊥
+not_groups s more e =
+    (subst Away e (marks_away Distributor 0 s.distributors _ (subst Away (append-nil _) (marks_away Storage 0 s.nodes [] tt)))) refl
+
+groups_cut : (s t : State) → IsState s → IsState t → after_counts s ≡ after_counts t → (s.groups ≡ t.groups) × (after_groups s ≡ after_groups t)
+groups_cut s t a b e = elim (cases_eq s.groups 1) [
+  | inl one ↦ elim (cases_eq t.groups 1) [
+    | inl same ↦ (one ∙ sym same, sym (one_group s one) ∙ e ∙ one_group t same)
+    | inr other ↦ absurd (not_groups s _ (sym (one_group s one) ∙ e ∙ more_groups t other))
+  ]
+  | inr some ↦ elim (cases_eq t.groups 1) [
+    | inl one ↦ absurd (not_groups t _ (sym (one_group t one) ∙ sym e ∙ more_groups s some))
+    | inr other ↦
+        numbers_cut s.groups t.groups (after_groups s) (after_groups t) (omega (arith, a.few_groups)) (omega (arith, b.few_groups)) (groups_no_digit s) (groups_no_digit t)
+        (ap (drop 8) (sym (more_groups s some) ∙ e ∙ more_groups t other))
+  ]
+]
+
 pub same_text : (s t : State) → IsState s → IsState t → state_text s ≡ state_text t → s ≡ t
 unfolding state_text
 same_text s t a b e =
     let v = numbers_cut s.version t.version (after_version s) (after_version t) (omega (arith, a.version)) (omega (arith, b.version)) (inl (omega arith)) (inl (omega arith)) (ap (drop 8) e) in
     let d = numbers_cut (length s.distributors) (length t.distributors) (after_distributors s) (after_distributors t) (omega (arith, a.few_distributors)) (omega (arith, b.few_distributors)) (inl (omega arith)) (inl (omega arith)) (ap (drop 13) v.1) in
     let n = numbers_cut (length s.nodes) (length t.nodes) (after_counts s) (after_counts t) (omega (arith, a.few_nodes)) (omega (arith, b.few_nodes)) (counts_no_digit s) (counts_no_digit t) (ap (drop 9) d.1) in
-    let ds = marks_cut Distributor 0 s.distributors t.distributors _ _ d.0 (omega (arith, a.few_distributors)) (nodes_apart 0 s.nodes) (nodes_apart 0 t.nodes) n.1 in
+    let g = groups_cut s t a b n.1 in
+    let ds = marks_cut Distributor 0 s.distributors t.distributors _ _ d.0 (omega (arith, a.few_distributors)) (nodes_apart 0 s.nodes) (nodes_apart 0 t.nodes) g.1 in
     let ns = marks_cut Storage 0 s.nodes t.nodes [] [] n.0 (omega (arith, a.few_nodes)) tt tt (append-nil _ ∙ ds.1 ∙ sym (append-nil _)) in
-    λ i. record { version = v.0 i; distributors = ds.0 i; nodes = ns.0 i }
+    λ i. record { version = v.0 i; distributors = ds.0 i; nodes = ns.0 i; groups = g.0 i }
 
 pub tells_one : (text : List ℕ) (s t : State) → IsStateText text s → IsStateText text t → s ≡ t
 tells_one text s t a b = same_text s t a.0 b.0 (sym a.1 ∙ b.1)

@@ -1,5 +1,5 @@
 -- How long state texts are, and how they are written.
-use Rattle.std.proofs.Common.{◌≡◌, ℕ, ◌+◌, ◌*◌, ◌^◌, ◌<◌, ◌≤◌, List, [], ◌∷◌, ◌++◌, length, take, get_or, codes, sym, ap, ◌∙◌, arith}
+use Rattle.std.proofs.Common.{◌≡◌, ℕ, ◌+◌, ◌*◌, ◌^◌, ◌<◌, ◌≤◌, Bool, true, false, cond, nat_eq, List, [], ◌∷◌, ◌++◌, length, take, get_or, codes, sym, ap, ◌∙◌, arith}
 use Rattle.std.specs.Fmt.{decimal}
 use Rattle.std.proofs.lemmas.Fmt.{length-decimal-le}
 use Rattle.std.proofs.lemmas.List.{append_assoc, append-nil, length-append, length-take, take_more}
@@ -7,7 +7,7 @@ use Rattle.text_scanners.specs.Refusals.{IsRefusedAt}
 use Rattle.cluster_states.specs.ClusterStates.{State, IsState}
 use Rattle.cluster_states.specs.declared.marks.Mark.{Mark}
 use Rattle.cluster_states.specs.declared.marks.Mark.TheVariants.{Up, Down, Retired}
-use Rattle.cluster_states.specs.StateTexts.{IsStateText, mark_text, marks_text, after_counts, after_distributors, after_version, state_text}
+use Rattle.cluster_states.specs.StateTexts.{IsStateText, mark_text, marks_text, groups_text, after_counts, after_groups, after_distributors, after_version, state_text}
 
 few_digits : (n : ℕ) → n < 100 → length (decimal n) ≤ 2
 few_digits n lt = length-decimal-le 2 n (omega arith) (omega arith) (omega arith)
@@ -22,6 +22,10 @@ marks_short role n [] lt le = omega arith
 marks_short role n (m ∷ ms) lt le =
     omega (arith, length-append (mark_text role n m) (marks_text role (n + 1) ms), mark_short role n m (omega arith) le, marks_short role (n + 1) ms (omega arith) le)
 
+groups_short : (b : Bool) (n : ℕ) → n < 100 → length (cond b [] (codes " groups:" ++ decimal n)) ≤ 10
+groups_short true n lt = omega arith
+groups_short false n lt = omega (arith, few_digits n lt, length-append (codes " groups:") (decimal n))
+
 text_short : (s : State) → IsState s → length (state_text s) < 4000
 unfolding state_text
 text_short s h =
@@ -32,6 +36,7 @@ text_short s h =
     let e = length-append (codes " storage:") (decimal (length s.nodes) ++ after_counts s) in
     let f = length-append (decimal (length s.nodes)) (after_counts s) in
     let g = length-append (marks_text (codes " distributor.") 0 s.distributors) (marks_text (codes " storage.") 0 s.nodes) in
+    let p = length-append (groups_text s.groups) (after_groups s) in
     let v = length-decimal-le 10 s.version (omega arith) (omega (arith, h.version)) (omega (arith, h.version)) in
     omega (
       arith,
@@ -42,7 +47,9 @@ text_short s h =
       e,
       f,
       g,
+      p,
       v,
+      groups_short (nat_eq s.groups 1) s.groups (omega (arith, h.few_groups)),
       few_digits (length s.distributors) (omega (arith, h.few_distributors)),
       few_digits (length s.nodes) (omega (arith, h.few_nodes)),
       marks_short (codes " distributor.") 0 s.distributors (omega (arith, h.few_distributors)) (omega arith),
@@ -75,22 +82,26 @@ behind v d n t =
     ap (λ l. codes "version:" ++ l) (append_assoc v (codes " distributor:" ++ (d ++ (codes " storage:" ++ n))) t)
     ∙ ap (λ l. codes "version:" ++ (v ++ (codes " distributor:" ++ l))) (append_assoc d (codes " storage:" ++ n) t)
 
-written : (s : State) (text first second : List ℕ) → text ≡ codes "version:" ++ (decimal s.version ++ (codes " distributor:" ++ (decimal (length s.distributors) ++ (codes " storage:" ++ decimal (length s.nodes)))))
-    → first ≡ text ++ marks_text (codes " distributor.") 0 s.distributors → second ≡ first ++ marks_text (codes " storage.") 0 s.nodes → second ≡ state_text s
+written : (s : State) (text grouped first second : List ℕ) → text ≡ codes "version:" ++ (decimal s.version ++ (codes " distributor:" ++ (decimal (length s.distributors) ++ (codes " storage:" ++ decimal (length s.nodes)))))
+    → grouped ≡ text ++ groups_text s.groups → first ≡ grouped ++ marks_text (codes " distributor.") 0 s.distributors → second ≡ first ++ marks_text (codes " storage.") 0 s.nodes → second ≡ state_text s
 unfolding state_text
-written s text first second a b c =
+written s text grouped first second a z b c =
+    let g = groups_text s.groups in
+    let base = codes "version:" ++ (decimal s.version ++ (codes " distributor:" ++ (decimal (length s.distributors) ++ (codes " storage:" ++ decimal (length s.nodes))))) in
     let d = marks_text (codes " distributor.") 0 s.distributors in
     let n = marks_text (codes " storage.") 0 s.nodes in
-    c ∙ ap (λ l. l ++ n) (b ∙ ap (λ l. l ++ d) a) ∙ append_assoc (codes "version:" ++ (decimal s.version ++ (codes " distributor:" ++ (decimal (length s.distributors) ++ (codes " storage:" ++ decimal (length s.nodes)))))) d n ∙ behind (decimal s.version) (decimal (length s.distributors)) (decimal (length s.nodes)) (d ++ n)
+    c ∙ ap (λ l. l ++ n) (b ∙ ap (λ l. l ++ d) (z ∙ ap (λ l. l ++ g) a)) ∙ append_assoc (base ++ g) d n ∙ append_assoc base g (d ++ n)
+    ∙ behind (decimal s.version) (decimal (length s.distributors)) (decimal (length s.nodes)) (g ++ (d ++ n))
 
 -- the same where the parts were taken out of the state before
-pub written_of : (s : State) (v d n : ℕ) (ds ns : List Mark) (text first second : List ℕ) → v ≡ s.version → ds ≡ s.distributors → ns ≡ s.nodes → d ≡ length ds → n ≡ length ns
+pub written_of : (s : State) (v d n g : ℕ) (ds ns : List Mark) (text grouped first second : List ℕ) → v ≡ s.version → ds ≡ s.distributors → ns ≡ s.nodes → d ≡ length ds → n ≡ length ns → g ≡ s.groups
     → text ≡ codes "version:" ++ (decimal v ++ (codes " distributor:" ++ (decimal d ++ (codes " storage:" ++ decimal n))))
-    → first ≡ text ++ marks_text (codes " distributor.") 0 ds → second ≡ first ++ marks_text (codes " storage.") 0 ns → second ≡ state_text s
-written_of s v d n ds ns text first second vs dss nss dl nl a b c =
+    → grouped ≡ text ++ groups_text g → first ≡ grouped ++ marks_text (codes " distributor.") 0 ds → second ≡ first ++ marks_text (codes " storage.") 0 ns → second ≡ state_text s
+written_of s v d n g ds ns text grouped first second vs dss nss dl nl gl a z b c =
     let d_is = dl ∙ ap length dss in
     let n_is = nl ∙ ap length nss in
-    written s text first second
+    written s text grouped first second
     (a ∙ (λ i. codes "version:" ++ (decimal (vs i) ++ (codes " distributor:" ++ (decimal (d_is i) ++ (codes " storage:" ++ decimal (n_is i)))))))
-    (b ∙ ap (λ l. text ++ marks_text (codes " distributor.") 0 l) dss)
+    (z ∙ ap (λ k. text ++ groups_text k) gl)
+    (b ∙ ap (λ l. grouped ++ marks_text (codes " distributor.") 0 l) dss)
     (c ∙ ap (λ l. first ++ marks_text (codes " storage.") 0 l) nss)

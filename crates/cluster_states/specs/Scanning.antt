@@ -6,11 +6,11 @@ use Rattle.cluster_states.specs.declared.marks.Mark.TheVariants.{Up, Down, Retir
 use Rattle.cluster_states.specs.declared.places.Role.{Role}
 use Rattle.cluster_states.specs.declared.places.Role.TheVariants.{Distributor, Storage}
 use Rattle.cluster_states.specs.declared.places.Number.{Number}
-use Rattle.cluster_states.specs.declared.places.Number.TheVariants.{Version, Distributors, Nodes, Marked}
+use Rattle.cluster_states.specs.declared.places.Number.TheVariants.{Version, Distributors, Nodes, Groups, Marked}
 use Rattle.cluster_states.specs.declared.places.Place.{Place}
-use Rattle.cluster_states.specs.declared.places.Place.TheVariants.{Word, Digits, Sign, Gap, Space}
+use Rattle.cluster_states.specs.declared.places.Place.TheVariants.{Word, Digits, Counts, CountsSpace, Sign, Gap, Space}
 use Rattle.cluster_states.specs.ClusterStates.{State, IsState}
-use Rattle.cluster_states.specs.StateTexts.{IsStateText, marks_text, after_version, after_distributors, after_counts}
+use Rattle.cluster_states.specs.StateTexts.{IsStateText, marks_text, after_version, after_distributors, after_counts, after_groups}
 
 -- the marks of a role
 abbrev pub marks_of : Role → State → List Mark
@@ -38,6 +38,7 @@ abbrev pub word_of : Number → List ℕ
 word_of Version = codes "version:"
 word_of Distributors = codes " distributor:"
 word_of Nodes = codes " storage:"
+word_of Groups = codes "roups:"
 word_of (Marked Distributor least) = codes "istributor."
 word_of (Marked Storage least) = codes "torage."
 
@@ -46,12 +47,14 @@ abbrev pub least_of : Number → ℕ
 least_of Version = 0
 least_of Distributors = 1
 least_of Nodes = 1
+least_of Groups = 2
 least_of (Marked role least) = least
 
 abbrev pub end_of : Number → State → ℕ
 end_of Version s = 2 ^ 32
 end_of Distributors s = 33
 end_of Nodes s = 33
+end_of Groups s = 9
 end_of (Marked role least) s = length (marks_of role s)
 
 -- a number of these bounds begins with this one's digits
@@ -73,10 +76,14 @@ pub record Continues (n : ℕ) (cs : List ℕ) (v : ℕ) : Type 0 where
   pub value : v ≡ value_from n cs
   pub no_zero : n ≡ 0 → cs ≡ []
 
+-- a state has the version and the groups that are known
+abbrev pub SameHead : State → State → Type 0
+SameHead known s = (s.version ≡ known.version) × (s.groups ≡ known.groups)
+
 -- a state has of the other role what is known of it
 abbrev pub Others : Role → State → State → Type 0
-Others Distributor known s = (s.version ≡ known.version) × (length s.nodes ≡ length known.nodes)
-Others Storage known s = (s.version ≡ known.version) × (s.distributors ≡ known.distributors)
+Others Distributor known s = SameHead known s × (length s.nodes ≡ length known.nodes)
+Others Storage known s = SameHead known s × (s.distributors ≡ known.distributors)
 
 -- a number of a role has a mark, whose letter and all behind it follow
 pub record Signed (role : Role) (number : ℕ) (known : State) (more : List ℕ) (s : State) : Type 0 where
@@ -96,11 +103,16 @@ pub record Follows (role : Role) (least : ℕ) (known : State) (more : List ℕ)
   pub marks : marks_of role s ≡ take least (marks_of role known) ++ rest
   pub text : more ≡ marks_text (role_word role) least rest ++ tail_of role s
 
+-- a state has the version and the counts that are known
+abbrev pub IsCounted : State → State → Type 0
+IsCounted known s = (s.version ≡ known.version) × ((length s.distributors ≡ length known.distributors) × (length s.nodes ≡ length known.nodes))
+
 -- a number is this one, and so much follows
 abbrev pub TakesNumber : Number → State → ℕ → List ℕ → State → Type 0
 TakesNumber Version known n after s = (s.version ≡ n) × (after ≡ after_version s)
 TakesNumber Distributors known n after s = (s.version ≡ known.version) × ((length s.distributors ≡ n) × (after ≡ after_distributors s))
 TakesNumber Nodes known n after s = (s.version ≡ known.version) × ((length s.distributors ≡ length known.distributors) × ((length s.nodes ≡ n) × (after ≡ after_counts s)))
+TakesNumber Groups known n after s = IsCounted known s × ((2 ≤ n) × ((s.groups ≡ n) × (after ≡ after_groups s)))
 TakesNumber (Marked role least) known n after s = (least ≤ n) × ((more : List ℕ) × ((after ≡ codes ".s:" ++ more) × Signed role n known more s))
 
 -- a number and what is behind it follow
@@ -123,6 +135,8 @@ pub record Counting (number : Number) (value : ℕ) (known : State) (more : List
 abbrev pub At : Place → State → List ℕ → State → Type 0
 At (Word number at) known more s = (rest : List ℕ) × ((more ≡ drop at (word_of number) ++ rest) × Numbered number known rest s)
 At (Digits number value) known more s = Counting number value known more s
+At Counts known more s = IsCounted known s × (more ≡ after_counts s)
+At CountsSpace known more s = IsCounted known s × (32 ∷ more ≡ after_counts s)
 At (Sign role number at) known more s = (rest : List ℕ) × ((more ≡ drop at (codes ".s:") ++ rest) × Signed role number known rest s)
 At (Gap role least) known more s = Follows role least known more s
 At (Space role least) known more s = Follows role least known (32 ∷ more) s
@@ -152,11 +166,16 @@ pub record IsReady (role : Role) (least : ℕ) (known : State) : Type 0 where
   pub up : AreUpFrom least (marks_of role known)
   pub others : Others_up role known
 
+-- the counts are known, all are up, and of groups nothing is said
+abbrev pub IsPlain : State → Type 0
+IsPlain known = IsReady Distributor 0 known × (known.groups ≡ 1)
+
 -- what is known before a number
 abbrev pub IsKnown : Number → State → Type 0
-IsKnown Version known = ⊤
-IsKnown Distributors known = known.version < 2 ^ 32
-IsKnown Nodes known = (known.version < 2 ^ 32) × ((1 ≤ length known.distributors) × ((length known.distributors ≤ 32) × AreUpFrom 0 known.distributors))
+IsKnown Version known = known.groups ≡ 1
+IsKnown Distributors known = (known.version < 2 ^ 32) × (known.groups ≡ 1)
+IsKnown Nodes known = ((known.version < 2 ^ 32) × (known.groups ≡ 1)) × ((1 ≤ length known.distributors) × ((length known.distributors ≤ 32) × AreUpFrom 0 known.distributors))
+IsKnown Groups known = IsPlain known
 IsKnown (Marked role least) known = (least < length (marks_of role known)) × IsReady role least known
 
 -- there is room for a mark
@@ -168,6 +187,8 @@ HasRoom Storage least known = least < length known.nodes
 abbrev pub IsPlace : Place → State → Type 0
 IsPlace (Word number at) known = IsKnown number known × (at ≤ length (word_of number))
 IsPlace (Digits number value) known = IsKnown number known × (can_begin (least_of number) (end_of number known) value ≡ true)
+IsPlace Counts known = IsPlain known
+IsPlace CountsSpace known = IsPlain known
 IsPlace (Sign role number at) known = (number < length (marks_of role known)) × (IsReady role number known × (at ≤ 3))
 IsPlace (Gap role least) known = IsReady role least known
 IsPlace (Space role least) known = IsReady role least known × HasRoom role least known
@@ -200,8 +221,8 @@ mark_by Storage letter = if nat_eq letter 100 then Some Down else (if nat_eq let
 
 -- a state with another mark for a number
 abbrev pub with_mark : State → Role → ℕ → Mark → State
-with_mark s Distributor number mark = record { version = s.version; distributors = slice_set s.distributors number mark; nodes = s.nodes }
-with_mark s Storage number mark = record { version = s.version; distributors = s.distributors; nodes = slice_set s.nodes number mark }
+with_mark s Distributor number mark = record { version = s.version; distributors = slice_set s.distributors number mark; nodes = s.nodes; groups = s.groups }
+with_mark s Storage number mark = record { version = s.version; distributors = s.distributors; nodes = slice_set s.nodes number mark; groups = s.groups }
 
 -- there is room for a mark
 abbrev pub has_room : Role → ℕ → State → Bool
@@ -212,6 +233,8 @@ has_room Storage least known = nat_lt least (length known.nodes)
 abbrev pub IsOutsidePlace : Place → Type 0
 IsOutsidePlace (Word number at) = ⊤
 IsOutsidePlace (Digits number value) = ⊥
+IsOutsidePlace Counts = ⊤
+IsOutsidePlace CountsSpace = ⊤
 IsOutsidePlace (Sign role number at) = ⊤
 IsOutsidePlace (Gap role least) = ⊤
 IsOutsidePlace (Space role least) = ⊤

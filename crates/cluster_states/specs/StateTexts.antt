@@ -1,5 +1,5 @@
 -- The texts of cluster states.
-use Rattle.std.specs.Prelude.{◌≡◌, ℕ, ◌+◌, List, [], ◌∷◌, ◌++◌, length, codes}
+use Rattle.std.specs.Prelude.{◌≡◌, ℕ, ◌+◌, List, [], ◌∷◌, ◌++◌, length, codes, nat_eq, if◌then◌else◌}
 use Rattle.std.specs.Fmt.{decimal}
 use Rattle.cluster_states.specs.declared.marks.Mark.{Mark}
 use Rattle.cluster_states.specs.declared.marks.Mark.TheVariants.{Up, Down, Retired}
@@ -16,9 +16,17 @@ abbrev pub marks_text : List ℕ → ℕ → List Mark → List ℕ
 marks_text role number [] = []
 marks_text role number (m ∷ ms) = mark_text role number m ++ marks_text role (number + 1) ms
 
--- what follows the counts
+-- the marks of the distributors, then those of the nodes
+abbrev pub after_groups : State → List ℕ
+after_groups s = marks_text (codes " distributor.") 0 s.distributors ++ marks_text (codes " storage.") 0 s.nodes
+
+-- a number of groups is written where it isn't 1
+abbrev pub groups_text : ℕ → List ℕ
+groups_text groups = if nat_eq groups 1 then [] else (codes " groups:" ++ decimal groups)
+
+-- what follows the count of nodes
 abbrev pub after_counts : State → List ℕ
-after_counts s = marks_text (codes " distributor.") 0 s.distributors ++ marks_text (codes " storage.") 0 s.nodes
+after_counts s = groups_text s.groups ++ after_groups s
 
 -- what follows the count of distributors
 abbrev pub after_distributors : State → List ℕ

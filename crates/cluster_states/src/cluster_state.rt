@@ -1,6 +1,6 @@
-ghost use Rattle.std.specs.Prelude.{◌≡◌, ◌≢◌, ◌≤◌, ◌<◌, ℕ, true, false, length, replicate, slice_index_or};
+ghost use Rattle.std.specs.Prelude.{◌≡◌, ◌≢◌, ◌≤◌, ◌<◌, ◌%◌, ℕ, true, false, length, replicate, slice_index_or};
 ghost use Rattle.node_sets.specs.Members.{has_node};
-ghost use Rattle.cluster_states.specs.ClusterStates.{IsState, first_state};
+ghost use Rattle.cluster_states.specs.ClusterStates.{IsState, first_state, group_of};
 ghost use Rattle.cluster_states.specs.MarkTests.{is_up, counts};
 ghost use Rattle.cluster_states.specs.Scanning.{marks_of, with_mark};
 ghost use Rattle.cluster_states.specs.declared.marks.Mark.TheVariants.{Up, Down, Retired};
@@ -11,13 +11,14 @@ use crate::places::Role;
 use node_sets::NodeSet;
 use std::marker::Model;
 
-/// Which distributors and storage nodes there are under a version, 1 to 32 of each, and how each is
-/// marked.
+/// Which distributors and storage nodes there are under a version, 1 to 32 of each, how each is marked,
+/// and in how many groups, 1 to 8, the storage nodes lie, as in the racks of a hall.
 #[derive(Clone, Copy, Debug, PartialEq, Eq)]
 pub struct ClusterState {
     version: u32,
     distributors: Marks,
     nodes: Marks,
+    groups: u8,
 }
 
 impl Model for ClusterState {
@@ -25,16 +26,23 @@ impl Model for ClusterState {
 
     ghost Value = { State };
 
-    ghost view = { λ s. record { version = s.version; distributors = s.distributors; nodes = s.nodes } };
+    ghost view = { λ s.
+        record { version = s.version; distributors = s.distributors; nodes = s.nodes; groups = s.groups } };
 
     ghost invariant = { λ s.
-        IsState (record { version = s.version; distributors = s.distributors; nodes = s.nodes }) };
+        IsState (record {
+          version = s.version;
+          distributors = s.distributors;
+          nodes = s.nodes;
+          groups = s.groups;
+        }) };
 
-    ghost inverse = { λ s. record { version = s.version; distributors = s.distributors; nodes = s.nodes } };
+    ghost inverse = { λ s.
+        record { version = s.version; distributors = s.distributors; nodes = s.nodes; groups = s.groups } };
 }
 
 impl Default for ClusterState {
-    /// Version 0 with one distributor and one storage node, both up.
+    /// Version 0 with one distributor and one storage node, both up, in one group.
     fn default() -> ClusterState
         ensures { result ≡ first_state }
     {
@@ -42,6 +50,7 @@ impl Default for ClusterState {
             version: 0,
             distributors: Marks::all_up(1),
             nodes: Marks::all_up(1),
+            groups: 1,
         }
     }
 }
@@ -53,6 +62,20 @@ impl ClusterState {
         ensures valid { IsState self.now }
     {
         self.version
+    }
+
+    /// How many groups the storage nodes lie in, 1 to 8.
+    pub fn groups(&self) -> u8
+        ensures { result ≡ self.now.groups }
+    {
+        self.groups
+    }
+
+    /// The group of a storage node: its number modulo that of the groups.
+    pub fn group_of(&self, node: u8) -> u8
+        ensures { result ≡ group_of self.now node }
+    {
+        node % self.groups
     }
 
     /// Whether a distributor is up; none is from the count on.
@@ -102,7 +125,13 @@ impl ClusterState {
 
     /// The state with another version.
     pub(crate) fn with_version(self, version: u32) -> ClusterState
-        ensures { result ≡ record { version = version; distributors = self.distributors; nodes = self.nodes } }
+        ensures { result
+            ≡ record {
+              version = version;
+              distributors = self.distributors;
+              nodes = self.nodes;
+              groups = self.groups;
+            } }
     {
         ClusterState { version, ..self }
     }
@@ -112,7 +141,12 @@ impl ClusterState {
         requires some { 1 ≤ count }
         requires few { count ≤ 32 }
         ensures { result
-            ≡ record { version = self.version; distributors = replicate count Up; nodes = self.nodes } }
+            ≡ record {
+              version = self.version;
+              distributors = replicate count Up;
+              nodes = self.nodes;
+              groups = self.groups;
+            } }
     {
         ClusterState {
             distributors: Marks::all_up(count),
@@ -125,12 +159,32 @@ impl ClusterState {
         requires some { 1 ≤ count }
         requires few { count ≤ 32 }
         ensures { result
-            ≡ record { version = self.version; distributors = self.distributors; nodes = replicate count Up } }
+            ≡ record {
+              version = self.version;
+              distributors = self.distributors;
+              nodes = replicate count Up;
+              groups = self.groups;
+            } }
     {
         ClusterState {
             nodes: Marks::all_up(count),
             ..self
         }
+    }
+
+    /// The state with so many groups.
+    pub(crate) fn with_groups(self, groups: u8) -> ClusterState
+        requires some { 1 ≤ groups }
+        requires few { groups ≤ 8 }
+        ensures { result
+            ≡ record {
+              version = self.version;
+              distributors = self.distributors;
+              nodes = self.nodes;
+              groups = groups;
+            } }
+    {
+        ClusterState { groups, ..self }
     }
 
     /// The state with another mark for a number; no distributor is retired.

@@ -14,6 +14,7 @@ fn word_of(number: Number) -> &'static [u8]
         Number::Version => b"version:",
         Number::Distributors => b" distributor:",
         Number::Nodes => b" storage:",
+        Number::Groups => b"roups:",
         Number::Marked { role, .. } => match role {
             Role::Distributor => b"istributor.",
             Role::Storage => b"torage.",
@@ -28,6 +29,7 @@ fn least_of(number: Number) -> u64
     match number {
         Number::Version => 0,
         Number::Distributors | Number::Nodes => 1,
+        Number::Groups => 2,
         Number::Marked { least, .. } => u64::from(least),
     }
 }
@@ -39,6 +41,7 @@ fn end_of(number: Number, state: &ClusterState) -> u64
     match number {
         Number::Version => 1 << 32,
         Number::Distributors | Number::Nodes => 33,
+        Number::Groups => 9,
         Number::Marked { role, .. } => u64::from(state.marks_of(role).len()),
     }
 }
@@ -157,9 +160,10 @@ fn behind(state: ClusterState, number: Number, value: u64) -> StateReader
             let state = state.with_distributors(value as u8);
             StateReader::at(Place::Word { number, at }, state)
         }
-        Number::Nodes => {
+        Number::Nodes => StateReader::at(Place::Counts, state.with_nodes(value as u8)),
+        Number::Groups => {
             let (role, least) = (Role::Distributor, 0);
-            StateReader::at(Place::Gap { role, least }, state.with_nodes(value as u8))
+            StateReader::at(Place::Gap { role, least }, state.with_groups(value as u8))
         }
         Number::Marked { role, .. } => {
             let (number, at) = (value as u8, 0);

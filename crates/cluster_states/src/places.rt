@@ -14,6 +14,8 @@ pub enum Number {
     Distributors,
     /// How many storage nodes there are.
     Nodes,
+    /// How many groups they lie in.
+    Groups,
     /// The number of a mark; those below `least` are behind.
     Marked { role: Role, least: u8 },
 }
@@ -25,9 +27,13 @@ pub enum Place {
     Word { number: Number, at: usize },
     /// Behind a digit of a number.
     Digits { number: Number, value: u64 },
+    /// Behind the counts: the text may end, and groups may follow.
+    Counts,
+    /// Behind the space there.
+    CountsSpace,
     /// In the sign behind a mark's number, at its letter where the sign is over.
     Sign { role: Role, number: u8, at: usize },
-    /// Behind a count or a mark: the text may end.
+    /// Behind the groups or a mark: the text may end.
     Gap { role: Role, least: u8 },
     /// Behind the space before a mark.
     Space { role: Role, least: u8 },

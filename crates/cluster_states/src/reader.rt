@@ -5,6 +5,7 @@ ghost use Rattle.cluster_states.specs.declared.places.Place.TheVariants.{Digits}
 
 use crate::cluster_state::ClusterState;
 use crate::counts::{in_digits, in_word, told_by_number};
+use crate::groups::{at_counts, at_counts_space};
 use crate::places::{Number, Place};
 use crate::signs::{at_gap, at_space, in_sign};
 use std::marker::Model;
@@ -55,6 +56,8 @@ impl StateReader {
         match self.place {
             Place::Word { number, at } => in_word(self.state, number, at, letter),
             Place::Digits { number, value } => in_digits(self.state, number, value, letter),
+            Place::Counts => at_counts(self.state, letter),
+            Place::CountsSpace => at_counts_space(self.state, letter),
             Place::Sign { role, number, at } => in_sign(self.state, role, number, at, letter),
             Place::Gap { role, least } => at_gap(self.state, role, least, letter),
             Place::Space { role, least } => at_space(self.state, role, least, letter),
@@ -69,6 +72,8 @@ impl StateReader {
         match self.place {
             Place::Word { number, at } => in_word(self.state, number, at, letter),
             Place::Digits { .. } => None,
+            Place::Counts => at_counts(self.state, letter),
+            Place::CountsSpace => at_counts_space(self.state, letter),
             Place::Sign { role, number, at } => in_sign(self.state, role, number, at, letter),
             Place::Gap { role, least } => at_gap(self.state, role, least, letter),
             Place::Space { role, least } => at_space(self.state, role, least, letter),
@@ -82,6 +87,8 @@ impl StateReader {
         match self.place {
             Place::Word { .. } => None,
             Place::Digits { number, value } => told_by_number(self.state, number, value),
+            Place::Counts => Some(self.state),
+            Place::CountsSpace => None,
             Place::Sign { .. } => None,
             Place::Gap { .. } => Some(self.state),
             Place::Space { .. } => None,
@@ -96,6 +103,8 @@ impl StateReader {
         match self.place {
             Place::Word { .. } => None,
             Place::Digits { .. } => None,
+            Place::Counts => Some(self.state),
+            Place::CountsSpace => None,
             Place::Sign { .. } => None,
             Place::Gap { .. } => Some(self.state),
             Place::Space { .. } => None,

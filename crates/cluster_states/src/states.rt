@@ -85,7 +85,7 @@ impl States {
         self.known
     }
 
-    /// Publishes a state, or says why not; takes no memory.
+    /// Publishes a state, or says why not.
     pub fn publish(&mut self, state: &ClusterState) -> Result<(), PublishFault>
         ensures cause { IfErr result (λ fault. publish_fault self.old state.now ≡ Some fault) }
         ensures err { OnErr result (self.new ≡ self.old) }

@@ -2,7 +2,7 @@ ghost use Rattle.std.specs.Prelude.{◌≡◌, ◌++◌, Ok, IfOk, IfErr, OnOk};
 ghost use Rattle.std.specs.String.{string_bytes};
 ghost use Rattle.text_scanners.specs.Refusals.{IsRefusedAt};
 ghost use Rattle.cluster_states.specs.ClusterStates.{State};
-ghost use Rattle.cluster_states.specs.StateTexts.{IsStateText, state_text, mark_text, marks_text};
+ghost use Rattle.cluster_states.specs.StateTexts.{IsStateText, state_text, groups_text, mark_text, marks_text};
 
 use crate::cluster_state::ClusterState;
 use crate::marks::{Mark, Marks};
@@ -23,8 +23,9 @@ pub struct BadState {
 
 impl ClusterState {
     /// The state that a text says: `version:` a number up to 4294967295, `distributor:` and `storage:`
-    /// counts of 1 to 32, then marks, each after one space: `distributor.i.s:d`, `storage.i.s:d` or
-    /// `storage.i.s:r`, distributors first and numbers rising within a role. Takes no memory.
+    /// counts of 1 to 32, `groups:` a number of 2 to 8 or nothing for 1, then marks, each after one space:
+    /// `distributor.i.s:d`, `storage.i.s:d` or `storage.i.s:r`, distributors first and numbers rising within
+    /// a role.
     pub fn parse(text: &str) -> Result<ClusterState, BadState>
         ensures read { IfOk result (λ state. IsStateText text.now state) }
         ensures exact { (state : State) → IsStateText text.now state → result ≡ Ok state }
@@ -38,7 +39,7 @@ impl ClusterState {
         }
     }
 
-    /// The text of the state, which `parse` reads as this state. The only error is want of memory.
+    /// The text of the state, which `parse` reads as this state.
     #[tactic(auto, unfolding(crate::specs::StateTexts::state_text))]
     pub fn print(&self, alloc: Global) -> Result<String, NoMemory>
         ensures { IfOk result (λ text. IsStateText (string_bytes text) self.now) }
@@ -52,10 +53,22 @@ impl ClusterState {
         let mut text = format!(in alloc;
             "version:{version} distributor:{distributor_count} storage:{node_count}"
         )?;
+        push_groups(alloc, &mut text, self.groups())?;
         push_marks(alloc, &mut text, " distributor.", distributors)?;
         push_marks(alloc, &mut text, " storage.", nodes)?;
         Ok(text)
     }
+}
+
+/// Writes the number of groups behind a text, where it isn't 1.
+fn push_groups(alloc: Global, text: &mut String, groups: u8) -> Result<(), NoMemory>
+    ensures { OnOk result (string_bytes text.new ≡ string_bytes text.old ++ groups_text groups) }
+{
+    if groups != 1 {
+        let written = format!(in alloc; " groups:{groups}")?;
+        text.push_str(written.as_str())?;
+    }
+    Ok(())
 }
 
 /// Writes the marks of a role behind a text.

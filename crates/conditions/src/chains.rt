@@ -53,7 +53,7 @@ fn with_link<A: Drop>(links: Vec<Link<A>>, rank: u32, tree: Tree<A>) -> Result<C
 }
 
 impl<A: Drop> Chain<A> {
-    /// A chain of no terms; takes no memory.
+    /// A chain of no terms.
     pub fn none(alloc: Global) -> Chain<A>
         ensures { chain_of result ≡ [] }
     {
@@ -62,7 +62,7 @@ impl<A: Drop> Chain<A> {
         }
     }
 
-    /// The chain with one term more; the only error is want of memory.
+    /// The chain with one term more.
     pub fn add(self, alloc: Global, joint: Joint, term: Tree<A>) -> Result<Chain<A>, NoMemory>
         ensures { IfOk result (λ chain. chain_of chain ≡ added joint (formula_of term) (chain_of self)) }
     {
@@ -80,7 +80,7 @@ impl<A: Drop> Chain<A> {
         with_link(links, rank, tree)
     }
 
-    /// The tree of the chain and its last term; the only error is want of memory.
+    /// The tree of the chain and its last term.
     pub fn finish(self, alloc: Global, joint: Joint, last: Tree<A>) -> Result<Tree<A>, NoMemory>
         ensures { IfOk result (λ tree. formula_of tree ≡ finished joint (formula_of last) (chain_of self)) }
     {

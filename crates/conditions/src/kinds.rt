@@ -66,7 +66,7 @@ fn sign_kind(negation: Negation, symbol: Symbol) -> Kind
     }
 }
 
-/// What a token is to a condition; takes no memory.
+/// What a token is to a condition.
 #[tactic(auto, unfolding(crate::specs::Kinds::kind_of))]
 pub fn kind_of(negation: Negation, token: &Lexeme<'_>) -> Kind
     ensures { result ≡ kind_of negation (token_of token.now) }
@@ -78,14 +78,14 @@ pub fn kind_of(negation: Negation, token: &Lexeme<'_>) -> Kind
     }
 }
 
-/// Whether a token ends the operand before it; takes no memory.
+/// Whether a token ends the operand before it.
 pub fn ends_operand(kind: Kind) -> bool
     ensures { result ≡ ends_operand kind }
 {
     matches!(kind, Kind::And | Kind::Or | Kind::Close)
 }
 
-/// Whether a token is none of conditions; takes no memory.
+/// Whether a token is none of conditions.
 pub fn is_other(kind: Kind) -> bool
     ensures { result ≡ is_other kind }
 {

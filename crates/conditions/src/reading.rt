@@ -29,7 +29,7 @@ pub struct Settled<A: Drop> {
 }
 
 impl<A: Drop> Conditions<A> {
-    /// No token was read yet; the only error is want of memory.
+    /// No token was read yet.
     pub fn start(alloc: Global) -> Result<Conditions<A>, NoMemory>
         ensures { IfOk result (λ c. moved_of c ≡ (level bracket.Outside [] [] ∷ [], want)) }
     {
@@ -158,7 +158,7 @@ fn opposite<A: Drop>(alloc: Global, tree: Tree<A>) -> Result<Tree<A>, NoMemory>
     Ok(Tree::Not(Box::new(alloc, tree)?))
 }
 
-/// An operand with the `not`s that wait for it; the only error is want of memory.
+/// An operand with the `not`s that wait for it.
 fn settle<A: Drop>(
     alloc: Global,
     frames: Vec<Open<A>>,

@@ -1,41 +1,22 @@
 -- The first members of lists by rank.
-use Rattle.std.proofs.Common.{◌≡◌, ℕ, zero, suc, ◌<◌, ◌≤◌, true, false, List, [], ◌∷◌, length, get_or, Option, Some, None, IfSome, IfNone, codes, ◌↔◌, inl, inr, sym, ap, ◌∙◌, subst, arith}
+use Rattle.std.proofs.Common.{◌≡◌, ℕ, ◌<◌, ◌≤◌, true, false, List, length, get_or, Option, Some, None, IfSome, IfNone, ◌↔◌, inl, inr, sym, ap, ◌∙◌, subst, arith}
 use Rattle.std.proofs.lemmas.Bool.{cases_lt}
 use mathlib.Core.Bool.{true≢false}
 use Rattle.bucket_ids.specs.Buckets.{Low}
 use Rattle.node_sets.specs.Members.{has_node}
 use Rattle.cluster_states.specs.ClusterStates.{IsState}
 use Rattle.cluster_states.specs.declared.cluster_state.ClusterState.{ClusterState}
-use Rattle.ideal_nodes.specs.Scores.{Has, Ranks, IsRanked, score_of}
-use Rattle.ideal_nodes.specs.Placement.{IsIdeal}
+use Rattle.ideal_nodes.specs.Scores.{Has, IsRanked}
+use Rattle.ideal_nodes.specs.Placement.{Precedes, IsIdeal}
+use Rattle.ideal_nodes.proofs.Orders.{precedes_are_order}
+use Rattle.ideal_nodes.proofs.Places.{has_at, place_of, ranked_at}
 use Rattle.distributor_part.specs.Targets.{IsFirstMember, IsFirstComplete, IsToBeActive, LacksComplete}
-use Rattle.distributor_part.proofs.PartLaws.{has_at, ideal_small}
+use Rattle.distributor_part.proofs.PartLaws.{ideal_small}
 
--- ---- places
-
--- the place of a number
-pub record IsAt (nodes : List ℕ) (node : ℕ) : Type 0 where
-  pub place : ℕ
-  pub within : place < length nodes
-  pub is : get_or nodes place 0 ≡ node
-
-pub place_of : (nodes : List ℕ) (node : ℕ) → Has node nodes → IsAt nodes node
-place_of [] node h = absurd h
-place_of (n ∷ nodes) node (inl e) = record { place = 0; within = omega arith; is = sym e }
-place_of (n ∷ nodes) node (inr h) = let rest = place_of nodes node h in
-    record { place = suc rest.place; within = (let w = rest.within in omega arith); is = rest.is }
-
-ranked_at : (score : ℕ → ℕ) (nodes : List ℕ) (first second : ℕ) → IsRanked score nodes → first < second → second < length nodes
-    → Ranks score (get_or nodes first 0) (get_or nodes second 0)
-ranked_at score [] first second r lt within = absurd (omega arith)
-ranked_at score (n ∷ nodes) first zero r lt within = absurd (omega arith)
-ranked_at score (n ∷ nodes) zero (suc second) r lt within = r.0 _ (has_at nodes second 0 (omega arith))
-ranked_at score (n ∷ nodes) (suc first) (suc second) r lt within = ranked_at score nodes first second r.1 (omega arith) (omega arith)
-
-pub first_at : (bucket : Low) (nodes : List ℕ) (members place : ℕ) → IsRanked (score_of (codes "ideal") bucket) nodes → place < length nodes
+pub first_at : (bucket : Low) (state : ClusterState) (nodes : List ℕ) (members place : ℕ) → IsRanked (Precedes bucket state) nodes → place < length nodes
     → ((before : ℕ) → before < place → has_node members (get_or nodes before 0) ≡ false) → has_node members (get_or nodes place 0) ≡ true
-    → IsFirstMember bucket nodes members (get_or nodes place 0)
-first_at bucket nodes members place ranked within none here = record {
+    → IsFirstMember bucket state nodes members (get_or nodes place 0)
+first_at bucket state nodes members place ranked within none here = record {
   listed = has_at nodes place 0 within;
   member = here;
   first = λ other has is.
@@ -43,8 +24,8 @@ first_at bucket nodes members place ranked within none here = record {
       elim (cases_lt there.place place) [
         | inl before ↦ absurd (true≢false (sym is ∙ ap (has_node members) (sym there.is) ∙ none there.place before))
         | inr behind ↦ elim (cases_lt place there.place) [
-          | inl later ↦ inr (subst (Ranks (score_of (codes "ideal") bucket) (get_or nodes place 0)) there.is
-              (ranked_at (score_of (codes "ideal") bucket) nodes place there.place ranked later there.within))
+          | inl later ↦ inr (subst (Precedes bucket state (get_or nodes place 0)) there.is
+              (ranked_at (Precedes bucket state) nodes place there.place ranked later there.within))
           | inr not_later ↦ let same : there.place ≡ place = omega arith in inl (sym there.is ∙ ap (λ k. get_or nodes k 0) same)
         ]
       ];
@@ -67,12 +48,6 @@ pub none_complete : (bucket : Low) (state : ClusterState) (complete : ℕ) (node
     → ((node : ℕ) → Has node nodes → has_node complete node ≡ false) → LacksComplete state bucket complete
 none_complete bucket state complete nodes is none other ideal node has = none node (has_other bucket state other nodes ideal is node has)
 
-ranks_once : (score : ℕ → ℕ) (a b : ℕ) → Ranks score a b → Ranks score b a → ⊥
-ranks_once score a b (inl x) (inl y) = omega arith
-ranks_once score a b (inl x) (inr y) = let e = y.0 in omega arith
-ranks_once score a b (inr x) (inl y) = let e = x.0 in omega arith
-ranks_once score a b (inr x) (inr y) = let p = x.1 in let q = y.1 in omega arith
-
 -- there is one first complete member
 pub first_once : (state : ClusterState) (bucket : Low) (complete one other : ℕ) → IsFirstComplete state bucket complete one
     → IsFirstComplete state bucket complete other → one ≡ other
@@ -81,7 +56,7 @@ first_once state bucket complete one other a b =
     let behind = (b.is_first).first one (has_other bucket state _ _ a.is_ideal b.is_ideal one (a.is_first).listed) (a.is_first).member in
     elim before [
       | inl same ↦ sym same
-      | inr ranks ↦ elim behind [ inl same ↦ same | inr back ↦ absurd (ranks_once (score_of (codes "ideal") bucket) one other ranks back) ]
+      | inr ranks ↦ elim behind [ inl same ↦ same | inr back ↦ absurd ((precedes_are_order bucket state).once one other ranks back) ]
     ]
 
 -- ---- the node that is to be active

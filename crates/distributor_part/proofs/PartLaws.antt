@@ -44,11 +44,6 @@ no_members set end past none node = elim (cases_lt node end) [
 
 -- ---- places of lists
 
-pub has_at : (nodes : List ℕ) (place none : ℕ) → place < length nodes → Has (get_or nodes place none) nodes
-has_at [] place none h = absurd (omega arith)
-has_at (n ∷ nodes) zero none h = inl refl
-has_at (n ∷ nodes) (suc place) none h = inr (has_at nodes place none (omega arith))
-
 -- one node more is taken
 pub taken_more : (nodes : List ℕ) (place none node : ℕ) → place < length nodes → Has node (take (suc place) nodes)
     → Has node (take place nodes) ⊎ (node ≡ get_or nodes place none)

@@ -1,10 +1,10 @@
 -- Where the replicas of a row are to be.
-use Rattle.std.specs.Prelude.{◌≡◌, ◌⊎◌, ◌↔◌, ◌<◌, ℕ, true, false, take, List, Option, Some, None, codes}
+use Rattle.std.specs.Prelude.{◌≡◌, ◌⊎◌, ◌↔◌, ◌<◌, ℕ, true, false, take, List, Option, Some, None}
 use Rattle.bucket_ids.specs.Buckets.{Low}
 use Rattle.node_sets.specs.Members.{has_node}
 use Rattle.cluster_states.specs.declared.cluster_state.ClusterState.{ClusterState}
-use Rattle.ideal_nodes.specs.Scores.{Has, Ranks, score_of}
-use Rattle.ideal_nodes.specs.Placement.{IsIdeal}
+use Rattle.ideal_nodes.specs.Scores.{Has}
+use Rattle.ideal_nodes.specs.Placement.{Precedes, IsIdeal}
 
 -- the node is among the first of the bucket's ideal order, as many as there are to be replicas
 pub record IsAmongFirst (redundancy : ℕ) (state : ClusterState) (bucket : Low) (node : ℕ) : Type 0 where
@@ -23,18 +23,18 @@ AreTargets redundancy state bucket active set =
 
 -- ---- searches
 
--- the first node of a bucket's ideal list that is a member of the set
-pub record IsFirstMember (bucket : Low) (list : List ℕ) (members node : ℕ) : Type 0 where
+-- the first node of a bucket's ideal list under a state that is a member of the set
+pub record IsFirstMember (bucket : Low) (state : ClusterState) (list : List ℕ) (members node : ℕ) : Type 0 where
   pub listed : Has node list
   pub member : has_node members node ≡ true
   pub first : (other : ℕ) → Has other list → has_node members other ≡ true
-      → (other ≡ node) ⊎ Ranks (score_of (codes "ideal") bucket) node other
+      → (other ≡ node) ⊎ Precedes bucket state node other
 
 -- the first complete member of a row in its ideal order
 pub record IsFirstComplete (state : ClusterState) (bucket : Low) (complete node : ℕ) : Type 0 where
   pub ideal : List ℕ
   pub is_ideal : IsIdeal bucket state ideal
-  pub is_first : IsFirstMember bucket ideal complete node
+  pub is_first : IsFirstMember bucket state ideal complete node
 
 -- the node that a row's activation goes to: the active node, or else the first complete member
 abbrev pub IsToBeActive : ClusterState → Low → ℕ → Option ℕ → ℕ → Type 0

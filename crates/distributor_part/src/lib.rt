@@ -31,6 +31,7 @@
 //! ```
 #![tactic(auto)]
 
+mod heard;
 mod opening;
 pub mod part;
 pub mod rules;

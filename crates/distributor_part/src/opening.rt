@@ -32,7 +32,7 @@ pub fn to_ask(serving: NodeSet, answered: NodeSet, asked: NodeSet) -> NodeSet
     serving.difference(answered).difference(asked)
 }
 
-/// Adds a bucket where there is room for it; takes no memory.
+/// Adds a bucket where there is room for it.
 fn add_reserved(shown: &mut Vec<Bucket>, bucket: Bucket)
     requires { vec_len shown.old < vec_capacity shown.old }
     ensures items { shown.new.items ≡ shown.old.items ++ bucket ∷ [] }
@@ -55,7 +55,7 @@ pub fn add_buckets(shown: &mut Vec<Bucket>, pieces: &[Piece]) -> Result<(), NoMe
     Ok(())
 }
 
-/// The buckets of rows. The only error is want of memory.
+/// The buckets of rows.
 pub fn buckets_of(alloc: Global, rows: &[Row]) -> Result<BucketList, NoMemory>
     ensures { IfOk result (λ buckets. buckets ≡ buckets_of rows.now) }
 {

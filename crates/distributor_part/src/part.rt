@@ -8,6 +8,7 @@ ghost use Rattle.bucket_db.specs.Rows.{AreRows, buckets_of};
 ghost use Rattle.distributor_part.specs.Parts.{Part, new_part, version_of, origin_of, rows_of, IsOwning, Prepares, key_in};
 ghost use Rattle.distributor_part.specs.Steps.{IsStep, IsToOpen, IsUnopened, IsOpening, IsAfterAnswer, IsAnAnswer, IsRunning, IsRoundOver, IsClosed, IsRowOf, without_end};
 
+use crate::heard::Heard;
 use crate::opening::{add_buckets, buckets_of, lowest_of, silent, to_ask};
 use crate::rules::Rules;
 use crate::stage::Stage;
@@ -28,7 +29,7 @@ pub struct DistributorPart {
     number: u8,
     lane: Bucket,
     pub(crate) rules: Rules,
-    pub(crate) state: Option<ClusterState>,
+    pub(crate) heard: Heard,
     answered: NodeSet,
     shown: Vec<Bucket>,
     asked: NodeSet,
@@ -46,7 +47,7 @@ impl Model for DistributorPart {
       number = p.number;
       lane = p.lane;
       rules = p.rules;
-      state = p.state;
+      state = p.heard;
       answered = p.answered;
       shown = p.shown.items;
       asked = p.asked;
@@ -59,7 +60,7 @@ impl Model for DistributorPart {
 }
 
 impl DistributorPart {
-    /// The part of a distributor that has heard no state; takes no memory. A lane's bucket has at most
+    /// The part of a distributor that has heard no state. A lane's bucket has at most
     /// 6 bits.
     pub fn new(alloc: Global, number: u8, lane: Bucket, rules: Rules) -> DistributorPart
         requires { lane.bits ≤ 6 }
@@ -69,7 +70,7 @@ impl DistributorPart {
             number,
             lane,
             rules,
-            state: None,
+            heard: Heard::none(alloc),
             answered: NodeSet::of(0),
             shown: Vec::new(alloc),
             asked: NodeSet::of(0),
@@ -79,11 +80,11 @@ impl DistributorPart {
         }
     }
 
-    /// Hears a state: rows, marks and all that was under way are forgotten. Takes no memory.
+    /// Hears a state: rows, marks and all that was under way are forgotten.
     pub fn hear(&mut self, state: &ClusterState)
         ensures { self.new ≡ new_part self.old.number self.old.lane self.old.rules (Some state.now) }
     {
-        self.state = Some(*state);
+        self.heard.hear(state);
         self.answered = NodeSet::of(0);
         self.shown.clear();
         self.asked = NodeSet::of(0);
@@ -124,14 +125,14 @@ impl DistributorPart {
     pub fn state(&self) -> Option<ClusterState>
         ensures { result ≡ self.now.state }
     {
-        self.state
+        *self.heard.state()
     }
 
     /// The version of that state, 0 before one is heard.
     pub fn version(&self) -> u32
         ensures { result ≡ version_of self.now.state }
     {
-        match &self.state {
+        match self.heard.state() {
             Some(state) => state.version(),
             None => 0,
         }
@@ -163,7 +164,7 @@ impl DistributorPart {
         }
     }
 
-    /// The place of the row that has a key of the lane, once the state is opened; takes no memory.
+    /// The place of the row that has a key of the lane, once the state is opened.
     pub fn row_of(&self, key: u64) -> usize
         requires opened { IsSome self.now.rows }
         requires key { IsIn self.now.lane key }
@@ -190,7 +191,7 @@ impl DistributorPart {
         let Job::Prepare { key } = job else {
             unreachable!();
         };
-        let Some(state) = self.state else {
+        let Some(state) = *self.heard.state() else {
             unreachable!();
         };
         if self.rows.is_none() {
@@ -243,6 +244,7 @@ impl DistributorPart {
     {
         let rows = BucketDb::of_answers(alloc, self.lane, &self.shown)?;
         let buckets = buckets_of(alloc, rows.rows())?;
+        self.heard.make_places(rows.rows().len())?;
         self.shown = Vec::new(alloc);
         self.rows = Some(rows);
         Ok(Step::Open { rows: buckets })
@@ -285,7 +287,9 @@ impl DistributorPart {
         if row.complete.has_at_least(self.rules.acks) {
             return self.finish(NodeSet::of(0));
         }
-        let receivers = targets_of(self.rules.redundancy, state, &row);
+        self.heard.keep_order(at, row.bucket);
+        let kept = self.heard.order(at, row.bucket);
+        let receivers = targets_of(self.rules.redundancy, state, kept, &row);
         self.stage = Stage::Running { at, receivers };
         Step::Decide(Decision::RoundBegun {
             bucket: row.bucket,
@@ -371,14 +375,14 @@ impl DistributorPart {
     fn serving(&self) -> NodeSet
         ensures { IfSome self.now.state (λ state. (node : ℕ) → has_node result node ≡ serves state node) }
     {
-        match &self.state {
+        match self.heard.state() {
             Some(state) => state.serving(),
             None => NodeSet::of(0),
         }
     }
 
     /// An operation on a key was acknowledged: of the complete members of the key's row those that
-    /// didn't answer lose their mark. Takes no memory.
+    /// didn't answer lose their mark.
     pub fn closed(&mut self, key: u64, answered: NodeSet)
         requires opened { IsSome self.old.rows }
         requires key { IsIn self.old.lane key }
@@ -393,7 +397,7 @@ impl DistributorPart {
     }
 
     /// The job under way ends before it is finished, for want of memory outside: the next one begins
-    /// from its start. A round that is under way, or whose end isn't decided, stays so. Takes no memory.
+    /// from its start. A round that is under way, or whose end isn't decided, stays so.
     pub fn give_up(&mut self)
         ensures { self.new
             ≡ record self.old { asked = 0; awaited = None; stage = without_end self.old.stage } }

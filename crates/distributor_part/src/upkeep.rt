@@ -15,49 +15,64 @@ use value_lists::NoMemory;
 impl DistributorPart {
     // ---- what a row asks for
 
-    /// The targets of the row of a place; takes no memory.
+    /// The targets of the row of a place.
     pub fn targets(&self, at: usize) -> NodeSet
         requires heard { IsSome self.now.state }
         requires place { at < length (rows_of self.now.rows) }
         ensures { AreTargetsAt self.now at result }
     {
-        let (Some(state), Some(rows)) = (&self.state, &self.rows) else {
+        let (Some(state), Some(rows)) = (self.heard.state(), &self.rows) else {
             unreachable!();
         };
-        targets_of(self.rules.redundancy, state, &rows.rows()[at])
+        let row = &rows.rows()[at];
+        let kept = self.heard.order(at, row.bucket);
+        targets_of(self.rules.redundancy, state, kept, row)
     }
 
-    /// The active node of the row of a place, or else the complete member that is to be active, if there is one;
-    /// takes no memory.
+    /// The active node of the row of a place, or else the complete member that is to be active, if there is one.
     pub fn to_be_active(&self, at: usize) -> Option<u8>
         requires heard { IsSome self.now.state }
         requires place { at < length (rows_of self.now.rows) }
         ensures some { IfSome result (IsToBeActiveAt self.now at) }
         ensures none { IfNone result (LacksCompleteAt self.now at) }
     {
-        let (Some(state), Some(rows)) = (&self.state, &self.rows) else {
+        let (Some(state), Some(rows)) = (self.heard.state(), &self.rows) else {
             unreachable!();
         };
-        to_be_active(state, &rows.rows()[at])
+        let row = &rows.rows()[at];
+        to_be_active(state, self.heard.order(at, row.bucket), row)
     }
 
     /// The nodes that are to be ready in the row of a place: the first ones in ideal order, be they complete or not,
-    /// and the one that is to be active. Takes no memory.
+    /// and the one that is to be active.
     pub fn to_be_ready(&self, at: usize) -> NodeSet
         requires heard { IsSome self.now.state }
         requires place { at < length (rows_of self.now.rows) }
         ensures { AreToBeReadyAt self.now at result }
     {
-        let (Some(state), Some(rows)) = (&self.state, &self.rows) else {
+        let (Some(state), Some(rows)) = (self.heard.state(), &self.rows) else {
             unreachable!();
         };
-        to_be_ready(self.rules.searchable, state, &rows.rows()[at])
+        let row = &rows.rows()[at];
+        let kept = self.heard.order(at, row.bucket);
+        to_be_ready(self.rules.searchable, state, kept, row)
     }
 
     // ---- rounds
 
+    /// Keeps the ideal order of the row of a place, which the round and what follows it ask for.
+    fn keep_order(&mut self, at: usize)
+        requires { at < length (rows_of self.old.rows) }
+        ensures { self.new ≡ self.old }
+    {
+        let Some(rows) = &self.rows else {
+            unreachable!();
+        };
+        self.heard.keep_order(at, rows.rows()[at].bucket);
+    }
+
     /// Begins a round in the row of a place, whatever its marks are, and says to whom its union goes. What follows is
-    /// that of any round: it is told by `round_over`, and the next step decides its end. Takes no memory.
+    /// that of any round: it is told by `round_over`, and the next step decides its end.
     pub fn begin_round(&mut self, at: usize) -> NodeSet
         requires heard { IsSome self.old.state }
         requires place { at < length (rows_of self.old.rows) }
@@ -65,6 +80,7 @@ impl DistributorPart {
         ensures { (row : Row) → slice_get (rows_of self.old.rows) at ≡ Some row
             → BeginsRoundAt self.old self.new at row.bucket result }
     {
+        self.keep_order(at);
         let receivers = self.targets(at);
         self.stage = Stage::Running { at, receivers };
         receivers
@@ -84,7 +100,10 @@ impl DistributorPart {
         let Some(rows) = &mut self.rows else {
             unreachable!();
         };
-        rows.split_row(at)
+        let bucket = rows.rows()[at].bucket;
+        rows.split_row(at)?;
+        self.heard.row_splits(at, bucket, rows.rows());
+        Ok(())
     }
 
     /// Whether the row of a place may be joined: its sibling is a row, both have more bits than the lane's bucket and
@@ -99,7 +118,7 @@ impl DistributorPart {
         }
     }
 
-    /// Joins the row of a place with its sibling: common marks stay, and the Delete of either. Takes no memory.
+    /// Joins the row of a place with its sibling: common marks stay, and the Delete of either.
     pub fn join_rows(&mut self, at: usize)
         requires place { at < length (rows_of self.old.rows) }
         requires joinable { CanJoinAt self.old at }
@@ -117,7 +136,7 @@ impl DistributorPart {
 
     // ---- activations
 
-    /// Says that a node is the active one of the row of a place, which it hasn't accepted yet. Takes no memory.
+    /// Says that a node is the active one of the row of a place, which it hasn't accepted yet.
     pub fn activate(&mut self, at: usize, node: u8)
         requires place { at < length (rows_of self.old.rows) }
         requires small { node < 32 }
@@ -129,7 +148,7 @@ impl DistributorPart {
         rows.set_active(at, node);
     }
 
-    /// Says that the active node of the row of a place accepted its activation. Takes no memory.
+    /// Says that the active node of the row of a place accepted its activation.
     pub fn accept(&mut self, at: usize)
         requires { at < length (rows_of self.old.rows) }
         ensures { AcceptsAt self.old self.new at }
@@ -143,7 +162,7 @@ impl DistributorPart {
     // ---- Deletes
 
     /// Says that the row of a place has a Delete to a node, of its bucket with this serial, that has no answer yet;
-    /// the node's mark goes. Takes no memory.
+    /// the node's mark goes.
     pub fn delete_from(&mut self, at: usize, node: u8, serial: u64)
         requires place { at < length (rows_of self.old.rows) }
         requires small { node < 32 }
@@ -164,7 +183,7 @@ impl DistributorPart {
         );
     }
 
-    /// Says that the Delete of a bucket to a node has its answer: no row has it any more. Takes no memory.
+    /// Says that the Delete of a bucket to a node has its answer: no row has it any more.
     pub fn delete_over(&mut self, bucket: Bucket, node: u8)
         requires { IsSome self.old.rows }
         ensures { EndsDelete self.old self.new bucket node }

@@ -44,7 +44,7 @@ impl TokenReader for Reader {
     }
 }
 
-/// No token was read yet; the only error is want of memory.
+/// No token was read yet.
 pub fn start(alloc: Global) -> Result<Reader, NoMemory>
     ensures { IfOk result (λ reader. state_of reader ≡ start) }
 {

@@ -68,7 +68,7 @@ fn parsed(alloc: Global, text: &str, schema: &Schema) -> Result<Selection, Selec
 }
 
 impl Selection {
-    /// The selection that a tree says. The only error is want of memory.
+    /// The selection that a tree says.
     pub fn of(alloc: Global, tree: Tree<Term>) -> Result<Selection, NoMemory>
         ensures { IfOk result (λ selection. selection ≡ formula_of tree) }
     {
@@ -85,7 +85,7 @@ impl Selection {
         parsed(alloc, text, schema)
     }
 
-    /// Whether it is true of a document; takes no memory.
+    /// Whether it is true of a document.
     pub fn holds(&self, document: &Document) -> bool
         ensures { result ≡ selects document.now self.now }
     {

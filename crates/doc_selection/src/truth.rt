@@ -106,7 +106,7 @@ fn term_holds(term: &Term, document: &Document) -> bool
     }
 }
 
-/// Whether a tree is true of a document; takes no memory.
+/// Whether a tree is true of a document.
 pub fn tree_holds(tree: &Tree<Term>, document: &Document) -> bool
     ensures { result ≡ selects document.now (formula_of tree.now) }
 {

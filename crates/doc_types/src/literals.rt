@@ -32,7 +32,7 @@ fn content_at(bytes: &[u8], at: usize) -> Option<usize>
 }
 
 /// The bytes of a text literal behind its first quote, and how many bytes with the closing quote there
-/// are; none where it stays open or has a wrong backslash. The only error is want of memory.
+/// are; none where it stays open or has a wrong backslash.
 pub fn body_at(alloc: Global, quote: u8, bytes: &[u8]) -> Result<Option<(Vec<u8>, usize)>, NoMemory>
     ensures { IfOk result (BodyIs quote bytes.now) }
 {

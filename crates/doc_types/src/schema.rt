@@ -1,11 +1,13 @@
-ghost use Rattle.std.specs.Prelude.{◌≡◌, is_some, map, Some, option_and_then, option_map};
+ghost use Rattle.std.specs.Prelude.{◌≡◌, is_some, map, IfOk, Some, option_and_then, option_map};
 ghost use Rattle.std.specs.FinMap as fin;
 ghost use Rattle.doc_types.specs.SchemaCodes.{name_cmp};
 ghost use Rattle.doc_types.specs.Known.{has_types, has_fields, some_fields};
 ghost use Rattle.doc_types.specs.SchemaMaps.{field_pair, type_pair};
 
 use crate::values::FieldType;
+use std::alloc::Global;
 use std::marker::Model;
+use value_lists::{NoMemory, TryCopy};
 
 /// The schema that a session has by itself.
 pub const DEFAULT_SCHEMA: &str =
@@ -62,35 +64,35 @@ fn field_named<'a>(fields: &'a [FieldOf], name: &str) -> Option<&'a FieldOf>
 }
 
 impl Schema {
-    /// The schema of these types; of a name that comes twice the first counts. Takes no memory.
+    /// The schema of these types; of a name that comes twice the first counts.
     pub fn of(types: Vec<TypeOf>) -> Schema
         ensures { result ≡ fin.from_entries (map type_pair types.items) }
     {
         Schema { types }
     }
 
-    /// Whether there is a type; takes no memory.
+    /// Whether there is a type.
     pub fn has_types(&self) -> bool
         ensures { result ≡ has_types self.now }
     {
         some_type(&self.types)
     }
 
-    /// The type of this name; takes no memory.
+    /// The type of this name.
     pub fn type_named(&self, name: &str) -> Option<&TypeOf>
         ensures { option_map (λ t. (type_pair t.now).1) result ≡ fin.get self.now name.now }
     {
         type_named(&self.types, name)
     }
 
-    /// Whether there is a type of this name; takes no memory.
+    /// Whether there is a type of this name.
     pub fn has_type(&self, name: &str) -> bool
         ensures { result ≡ is_some (fin.get self.now name.now) }
     {
         type_named(&self.types, name).is_some()
     }
 
-    /// Whether there is a type of this name with a field; takes no memory.
+    /// Whether there is a type of this name with a field.
     pub fn has_fields(&self, type_name: &str) -> bool
         ensures { result ≡ has_fields self.now type_name.now }
     {
@@ -100,7 +102,7 @@ impl Schema {
         }
     }
 
-    /// The kind of a field of a type; takes no memory.
+    /// The kind of a field of a type.
     pub fn field(&self, type_name: &str, field: &str) -> Option<FieldType>
         ensures { result ≡ option_and_then (λ fields. fin.get fields field.now)
             (fin.get self.now type_name.now) }
@@ -109,6 +111,42 @@ impl Schema {
             Some(found) => kind_of(&found.fields, field),
             None => None,
         }
+    }
+}
+
+/// Copies of the fields of a type.
+fn copy_fields(alloc: Global, fields: &[FieldOf]) -> Result<Vec<FieldOf>, NoMemory>
+    ensures { IfOk result (λ copies. map field_pair copies.items ≡ map field_pair fields.now) }
+{
+    let mut copies = Vec::with_capacity(alloc, fields.len())?;
+    for field in fields {
+        copies.push(FieldOf {
+            name: String::from_str(alloc, field.name.as_str())?,
+            kind: field.kind,
+        })?;
+    }
+    Ok(copies)
+}
+
+/// Copies of the types.
+fn copy_types(alloc: Global, types: &[TypeOf]) -> Result<Vec<TypeOf>, NoMemory>
+    ensures { IfOk result (λ copies. map type_pair copies.items ≡ map type_pair types.now) }
+{
+    let mut copies = Vec::with_capacity(alloc, types.len())?;
+    for one in types {
+        copies.push(TypeOf {
+            name: String::from_str(alloc, one.name.as_str())?,
+            fields: copy_fields(alloc, &one.fields)?,
+        })?;
+    }
+    Ok(copies)
+}
+
+impl TryCopy for Schema {
+    fn copy(&self, alloc: Global) -> Result<Schema, NoMemory> {
+        Ok(Schema {
+            types: copy_types(alloc, &self.types)?,
+        })
     }
 }
 

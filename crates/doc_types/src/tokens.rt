@@ -23,7 +23,7 @@ pub enum Lexeme<'a> {
     Signs(Symbol),
 }
 
-/// The text behind its blanks: spaces, tabs and line ends. Takes no memory.
+/// The text behind its blanks: spaces, tabs and line ends.
 pub fn skip_blanks(text: &str) -> &str
     ensures { result.now ≡ skip_blanks text.now }
 {
@@ -84,7 +84,7 @@ fn read_number(text: &str, skip: usize) -> Option<(Lexeme<'_>, &str)>
     }
 }
 
-/// The text literal at the front of a text, and what is behind it. The only error is want of memory.
+/// The text literal at the front of a text, and what is behind it.
 fn read_literal(alloc: Global, text: &str) -> Result<Option<(Lexeme<'_>, &str)>, NoMemory>
     requires some { 0 < length text.now }
     requires quote { slice_index_or text.now 0 0 < 128 }

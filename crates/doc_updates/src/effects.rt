@@ -79,7 +79,7 @@ fn quotient(one: i64, two: i64) -> Result<i64, Reason>
     }
 }
 
-/// Copies of some items and of others behind them. The only error is want of memory.
+/// Copies of some items and of others behind them.
 fn joined<T: TryCopy + Drop>(alloc: Global, front: &[T], back: &[T]) -> Result<Vec<T>, NoMemory>
     ensures { IfOk result (λ list. list.items ≡ front.now ++ back.now) }
 {

@@ -116,7 +116,7 @@ fn changed_by(
 }
 
 impl Update {
-    /// The update of these changes, in the order of their names. The only error is want of memory.
+    /// The update of these changes, in the order of their names.
     pub fn of(alloc: Global, list: Vec<Named>) -> Result<Update, NoMemory>
         requires sorted { T (fin.is_sorted name_cmp (pairs list.items)) }
         ensures { IfOk result (λ update. update ≡ fin.from_entries (pairs list.items)) }

@@ -44,7 +44,7 @@ impl Model for Document {
 }
 
 impl Document {
-    /// The document without fields; takes no memory.
+    /// The document without fields.
     pub fn empty(alloc: Global, id: DocId) -> Document
         ensures id { result.id ≡ id }
         ensures fields { result.fields ≡ fin.empty }
@@ -55,7 +55,7 @@ impl Document {
         }
     }
 
-    /// The document of these fields, in the order of their names, if it isn't too large; takes no memory.
+    /// The document of these fields, in the order of their names, if it isn't too large.
     pub fn of(id: DocId, fields: Vec<SharedField>) -> Result<Document, DocumentFault>
         requires sorted { T (fin.is_sorted name_cmp (pairs fields.items)) }
         ensures read { IfOk result (λ document. (size_fault (fin.from_entries (pairs fields.items)) ≡ None)
@@ -71,21 +71,21 @@ impl Document {
         Ok(document)
     }
 
-    /// All fields in the order of their names; takes no memory.
+    /// All fields in the order of their names.
     pub fn fields(&self) -> &[SharedField]
         ensures { pairs result.now ≡ fin.entries self.now.fields }
     {
         &self.fields
     }
 
-    /// Its id; takes no memory.
+    /// Its id.
     pub fn id(&self) -> &DocId
         ensures { result.now ≡ self.now.id }
     {
         &self.id
     }
 
-    /// What a field has; takes no memory.
+    /// What a field has.
     pub fn get(&self, field: &str) -> Option<&FieldValue>
         ensures { option_map (λ value. value.now) result ≡ fin.get self.now.fields field.now }
     {
@@ -106,7 +106,7 @@ impl Document {
         Ok(())
     }
 
-    /// Leaves a field without a value; takes no memory.
+    /// Leaves a field without a value.
     pub fn clear(&mut self, field: &str)
         ensures id { self.new.id ≡ self.old.id }
         ensures fields { self.new.fields ≡ fin.remove self.old.fields field.now }
@@ -115,7 +115,7 @@ impl Document {
     }
 
     /// The bytes of the names and values: for each field its name, 8, and for a text its bytes, for a
-    /// list 8 an item and the bytes of each; at most 2^64 - 1. Takes no memory.
+    /// list 8 an item and the bytes of each; at most 2^64 - 1.
     pub fn size(&self) -> u64
         ensures { result ≡ size_of self.now.fields }
     {

@@ -15,7 +15,7 @@ pub struct Entry {
     pub body: Option<Document>,
 }
 
-/// A copy of the body. The only error is want of memory.
+/// A copy of the body.
 fn copy_body(alloc: Global, body: &Option<Document>) -> Result<Option<Document>, NoMemory>
     ensures { IfOk result (λ copy. copy ≡ body.now) }
 {

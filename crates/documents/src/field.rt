@@ -29,7 +29,7 @@ impl Model for SharedField {
 }
 
 impl SharedField {
-    /// A field of its own. The only error is want of memory.
+    /// A field of its own.
     pub fn of(alloc: Global, name: &str, value: FieldValue) -> Result<SharedField, NoMemory>
         ensures { IfOk result (λ field. (field.name ≡ name.now) × (field.value ≡ value)) }
     {
@@ -39,14 +39,14 @@ impl SharedField {
         })
     }
 
-    /// Its name; takes no memory.
+    /// Its name.
     pub fn name(&self) -> &str
         ensures { result.now ≡ self.now.name }
     {
         self.field.name.text()
     }
 
-    /// Its value; takes no memory.
+    /// Its value.
     pub fn value(&self) -> &FieldValue
         ensures { result.now ≡ self.now.value }
     {

@@ -31,7 +31,7 @@ pub fn field_of<'a>(fields: &'a [SharedField], name: &str) -> Option<&'a SharedF
     fields.iter().find(|field| field.name() == name)
 }
 
-/// Puts a field in its place. The only error is want of memory.
+/// Puts a field in its place.
 pub fn put_in(fields: &mut Vec<SharedField>, field: SharedField) -> Result<(), NoMemory>
     ensures ok { OnOk result (pairs fields.new.items
         ≡ fin.put name_cmp field.name field.value (pairs fields.old.items)) }
@@ -52,7 +52,7 @@ pub fn put_in(fields: &mut Vec<SharedField>, field: SharedField) -> Result<(), N
     Ok(())
 }
 
-/// Takes the field of a name out, if there is one; takes no memory.
+/// Takes the field of a name out, if there is one.
 pub fn clear_in(fields: &mut Vec<SharedField>, name: &str)
     ensures { fields.new.items ≡ filter (λ f. not (bytes_eq f.name name.now)) fields.old.items }
 {

@@ -26,7 +26,7 @@ impl Model for SharedEntry {
 }
 
 impl SharedEntry {
-    /// The entry, to be shared. The only error is want of memory.
+    /// The entry, to be shared.
     pub fn new(alloc: Global, entry: Entry) -> Result<SharedEntry, NoMemory>
         ensures { IfOk result (λ shared. shared ≡ entry) }
     {
@@ -36,7 +36,7 @@ impl SharedEntry {
         }
     }
 
-    /// The entry; takes no memory.
+    /// The entry.
     pub fn entry(&self) -> &Entry
         ensures { result.now ≡ self.now }
     {

@@ -13,7 +13,7 @@ use std::alloc::Global;
 use value_lists::NoMemory;
 
 impl Stored {
-    /// Adds copies of slots behind all, as a row of their own. The only error is want of memory.
+    /// Adds copies of slots behind all, as a row of their own.
     fn append_copies(&mut self, alloc: Global, slots: &[Slot]) -> Result<(), NoMemory>
         requires { IsCounted self.old }
         ensures ok { OnOk result (slots_in self.new ≡ slots_in self.old ++ slots.now) }
@@ -33,7 +33,7 @@ impl Stored {
         Ok(())
     }
 
-    /// Copies of the slots of some rows. The only error is want of memory.
+    /// Copies of the slots of some rows.
     pub fn rows_copied(&self, alloc: Global, rows: Rows) -> Result<Stored, NoMemory>
         requires { AreRows self.now.list rows }
         ensures slots { IfOk result (λ part. slots_in part ≡ flat_of self.now.list rows) }
@@ -46,7 +46,7 @@ impl Stored {
         Ok(part)
     }
 
-    /// A copy that shares all entries. The only error is want of memory.
+    /// A copy that shares all entries.
     pub fn shared(&self, alloc: Global) -> Result<Stored, NoMemory>
         ensures slots { IfOk result (λ copy. slots_in copy ≡ slots_in self.now) }
         ensures counted { IfOk result IsCounted }
@@ -60,7 +60,7 @@ impl Stored {
         )
     }
 
-    /// Copies of the slots of a run, row by row. The only error is want of memory.
+    /// Copies of the slots of a run, row by row.
     pub fn copied(&self, alloc: Global, run: Run) -> Result<Stored, NoMemory>
         requires stored { IsStored self.now }
         requires run { IsWhole self.now.list run }

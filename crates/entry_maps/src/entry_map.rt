@@ -2,7 +2,7 @@ ghost use Rattle.std.specs.Prelude.{◌≡◌, ℕ, List, IfOk, OnOk, OnErr, not
 ghost use Rattle.std.specs.Option.{option_copied};
 ghost use Rattle.std.specs.FinMap as fin;
 ghost use Rattle.global_ids.specs.Keys.{key_of};
-ghost use Rattle.entry_maps.specs.Entries.{is_newer, with_entry, newer_of, alone, in_bucket, documents_of};
+ghost use Rattle.entry_maps.specs.Entries.{is_newer, with_entry, newer_of, alone, in_bucket, documents_of, by_id};
 ghost use Rattle.entry_maps.specs.Stamps.{stamps_of};
 
 use crate::kept::Kept;
@@ -46,7 +46,7 @@ fn lent(shared: Option<&SharedEntry>) -> Option<&Entry>
 }
 
 impl EntryMap {
-    /// A map without entries; takes no memory.
+    /// A map without entries.
     pub fn new(alloc: Global) -> EntryMap
         ensures { result ≡ fin.empty }
     {
@@ -56,7 +56,7 @@ impl EntryMap {
         }
     }
 
-    /// The map of one entry; takes no memory.
+    /// The map of one entry.
     pub fn of_one(alloc: Global, entry: SharedEntry) -> EntryMap
         ensures { result ≡ alone entry }
     {
@@ -66,7 +66,7 @@ impl EntryMap {
         }
     }
 
-    /// The entry of a document; takes no memory.
+    /// The entry of a document.
     pub fn get(&self, id: &DocId) -> Option<&Entry>
         ensures { option_copied result ≡ fin.get self.now id.now }
     {
@@ -103,15 +103,22 @@ impl EntryMap {
         self.kept.documents() as u64
     }
 
-    /// The stamps of all entries, each once, the smallest first. The only error is want of memory.
+    /// The stamps of all entries, each once, the smallest first.
     pub fn stamps(&self) -> Result<Vec<Stamp>, NoMemory>
         ensures { IfOk result (λ stamps. stamps.items ≡ stamps_of self.now) }
     {
         self.kept.stamps(self.alloc)
     }
 
+    /// All entries, shared; their order isn't told.
+    pub fn listed(&self) -> Result<Vec<SharedEntry>, NoMemory>
+        ensures { IfOk result (λ list. fin.from_entries (by_id list.items) ≡ self.now) }
+    {
+        self.kept.listed(self.alloc)
+    }
+
     /// Takes an entry; `false` exactly where an entry of the same or a greater stamp was there,
-    /// which stays. The only error is want of memory.
+    /// which stays.
     pub fn put(&mut self, entry: Entry) -> Result<bool, NoMemory>
         ensures taken { IfOk result (λ taken. taken ≡ is_newer entry (fin.get self.old entry.id)) }
         ensures ok { OnOk result (self.new ≡ with_entry self.old entry) }
@@ -131,8 +138,7 @@ impl EntryMap {
         self.kept.put(self.alloc, path_of(key), entry)
     }
 
-    /// Takes, of each document, the other map's entry where that is newer. The only error is want
-    /// of memory.
+    /// Takes, of each document, the other map's entry where that is newer.
     pub fn merge(&mut self, other: &EntryMap) -> Result<(), NoMemory>
         ensures ok { OnOk result ((id : List ℕ)
             → fin.get self.new id ≡ newer_of (fin.get self.old id) (fin.get other.now id)) }
@@ -141,7 +147,7 @@ impl EntryMap {
         self.kept.merge(self.alloc, &other.kept)
     }
 
-    /// The entries whose documents' keys lie in a bucket. The only error is want of memory.
+    /// The entries whose documents' keys lie in a bucket.
     pub fn within(&self, bucket: Bucket) -> Result<EntryMap, NoMemory>
         ensures { IfOk result (λ part. part ≡ fin.retain_keys self.now (in_bucket bucket)) }
     {
@@ -151,7 +157,7 @@ impl EntryMap {
         })
     }
 
-    /// Removes the entries whose documents' keys lie in a bucket; takes no memory.
+    /// Removes the entries whose documents' keys lie in a bucket.
     pub fn remove_within(&mut self, bucket: Bucket)
         ensures { self.new ≡ fin.retain_keys self.old (λ id. not (in_bucket bucket id)) }
     {

@@ -16,7 +16,7 @@ pub fn joins_are_by_document()
         → ((id : List ℕ) → fin.get new id ≡ newer_of (fin.get m id) (fin.get other id)) → new ≡ joined m other }
 {}
 
-/// Joins another map onto a map. The only error is want of memory.
+/// Joins another map onto a map.
 pub fn join(map: &mut EntryMap, other: &EntryMap) -> Result<(), NoMemory>
     ensures ok { OnOk result (map.new ≡ joined map.old other.now) }
     ensures err { OnErr result (map.new ≡ map.old) }

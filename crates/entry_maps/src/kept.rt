@@ -1,7 +1,7 @@
 ghost use Rattle.std.specs.Prelude.{◌≡◌, ℕ, List, not, IfOk, OnOk, OnErr};
 ghost use Rattle.std.specs.Option.{option_copied};
 ghost use Rattle.std.specs.FinMap as fin;
-ghost use Rattle.entry_maps.specs.Entries.{is_newer, with_entry, newer_of, alone, in_bucket, documents_of};
+ghost use Rattle.entry_maps.specs.Entries.{is_newer, with_entry, newer_of, alone, in_bucket, documents_of, by_id};
 ghost use Rattle.entry_maps.specs.Kept.{kept_entries, IsWell};
 ghost use Rattle.entry_maps.specs.Slots.{IsStored, slots_in, entries_of, path_by};
 ghost use Rattle.entry_maps.specs.Stamps.{stamps_of};
@@ -30,7 +30,7 @@ fn if_of<'a>(entry: &'a SharedEntry, id: &DocId) -> Option<&'a SharedEntry>
     if entry.is_of(id) { Some(entry) } else { None }
 }
 
-/// Its stamp, in a list. The only error is want of memory.
+/// Its stamp, in a list.
 fn stamps(entry: &SharedEntry, alloc: Global) -> Result<Vec<Stamp>, NoMemory>
     ensures { IfOk result (λ stamps. stamps.items ≡ stamps_of (alone entry.now)) }
 {
@@ -39,7 +39,16 @@ fn stamps(entry: &SharedEntry, alloc: Global) -> Result<Vec<Stamp>, NoMemory>
     Ok(stamps)
 }
 
-/// The entry in a row. The only error is want of memory.
+/// The entry, shared, in a list.
+fn listed(entry: &SharedEntry, alloc: Global) -> Result<Vec<SharedEntry>, NoMemory>
+    ensures { IfOk result (λ list. fin.from_entries (by_id list.items) ≡ alone entry.now) }
+{
+    let mut list = Vec::with_capacity(alloc, 1)?;
+    list.push(entry.copy(alloc)?)?;
+    Ok(list)
+}
+
+/// The entry in a row.
 fn laid(entry: &SharedEntry, alloc: Global) -> Result<Stored, NoMemory>
     ensures entries { IfOk result (λ stored. entries_of (slots_in stored) ≡ alone entry.now) }
     ensures stored { IfOk result IsStored }
@@ -58,7 +67,7 @@ fn lies_in(entry: &SharedEntry, bucket: Bucket) -> bool
 }
 
 impl Kept {
-    /// No entry; takes no memory.
+    /// No entry.
     pub fn none(alloc: Global) -> Kept
         ensures entries { kept_entries result ≡ fin.empty }
         ensures well { IsWell result }
@@ -117,7 +126,7 @@ impl Kept {
         }
     }
 
-    /// The stamps of all entries, each once, the smallest first. The only error is want of memory.
+    /// The stamps of all entries, each once, the smallest first.
     pub fn stamps(&self, alloc: Global) -> Result<Vec<Stamp>, NoMemory>
         requires { IsWell self.now }
         ensures { IfOk result (λ stamps. stamps.items ≡ stamps_of (kept_entries self.now)) }
@@ -128,8 +137,17 @@ impl Kept {
         }
     }
 
-    /// Takes an entry where it is newer than what is there, and says whether it is. The only error is want of
-    /// memory.
+    /// All entries, shared.
+    pub fn listed(&self, alloc: Global) -> Result<Vec<SharedEntry>, NoMemory>
+        ensures { IfOk result (λ list. fin.from_entries (by_id list.items) ≡ kept_entries self.now) }
+    {
+        match self {
+            Kept::One(entry) => listed(entry, alloc),
+            Kept::Rows(stored) => stored.listed(alloc),
+        }
+    }
+
+    /// Takes an entry where it is newer than what is there, and says whether it is.
     pub fn put(&mut self, alloc: Global, path: u64, entry: SharedEntry) -> Result<bool, NoMemory>
         requires well { IsWell self.old }
         requires path { path ≡ path_by entry.id }
@@ -149,7 +167,7 @@ impl Kept {
         }
     }
 
-    /// Takes the entries of rows that are newer. The only error is want of memory.
+    /// Takes the entries of rows that are newer.
     fn merge_rows(&mut self, alloc: Global, others: &Stored) -> Result<(), NoMemory>
         requires well { IsWell self.old }
         requires other { IsStored others.now }
@@ -169,7 +187,7 @@ impl Kept {
         }
     }
 
-    /// Takes another entry where it is newer than what is there. The only error is want of memory.
+    /// Takes another entry where it is newer than what is there.
     fn merge_one(&mut self, alloc: Global, other: &SharedEntry) -> Result<(), NoMemory>
         requires { IsWell self.old }
         ensures ok { OnOk result ((id : List ℕ) → fin.get (kept_entries self.new) id
@@ -182,7 +200,7 @@ impl Kept {
         Ok(())
     }
 
-    /// Takes the entries of another map that are newer. The only error is want of memory.
+    /// Takes the entries of another map that are newer.
     pub fn merge(&mut self, alloc: Global, other: &Kept) -> Result<(), NoMemory>
         requires well { IsWell self.old }
         requires other { IsWell other.now }
@@ -197,7 +215,7 @@ impl Kept {
         }
     }
 
-    /// The entries whose keys lie in a bucket. The only error is want of memory.
+    /// The entries whose keys lie in a bucket.
     pub fn within(&self, alloc: Global, bucket: Bucket) -> Result<Kept, NoMemory>
         requires { IsWell self.now }
         ensures entries { IfOk result (λ part. kept_entries part
@@ -233,7 +251,7 @@ impl Kept {
         }
     }
 
-    /// A copy that shares all entries. The only error is want of memory.
+    /// A copy that shares all entries.
     pub fn shared(&self, alloc: Global) -> Result<Kept, NoMemory>
         requires { IsWell self.now }
         ensures entries { IfOk result (λ copy. kept_entries copy ≡ kept_entries self.now) }

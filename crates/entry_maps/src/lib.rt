@@ -16,6 +16,7 @@
 //! map.merge(&other)?;                 // of each document the newer entry
 //! join(&mut union, &answer)?;         // union is now the join of both
 //! map.stamps()?                       // the stamps of all entries, the smallest first
+//! map.listed()?                       // all entries, shared
 //! map.copy(alloc)?                    // the same entries, shared
 //! EntryMap::of_one(alloc, entry)      // the map of one entry; takes no memory
 //! ```

@@ -102,7 +102,7 @@ fn row_length(slots: usize) -> usize
 }
 
 impl Stored {
-    /// The entries of both maps, of each document the newer. The only error is want of memory.
+    /// The entries of both maps, of each document the newer.
     fn merged(&self, alloc: Global, other: &Stored) -> Result<Stored, NoMemory>
         requires own { IsCounted self.now }
         requires other { IsCounted other.now }
@@ -124,7 +124,7 @@ impl Stored {
         Ok(both)
     }
 
-    /// Puts other slots in the place of those of some rows. The only error is want of memory.
+    /// Puts other slots in the place of those of some rows.
     fn replace_rows(&mut self, rows: Rows, part: &Stored, others: Stored) -> Result<(), NoMemory>
         requires counted { IsCounted self.old }
         requires rows { AreRows self.old.list rows }
@@ -178,7 +178,7 @@ impl Stored {
     }
 
     /// Takes the entries of another map that are newer; rows that lie apart from the other map's entries stay
-    /// as they are, and all where no entry is newer. The only error is want of memory.
+    /// as they are, and all where no entry is newer.
     pub fn merge(&mut self, alloc: Global, other: &Stored) -> Result<(), NoMemory>
         requires stored { IsStored self.old }
         requires other { IsStored other.now }

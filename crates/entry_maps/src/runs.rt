@@ -47,7 +47,7 @@ impl Stored {
         }
     }
 
-    /// Copies of the entries whose keys lie in a bucket. The only error is want of memory.
+    /// Copies of the entries whose keys lie in a bucket.
     pub fn within(&self, alloc: Global, bucket: Bucket) -> Result<Stored, NoMemory>
         requires stored { IsStored self.now }
         ensures stored { IfOk result IsStored }

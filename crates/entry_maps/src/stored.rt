@@ -37,7 +37,7 @@ fn counted(count: usize, before: bool, after: bool) -> usize
 }
 
 impl Stored {
-    /// No slot; takes no memory.
+    /// No slot.
     pub fn new(alloc: Global) -> Stored
         ensures slots { slots_in result ≡ [] }
         ensures counted { IsCounted result }
@@ -79,7 +79,7 @@ impl Stored {
         }
     }
 
-    /// Adds a slot behind all, in rows of a length. The only error is want of memory.
+    /// Adds a slot behind all, in rows of a length.
     pub fn append(&mut self, alloc: Global, long: usize, slot: Slot) -> Result<(), NoMemory>
         requires { IsCounted self.old }
         ensures ok { OnOk result (slots_in self.new ≡ slots_in self.old ++ slot ∷ []) }
@@ -111,7 +111,7 @@ impl Stored {
         self.documents = counted(self.documents, before, after);
     }
 
-    /// Adds the slot of a document that has none. The only error is want of memory.
+    /// Adds the slot of a document that has none.
     fn add(&mut self, alloc: Global, spot: Spot, slot: Slot) -> Result<(), NoMemory>
         requires stored { IsStored self.old }
         requires placed { IsPlaced slot }
@@ -143,7 +143,7 @@ impl Stored {
         there.stamp.is_before(entry.entry().stamp)
     }
 
-    /// Takes an entry in the place of the document's one where it is newer, and says whether it is; takes no memory.
+    /// Takes an entry in the place of the document's one where it is newer, and says whether it is.
     fn renew(&mut self, seat: Spot, path: u64, entry: SharedEntry) -> bool
         requires stored { IsStored self.old }
         requires path { path ≡ path_by entry.id }
@@ -160,8 +160,7 @@ impl Stored {
         true
     }
 
-    /// Takes an entry where it is newer than what is there, and says whether it is. The only error
-    /// is want of memory.
+    /// Takes an entry where it is newer than what is there, and says whether it is.
     pub fn put(&mut self, alloc: Global, path: u64, entry: SharedEntry) -> Result<bool, NoMemory>
         requires stored { IsStored self.old }
         requires path { path ≡ path_by entry.id }

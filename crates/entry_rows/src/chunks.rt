@@ -31,7 +31,7 @@ fn begins_below(row: &[Slot], path: u64, id: &str) -> bool
 }
 
 impl Chunks {
-    /// No slot; takes no memory.
+    /// No slot.
     pub fn new(alloc: Global) -> Chunks
         ensures slots { flat result ≡ [] }
         ensures some { AreSome result }

@@ -6,7 +6,7 @@ use crate::slots::Slot;
 use std::alloc::Global;
 use value_lists::{NoMemory, TryCopy};
 
-/// Copies of slots. The only error is want of memory.
+/// Copies of slots.
 pub fn slots_copied(alloc: Global, slots: &[Slot]) -> Result<Vec<Slot>, NoMemory>
     ensures { IfOk result (λ copies. copies.items ≡ slots.now) }
 {

@@ -81,7 +81,7 @@ impl Chunks {
         self.rows.retain(|row: &Vec<Slot>| !row.is_empty());
     }
 
-    /// Takes out the slots from one seat to another; takes no memory.
+    /// Takes out the slots from one seat to another.
     pub fn cut(&mut self, from: Spot, to: Spot)
         requires some { AreSome self.old }
         requires from { IsSeat self.old from }

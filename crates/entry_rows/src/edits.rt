@@ -92,8 +92,7 @@ impl Chunks {
         Ok(())
     }
 
-    /// Adds a slot behind all, in a new row where the last one has this length. The only error is want of
-    /// memory.
+    /// Adds a slot behind all, in a new row where the last one has this length.
     pub fn append(&mut self, alloc: Global, long: usize, slot: Slot) -> Result<(), NoMemory>
         requires { AreSome self.old }
         ensures ok { OnOk result (flat self.new ≡ flat self.old ++ slot ∷ []) }

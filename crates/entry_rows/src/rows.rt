@@ -70,7 +70,7 @@ impl Chunks {
         }
     }
 
-    /// Adds a row behind all. The only error is want of memory.
+    /// Adds a row behind all.
     pub fn append_row(&mut self, row: Vec<Slot>) -> Result<(), NoMemory>
         requires old { AreSome self.old }
         requires row { 0 < length row.items }
@@ -81,8 +81,7 @@ impl Chunks {
         Ok(())
     }
 
-    /// Puts others in the place of some rows; those behind are moved, and no slot is copied. The only error
-    /// is want of memory.
+    /// Puts others in the place of some rows; those behind are moved, and no slot is copied.
     pub fn replace_rows(&mut self, rows: Rows, others: Chunks) -> Result<(), NoMemory>
         requires some { AreSome self.old }
         requires rows { AreRows self.old rows }

@@ -1,6 +1,7 @@
 ghost use Rattle.std.specs.Prelude.{◌≡◌, ◌≤◌, true, false, length, IfOk};
 ghost use Rattle.std.specs.List.{AllWithin};
 ghost use Rattle.std.specs.List.Sorted.{IsPartitionedBy};
+ghost use Rattle.documents.specs.EntryCodes.{id_cmp};
 ghost use Rattle.entry_rows.specs.Order.{mark_cmp, mark, is_below, is_low};
 
 use documents::shared_entry::SharedEntry;
@@ -24,13 +25,24 @@ impl TryCopy for Slot {
     }
 }
 
+/// The order of two ids. Of slots with one path the ids are nearly always the same, and that is seen faster than
+/// which of two stands first: as bytes, which are compared without an order.
+fn id_order(one: &str, other: &str) -> Ordering
+    ensures { result ≡ id_cmp one.now other.now }
+{
+    if one.as_bytes() == other.as_bytes() {
+        return Ordering::Equal;
+    }
+    one.cmp(other)
+}
+
 impl Slot {
     /// The order of the slot and a path with an id.
     pub fn order(&self, path: u64, id: &str) -> Ordering
         ensures { result ≡ mark_cmp (mark self.now) (path, id.now) }
     {
         match self.path.cmp(&path) {
-            Ordering::Equal => self.entry.entry().id.text().cmp(id),
+            Ordering::Equal => id_order(self.entry.entry().id.text(), id),
             order => order,
         }
     }

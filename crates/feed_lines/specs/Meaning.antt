@@ -13,7 +13,7 @@ use Rattle.json_documents.specs.Updates.{changes_in}
 use Rattle.conditions.specs.Formulas.{Formula}
 use Rattle.doc_selection.specs.Saying.{selection_in}
 use Rattle.doc_selection.specs.declared.terms.Term.{Term}
-use Rattle.io_ends.specs.declared.sizes.TheConstants.{LONGEST}
+use Rattle.io_ends.specs.Reading.{longest_line}
 use Rattle.messages.specs.declared.operation.Operation.{Operation}
 use Rattle.messages.specs.declared.operation.OpKind.{OpKind}
 use Rattle.messages.specs.declared.operation.OpKind.TheVariants as kind
@@ -36,7 +36,7 @@ abbrev pub is_blank : ℕ → Bool
 is_blank b = b == 32 || b == 9 || b == 13
 
 unfoldable pub is_blank_line : List ℕ → Bool
-is_blank_line bytes = nat_le (length bytes) LONGEST && list_all is_blank bytes
+is_blank_line bytes = nat_le (length bytes) longest_line && list_all is_blank bytes
 
 -- what a verb asks of a document
 abbrev pub kind_in : Types → Verb → List ℕ → Option Data → OpKind

@@ -223,8 +223,7 @@ fn few_fates(alloc: Global, items: &[Value]) -> Result<Option<FateList>, NoMemor
     each_fate(alloc, items)
 }
 
-/// The fates that a value says; none where it is no list of at most 1,000 fates. The only error is want of
-/// memory.
+/// The fates that a value says; none where it is no list of at most 1,000 fates.
 pub fn fates_of(alloc: Global, value: &Value) -> Result<Option<FateList>, NoMemory>
     ensures { IfOk result (λ fates. fates ≡ fates_of (view value.now)) }
 {

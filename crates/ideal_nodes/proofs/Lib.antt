@@ -1,5 +1,11 @@
 -- Shared: other crates cite these.
+pub mod Orders
+pub mod Places
 pub mod Firsts
 pub mod Picks
-pub mod Unique
+pub mod Listing
 pub mod StateMarks
+-- Of this crate alone.
+mod Counts
+mod Unique
+mod Groups

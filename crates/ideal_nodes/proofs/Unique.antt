@@ -1,37 +1,28 @@
 -- A ranked list is told by its nodes.
 use Rattle.std.proofs.Common.{◌≡◌, ◌≢◌, ◌⊎◌, ◌↔◌, ◌==◌, not, ℕ, Bool, true, false, cond, List, [], ◌∷◌, inl, inr, refl, sym, ap₂, ◌∙◌, subst, arith, filter}
 use Rattle.std.proofs.lemmas.Bool.Decides.{nat_tests}
-use Rattle.ideal_nodes.specs.Scores.{Ranks, IsRanked, Has}
+use Rattle.ideal_nodes.specs.Scores.{IsRanked, Has}
+use Rattle.ideal_nodes.proofs.Orders.{IsOrder}
 
-not_itself : (score : ℕ → ℕ) (n : ℕ) → Ranks score n n → ⊥
-not_itself score n (inl lower) = omega (arith, lower)
-not_itself score n (inr tie) = omega (arith, tie.1)
+heads : (before : ℕ → ℕ → Type 0) (o : IsOrder before) (n m : ℕ) (ns ms : List ℕ) → IsRanked before (n ∷ ns) → IsRanked before (m ∷ ms) → (n ≡ m) ⊎ Has n ms → (m ≡ n) ⊎ Has m ns → n ≡ m
+heads before o n m ns ms p q (inl same) other = same
+heads before o n m ns ms p q (inr later) (inl same) = sym same
+heads before o n m ns ms p q (inr later) (inr after) = absurd (o.once n m (p.0 m after) (q.0 n later))
 
-not_both : (score : ℕ → ℕ) (a b : ℕ) → Ranks score a b → Ranks score b a → ⊥
-not_both score a b (inl p) (inl q) = omega (arith, p, q)
-not_both score a b (inl p) (inr q) = omega (arith, p, q.0)
-not_both score a b (inr p) (inl q) = omega (arith, p.0, q)
-not_both score a b (inr p) (inr q) = omega (arith, p.1, q.1)
-
-heads : (score : ℕ → ℕ) (n m : ℕ) (ns ms : List ℕ) → IsRanked score (n ∷ ns) → IsRanked score (m ∷ ms) → (n ≡ m) ⊎ Has n ms → (m ≡ n) ⊎ Has m ns → n ≡ m
-heads score n m ns ms p q (inl same) other = same
-heads score n m ns ms p q (inr later) (inl same) = sym same
-heads score n m ns ms p q (inr later) (inr after) = absurd (not_both score n m (p.0 m after) (q.0 n later))
-
-behind : (score : ℕ → ℕ) (n m : ℕ) (ns ms : List ℕ) → IsRanked score (n ∷ ns) → n ≡ m → ((x : ℕ) → Has x (n ∷ ns) → Has x (m ∷ ms)) → (x : ℕ) → Has x ns → Has x ms
-behind score n m ns ms p same all x has = elim (all x (inr has)) [
-  | inl here ↦ absurd (not_itself score n (subst (Ranks score n) (here ∙ sym same) (p.0 x has)))
+behind : (before : ℕ → ℕ → Type 0) (o : IsOrder before) (n m : ℕ) (ns ms : List ℕ) → IsRanked before (n ∷ ns) → n ≡ m → ((x : ℕ) → Has x (n ∷ ns) → Has x (m ∷ ms)) → (x : ℕ) → Has x ns → Has x ms
+behind before o n m ns ms p same all x has = elim (all x (inr has)) [
+  | inl here ↦ absurd (o.never n (subst (before n) (here ∙ sym same) (p.0 x has)))
   | inr later ↦ later
 ]
 
-pub ranked_unique : (score : ℕ → ℕ) (ns ms : List ℕ) → IsRanked score ns → IsRanked score ms → ((n : ℕ) → Has n ns ↔ Has n ms) → ns ≡ ms
-ranked_unique score [] [] p q all = refl
-ranked_unique score [] (m ∷ ms) p q all = absurd ((all m).1 (inl refl))
-ranked_unique score (n ∷ ns) [] p q all = absurd ((all n).0 (inl refl))
-ranked_unique score (n ∷ ns) (m ∷ ms) p q all =
-    let same = heads score n m ns ms p q ((all n).0 (inl refl)) ((all m).1 (inl refl)) in
-    ap₂ (λ a b. a ∷ b) same (ranked_unique score ns ms p.1 q.1 (λ x.
-    (behind score n m ns ms p same (λ y. (all y).0) x, behind score m n ms ns q (sym same) (λ y. (all y).1) x)))
+pub ranked_unique : (before : ℕ → ℕ → Type 0) (o : IsOrder before) (ns ms : List ℕ) → IsRanked before ns → IsRanked before ms → ((n : ℕ) → Has n ns ↔ Has n ms) → ns ≡ ms
+ranked_unique before o [] [] p q all = refl
+ranked_unique before o [] (m ∷ ms) p q all = absurd ((all m).1 (inl refl))
+ranked_unique before o (n ∷ ns) [] p q all = absurd ((all n).0 (inl refl))
+ranked_unique before o (n ∷ ns) (m ∷ ms) p q all =
+    let same = heads before o n m ns ms p q ((all n).0 (inl refl)) ((all m).1 (inl refl)) in
+    ap₂ (λ a b. a ∷ b) same (ranked_unique before o ns ms p.1 q.1 (λ x.
+    (behind before o n m ns ms p same (λ y. (all y).0) x, behind before o m n ms ns q (sym same) (λ y. (all y).1) x)))
 
 -- ---- without one node
 
@@ -67,14 +58,14 @@ of_kept : (gone : ℕ) (ns : List ℕ) (n : ℕ) → Has n (kept gone ns) → Ha
 of_kept gone [] n has = elim has [ ]
 of_kept gone (m ∷ ns) n has = of_front (m == gone) m gone n ns (kept gone ns) refl (of_kept gone ns n) has
 
-ranked_front : (score : ℕ → ℕ) (t : Bool) (m : ℕ) (rest : List ℕ) → ((x : ℕ) → Has x rest → Ranks score m x) → IsRanked score rest → IsRanked score (front t m rest)
-ranked_front score true m rest above ranked = ranked
-ranked_front score false m rest above ranked = (above, ranked)
+ranked_front : (before : ℕ → ℕ → Type 0) (t : Bool) (m : ℕ) (rest : List ℕ) → ((x : ℕ) → Has x rest → before m x) → IsRanked before rest → IsRanked before (front t m rest)
+ranked_front before true m rest above ranked = ranked
+ranked_front before false m rest above ranked = (above, ranked)
 
-ranked_kept : (score : ℕ → ℕ) (gone : ℕ) (ns : List ℕ) → IsRanked score ns → IsRanked score (kept gone ns)
-ranked_kept score gone [] ranked = ranked
-ranked_kept score gone (m ∷ ns) ranked = ranked_front score (m == gone) m (kept gone ns) (λ x has. ranked.0 x (of_kept gone ns x has).0) (ranked_kept score gone ns ranked.1)
+ranked_kept : (before : ℕ → ℕ → Type 0) (gone : ℕ) (ns : List ℕ) → IsRanked before ns → IsRanked before (kept gone ns)
+ranked_kept before gone [] ranked = ranked
+ranked_kept before gone (m ∷ ns) ranked = ranked_front before (m == gone) m (kept gone ns) (λ x has. ranked.0 x (of_kept gone ns x has).0) (ranked_kept before gone ns ranked.1)
 
-pub ranked_without : (score : ℕ → ℕ) (ns ms : List ℕ) (gone : ℕ) → IsRanked score ns → IsRanked score ms → ((n : ℕ) → Has n ms ↔ (Has n ns × (n ≢ gone))) → ms ≡ filter (λ n. not (n == gone)) ns
-ranked_without score ns ms gone p q same = ranked_unique score ms (kept gone ns) q (ranked_kept score gone ns p) (λ n.
+pub ranked_without : (before : ℕ → ℕ → Type 0) (o : IsOrder before) (ns ms : List ℕ) (gone : ℕ) → IsRanked before ns → IsRanked before ms → ((n : ℕ) → Has n ms ↔ (Has n ns × (n ≢ gone))) → ms ≡ filter (λ n. not (n == gone)) ns
+ranked_without before o ns ms gone p q same = ranked_unique before o ms (kept gone ns) q (ranked_kept before gone ns p) (λ n.
     (λ has. has_kept gone ns n ((same n).0 has).0 ((same n).0 has).1, λ has. (same n).1 (of_kept gone ns n has)))

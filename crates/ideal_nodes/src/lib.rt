@@ -2,8 +2,9 @@
 //!
 //! Each node has a score for a bucket, from the MD5 of both (RFC 1321), as Vespa's distribution
 //! orders nodes by pseudo-random numbers. A contract speaks of the score (`score_of`), of which of two
-//! nodes ranks first (`Ranks`: the greater score, ties by the lower number), and of the list that has
-//! each member of a set once, in that order (`IsRanked`). No call takes memory.
+//! nodes ranks first (`Ranks`: the greater score, ties by the lower number), of a node's rank in its group
+//! (`rank_of`), and of the list that has each node that is up once, by rank and then by score
+//! (`IsIdeal`). So the best of each group comes before the second of any. No call takes memory.
 //!
 //! ```text
 //! ideal(bucket, &state).at(0)    // the node that is to have the bucket's first replica
@@ -18,6 +19,6 @@ pub mod placement;
 mod ranks;
 pub mod scores;
 
-pub use lists::{NodeList, ideal_among};
+pub use lists::NodeList;
 pub use owners::owner_among;
 pub use placement::{ideal, owner};

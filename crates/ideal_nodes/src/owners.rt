@@ -12,5 +12,6 @@ pub fn owner_among(lane: Bucket, distributors: NodeSet) -> Option<u8>
     ensures owner { IfSome result (IsFirst (score_of (codes "owner") lane) distributors) }
     ensures none { IfNone result ((node : ℕ) → has_node distributors node ≡ false) }
 {
-    first_of(&scores_of(b"owner", lane, distributors), distributors)
+    let scores = scores_of(b"owner", lane, distributors);
+    first_of(&[0; 32], &scores, distributors)
 }

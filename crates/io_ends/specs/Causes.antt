@@ -1,5 +1,5 @@
 -- What ties a fault to the outside.
-use Rattle.std.specs.Prelude.{◌≡◌, ◌⊎◌, ℕ, ◌<◌, List, ◌++◌, length, IfOk, Option, Some, Result}
+use Rattle.std.specs.Prelude.{◌≡◌, ◌≢◌, ◌⊎◌, ℕ, ◌<◌, List, [], ◌++◌, length, IfOk, Option, Some, Result}
 use Rattle.std.specs.Io.KnownBytes.{Appends}
 
 -- a count of faults rose; where it has a last value it may stand there
@@ -10,7 +10,7 @@ HasRisen last old new = (old < new) ⊎ ((last ≡ Some old) × (new ≡ old))
 abbrev pub TakesSome : {E : Type 0} → List ℕ → Result ℕ E → Type 0
 TakesSome piece r = IfOk r (λ n. 0 < length piece → 0 < n)
 
--- known bytes grew by a front of these bytes
+-- known bytes grew by a front of these bytes, but not by all of them
 abbrev pub AppendsFront : Option (List ℕ) → Option (List ℕ) → List ℕ → Type 0
 AppendsFront old new bytes =
-    (front : List ℕ) × ((rest : List ℕ) × ((bytes ≡ front ++ rest) × Appends old new front))
+    (front : List ℕ) × ((rest : List ℕ) × ((bytes ≡ front ++ rest) × ((rest ≢ []) × Appends old new front)))

@@ -5,7 +5,11 @@ use Rattle.io_ends.specs.declared.next.Next.{Next}
 use Rattle.io_ends.specs.declared.next.Next.TheVariants as next
 use Rattle.io_ends.specs.declared.next.LimitKind.{LimitKind}
 use Rattle.io_ends.specs.declared.next.LimitKind.TheVariants as limit
-use Rattle.io_ends.specs.declared.sizes.TheConstants.{LONGEST, PIECE}
+use Rattle.io_ends.specs.declared.sizes.TheConstants.{PIECE}
+
+-- the most bytes of a line, without its line feed
+abbrev pub longest_line : ℕ
+longest_line = 65536
 
 -- the bytes that were taken from the source and not yet given, without those of the current line that
 -- were passed over; how many those are; how many lines and bytes were given; and the limits
@@ -52,12 +56,20 @@ pub record Stays (old new : Reading) : Type 0 where
   pub max_lines : new.max_lines ≡ old.max_lines
   pub max_bytes : new.max_bytes ≡ old.max_bytes
 
+-- where a limit is answered, whatever the source tells: that on lines where as many were given as may be, and that on
+-- bytes before; the others aren't the reader's
+abbrev pub IsAtLimit : LimitKind → Reading → Type 0
+IsAtLimit limit.Lines r = r.lines ≡ r.max_lines
+IsAtLimit limit.Bytes r = r.lines < r.max_lines
+IsAtLimit limit.States r = ⊥
+IsAtLimit limit.Maintains r = ⊥
+
 -- what each answer says of the numbers, whatever the source tells
 abbrev pub Counts : Reading → Reading → Next → Type 0
 Counts old new (next.Line number) = (number ≡ old.lines + 1) × (Grows old new 1 × (new.lines ≤ new.max_lines))
 Counts old new (next.TooLong number) = (number ≡ old.lines + 1) × (Grows old new 1 × (new.lines ≤ new.max_lines))
 Counts old new next.End = Stays old new
-Counts old new (next.Limit which) = Stays old new
+Counts old new (next.Limit which) = Stays old new × IsAtLimit which old
 Counts old new next.ReadFault = Stays old new
 Counts old new next.NoMemory = Stays old new
 
@@ -90,9 +102,9 @@ pub record IsWithin (text : List ℕ) (r : Reading) : Type 0 where
 -- what each answer says of the text in which the reader stood; `line` is what was handed out
 abbrev pub Tells : List ℕ → Reading → Next → List ℕ → Type 0
 Tells text old (next.Line number) line =
-    (slice_get (lines_of text) old.lines ≡ Some line) × ((length line ≤ LONGEST) × IsWithin text old)
+    (slice_get (lines_of text) old.lines ≡ Some line) × ((length line ≤ longest_line) × IsWithin text old)
 Tells text old (next.TooLong number) line =
-    ((bytes : List ℕ) × ((slice_get (lines_of text) old.lines ≡ Some bytes) × (LONGEST < length bytes)))
+    ((bytes : List ℕ) × ((slice_get (lines_of text) old.lines ≡ Some bytes) × (longest_line < length bytes)))
     × IsWithin text old
 Tells text old next.End line = length (lines_of text) ≡ old.lines
 Tells text old (next.Limit which) line = Reaches text old which

@@ -44,8 +44,7 @@ impl Model for LineReader {
 
 impl LineReader {
     /// A reader that has given no line, of at most `max_lines` lines and `max_bytes` bytes, where a
-    /// line feed counts as a byte of its line. It takes its buffer; the only error is want of
-    /// memory.
+    /// line feed counts as a byte of its line. It takes its buffer.
     pub fn new(alloc: Global, max_bytes: u64, max_lines: u32) -> Result<LineReader, NoMemory>
         ensures { IfOk result
             (λ r. r ≡ record {

@@ -42,7 +42,7 @@ impl Model for MemorySource {
 }
 
 impl MemorySource {
-    /// A source of these bytes whose calls of these numbers, from 0, fail; takes no memory.
+    /// A source of these bytes whose calls of these numbers, from 0, fail.
     pub fn new(bytes: Vec<u8>, failing: Vec<u64>) -> MemorySource
         ensures { result ≡ record { left = bytes.items; failing = failing.items; calls = 0; faults = 0 } }
     {

@@ -10,7 +10,7 @@ use thiserror::Error;
 #[error("the sink failed")]
 pub struct WriteFault;
 
-/// Writes all bytes; after a fault a front of them was written. Takes no memory.
+/// Writes all bytes; after a fault a front of them was written.
 pub fn write_all<K: Sink>(sink: &mut K, bytes: &[u8]) -> Result<(), WriteFault>
     ensures ok { OnOk result (Appends (K.written sink.old) (K.written sink.new) bytes.now) }
     ensures err { OnErr result (AppendsFront (K.written sink.old) (K.written sink.new) bytes.now) }

@@ -1,8 +1,8 @@
 -- Small facts of the life of a lane.
 use Rattle.std.proofs.Common.{◌≡◌, ◌↔◌, ℕ, ◌^◌, ◌<◌, ◌≤◌, Bool, true, false, cond, List, [], ◌∷◌, Option, Some, None, refl, sym, ap, ◌∙◌, subst, arith, inl, inr, ◌⊎◌, eqb, zero, suc, slice_index_or, ltb, ◌&&◌}
-use Rattle.std.proofs.lemmas.Bool.{eqb-true, cases_lt}
+use Rattle.std.proofs.lemmas.Bool.{eqb-true}
 use Rattle.std.proofs.lemmas.Nat.Bits.{bit_at_ones_above}
-use Rattle.std.specs.Prelude.{take, codes, Contains, is_some}
+use Rattle.std.specs.Prelude.{take, Contains, is_some}
 use Rattle.std.specs.Int.{bit_at}
 use Rattle.bucket_ids.specs.Buckets.{IsBucket}
 use Rattle.node_sets.specs.Members.{has_node}
@@ -10,8 +10,9 @@ use Rattle.cluster_states.specs.declared.cluster_state.ClusterState.{ClusterStat
 use Rattle.cluster_states.specs.declared.marks.Mark.TheVariants.{Up, Down, Retired}
 use Rattle.cluster_states.specs.MarkTests.{is_up}
 use Rattle.cluster_states.specs.Publishing.{serves}
-use Rattle.ideal_nodes.specs.Scores.{score_of, Ranks, Has}
-use Rattle.ideal_nodes.specs.Placement.{IsIdeal}
+use Rattle.ideal_nodes.specs.Scores.{Has}
+use Rattle.ideal_nodes.specs.Placement.{Precedes, IsIdeal}
+use Rattle.ideal_nodes.proofs.Orders.{precedes_are_order}
 use Rattle.lane_journals.specs.Sets.{count_below, count}
 use Rattle.lane_journals.specs.Stamps.{newer}
 use Rattle.lane_journals.specs.Buckets.{Id, same_id, key_of, Bucket, contains, same_bucket, first_child, second_child}
@@ -131,35 +132,24 @@ up_one (suc zero) h = inr refl
 up_one (suc (suc n)) h = cc
 
 both_ideal : (b : Bucket) → BothIdeal b
-both_ideal b = elim (cases_lt (score 0) (score 1)) [
+both_ideal b = elim ((precedes_are_order b state_one).either 1 0 (λ e. absurd (omega (arith, e)))) [
   | inl less ↦ record {
     ideal = 1 ∷ 0 ∷ [];
-    is_ideal = record { ranked = ((λ m h. only m h (λ n. Ranks score 1 n) (inl less)), ((λ m h. absurd h), tt)); members = λ n. ((λ h. turned n (up_one n h)), (λ h. listed n (turn n h))) };
+    is_ideal = record { ranked = ((λ m h. only 0 m h less), ((λ m h. absurd h), tt)); members = λ n. ((λ h. turned n (up_one n h)), (λ h. listed n (turn n h))) };
     first = inr (inl refl);
     second = inl refl;
   }
   | inr more ↦ record {
     ideal = 0 ∷ 1 ∷ [];
-    is_ideal = record { ranked = ((λ m h. only' m h (ranks (cases_lt (score 1) (score 0)) more)), ((λ m h. absurd h), tt)); members = λ n. ((λ h. straight n (up_one n h)), (λ h. listed n (turn' n h))) };
+    is_ideal = record { ranked = ((λ m h. only 1 m h more), ((λ m h. absurd h), tt)); members = λ n. ((λ h. straight n (up_one n h)), (λ h. listed n (turn' n h))) };
     first = inl refl;
     second = inr (inl refl);
   }
 ]
   where
-    score : ℕ → ℕ
-    score = score_of (codes "ideal") b
-
-    only : (m : ℕ) → Has m (0 ∷ []) → (Q : ℕ → Type 0) → Q 0 → Q m
-    only m (inl is) Q q = subst Q (sym is) q
-    only m (inr h) Q q = absurd h
-
-    only' : (m : ℕ) → Has m (1 ∷ []) → Ranks (score_of (codes "ideal") b) 0 1 → Ranks (score_of (codes "ideal") b) 0 m
-    only' m (inl is) q = subst (λ (i : ℕ). Ranks (score_of (codes "ideal") b) 0 i) (sym is) q
-    only' m (inr h) q = absurd h
-
-    ranks : (score_of (codes "ideal") b 1 < score_of (codes "ideal") b 0) ⊎ (score_of (codes "ideal") b 0 ≤ score_of (codes "ideal") b 1) → score_of (codes "ideal") b 1 ≤ score_of (codes "ideal") b 0 → Ranks (score_of (codes "ideal") b) 0 1
-    ranks (inl less) more = inl less
-    ranks (inr same) more = inr ((omega arith), omega arith)
+    only : {k : ℕ} (n m : ℕ) → Has m (n ∷ []) → Precedes b state_one k n → Precedes b state_one k m
+    only {k} n m (inl is) q = subst (λ (i : ℕ). Precedes b state_one k i) (sym is) q
+    only n m (inr h) q = absurd h
 
     turned : (n : ℕ) → (n ≡ 0) ⊎ (n ≡ 1) → Has n (1 ∷ 0 ∷ [])
     turned n (inl is) = inr (inl is)

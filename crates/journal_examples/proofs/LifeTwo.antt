@@ -461,7 +461,7 @@ module _ (id : Id) (inside : contains lane (key_of id) ≡ true) where
   unfolding same_stamp same_bucket
   placed_b25 = (owns2 b24 refl, (record { number = 18; message = (record { version = 2; receiver = 0; body = (plain.Ready lane); round = 0 }); content = (content b22 ([])); names = (names ([])); was_sent = refl; receiver = refl; version = refl; body = refl; reply = refl; back = refl }, first_member b24 refl))
 
-  live_b25 : IsLegal setting b25
+  pub live_b25 : IsLegal setting b25
   live_b25 = (live_b24, record { noted = tt; permitted = may_b25; placed = placed_b25; ended = tt })
 
   row_t2 : IsRow 2 lane (history b25)

@@ -9,7 +9,8 @@ use Rattle.lane_journals.specs.Facts.{AnsweredApply, IsRow}
 use Rattle.lane_journals.specs.Legal.{MayAck, Keeper, MayShow, MayUnite, IsIdleRow, Permits}
 use Rattle.lane_journals.specs.States.{state_of, LegalByStates}
 use Rattle.lane_journals.specs.Meanings.{nodes, content, names, meaning, history}
-use Rattle.journal_examples.specs.Lives.{asked_one, opened_one, united_one, life_one, lane, setting, stamp_one}
+use Rattle.lane_journals.specs.KeptJournals.{IsLegal}
+use Rattle.journal_examples.specs.Lives.{asked_one, opened_one, united_one, life_one, activated, lane, setting, stamp_one}
 use Rattle.messages.specs.declared.noted.NotedBody.TheVariants as body
 use Rattle.messages.specs.declared.noted.NotedReply.TheVariants as reply
 use Rattle.messages.specs.declared.decision.Decision.TheVariants as choice
@@ -18,11 +19,12 @@ use Rattle.lane_journals.specs.declared.event.LaneEvent.{LaneEvent}
 use Rattle.lane_journals.specs.declared.event.LaneEvent.TheVariants as event
 use Rattle.lane_journals.proofs.Order.{Le_none}
 use Rattle.journal_examples.proofs.Walking.{each-sent, EachSent, NumbersBelow, numbers, NotOf, unapplied, GoesTo, applied-to, NotLook, unasked, NotStore, unstored, LinesDone, line-done, idle-done, EachReply, NotNamed, unnamed-yet}
-use Rattle.journal_examples.proofs.LifeFacts.{some_same, same_read, same_test, two_1, both_two, has_both_0, has_both_1, enough_3, only_0, is_0, nothing_joined}
-use Rattle.journal_examples.specs.WrongSteps.{IsRefused, opened_early, state_small, incomplete_read, activated_twice, acked_without_active, deleting_keeper}
+use Rattle.journal_examples.proofs.LifeFacts.{owns1, some_same, same_read, same_test, two_1, both_two, has_both_0, has_both_1, enough_3, only_0, is_0, nothing_joined}
+use Rattle.journal_examples.specs.WrongSteps.{IsRefused, IsRefusedByStates, opened_early, state_small, incomplete_read, acked_without_active, deleting_keeper}
 use Rattle.lane_journals.proofs.Counts.{AtLeast-some}
 use Rattle.journal_examples.proofs.LifeOne.{live_a5, live_a9, live_a23}
 use Rattle.journal_examples.proofs.LifeWritten.{live_a45}
+use Rattle.journal_examples.proofs.LifeTwo.{live_b25}
 use Rattle.lane_journals.proofs.Meant.{by-states}
 
 module _ (id : Id) (inside : contains lane (key_of id) ≡ true) where
@@ -31,24 +33,21 @@ module _ (id : Id) (inside : contains lane (key_of id) ≡ true) where
   early_sends : EachSent (λ m. eqb m.receiver 1 ≡ false) (history asked_one)
   early_sends = (refl, tt)
 
-  pub early : IsRefused 1 asked_one opened_early
+  pub early : IsRefused asked_one opened_early
   early = (
-    by-states setting asked_one (live_a5 id inside),
-    λ l. (let a = (l.1).all 1 refl in
+    live_a5 id inside,
+    λ l. (let a = ((l.1).permitted).all 1 refl in
         let x = each-sent (λ m. eqb m.receiver 1 ≡ false) (history asked_one) early_sends a.number a.message a.was_sent in
         let y = eq-eqb (a.message).receiver 1 a.receiver in absurd (let z : true ≡ false = sym y ∙ x in cc)),
   )
 
   -- ---- a state that leaves out too many
 
-  pub leaving : IsRefused 1 (life_one id) (event.Published state_small)
+  pub leaving : IsRefused (life_one id) (event.Published state_small)
   unfolding count count_below
-  leaving = (by-states setting (life_one id) (live_a45 id inside), λ l. (let f = (l.1).few in absurd (omega arith)))
+  leaving = (live_a45 id inside, λ l. (let f = ((l.1).permitted).few in absurd (omega arith)))
 
   -- ---- a condition read from an incomplete replica
-
-  legal_opened_one : LegalByStates 1 (history opened_one)
-  legal_opened_one = by-states setting opened_one (live_a9 id inside)
 
   done_cline1 : LinesDone (history opened_one) (history opened_one)
   done_cline1 = tt
@@ -60,11 +59,11 @@ module _ (id : Id) (inside : contains lane (key_of id) ≡ true) where
   unfolding same_stamp same_bucket
   may_c1 = record { fresh = refl; unrefused = refl; holder = refl; alone = λ o b h is. line-done (history opened_one) (history opened_one) done_cline1 o b h; stamp = (refl, refl) }
 
-  legal_c1 : LegalByStates 1 (history c1)
-  legal_c1 = (legal_opened_one, may_c1)
+  live_c1 : IsLegal setting c1
+  live_c1 = (live_a9 id inside, record { noted = tt; permitted = may_c1; placed = (owns1 opened_one refl, inside); ended = tt })
 
-  pub unready : IsRefused 1 (incomplete_read id) (event.Prepared 1 lane 3)
-  unready = (legal_c1, λ l. (let r = (l.1).recipients 0 (key_of id) inside in let h = has_both_0 in absurd (let z : true ≡ false = sym h ∙ r in cc)))
+  pub unready : IsRefused (incomplete_read id) (event.Prepared 1 lane 3)
+  unready = (live_c1, λ l. (let r = ((l.1).permitted).recipients 0 (key_of id) inside in let h = has_both_0 in absurd (let z : true ≡ false = sym h ∙ r in cc)))
 
   -- ---- a row activated twice, and an acknowledgement without the active node
 
@@ -91,8 +90,9 @@ module _ (id : Id) (inside : contains lane (key_of id) ≡ true) where
   legal_d1 : LegalByStates 1 (history d1)
   legal_d1 = (legal_united_one, may_d1)
 
-  pub twice : IsRefused 1 activated_twice (event.Decided 0 1 (choice.ActiveOn lane 1))
-  twice = (legal_d1, λ l. (let u = (l.1.1).undecided (key_of id) inside in absurd (let z : ◌≡◌ {A = Option ℕ} (Some 0) None = (rw inside at u) in cc)))
+  -- node 0 is active already
+  pub twice : IsRefused (activated id) (event.Decided 0 2 (choice.ActiveOn lane 0))
+  twice = (live_b25 id inside, λ l. (let u = (((l.1).permitted).1).undecided (key_of id) inside in absurd (let z : ◌≡◌ {A = Option ℕ} (Some 0) None = (rw inside at u) in cc)))
 
   done_eline1 : LinesDone (history d1) (history d1)
   done_eline1 = tt
@@ -168,7 +168,7 @@ module _ (id : Id) (inside : contains lane (key_of id) ≡ true) where
   unfolding same_stamp same_bucket
   not_stored = ((λ e. absurd (let x : 1 ≡ 0 = e in omega arith)), ((λ e. refl), ((λ e. refl), ((λ e. refl), ((λ e. refl), ((λ e. refl), ((λ e. refl), tt)))))))
 
-  pub unanswered : IsRefused 1 (acked_without_active id) (event.Closed 1 (outcome.Acked stamp_one))
+  pub unanswered : IsRefusedByStates (acked_without_active id) (event.Closed 1 (outcome.Acked stamp_one))
   unanswered = (legal_e6, λ l. (let a = (l.1).acked refl in refused (l.1).begin (l.1).begun a))
     where
       refused : (b : Beginning) → began 1 (history e6) ≡ Some b → MayAck 1 (history e6) 1 b → ⊥
@@ -433,7 +433,7 @@ module _ (id : Id) (inside : contains lane (key_of id) ≡ true) where
   legal_f15 : LegalByStates 1 (history f15)
   legal_f15 = (legal_f14, may_f15)
 
-  pub unmarked : IsRefused 1 deleting_keeper (event.Decided 0 1 (choice.DeleteFrom lane 0 1))
+  pub unmarked : IsRefusedByStates deleting_keeper (event.Decided 0 1 (choice.DeleteFrom lane 0 1))
   unmarked = (
     legal_f15,
     λ l. (let k = AtLeast-some 1 _ (omega arith) (l.1.1).keepers in

@@ -24,11 +24,11 @@ setting = record { lane = lane; acks = 1; redundancy = 2 }
 
 -- two nodes are up
 abbrev pub state_one : ClusterState
-state_one = record { version = 1; distributors = Up ∷ []; nodes = Up ∷ Up ∷ [] }
+state_one = record { version = 1; distributors = Up ∷ []; nodes = Up ∷ Up ∷ []; groups = 1 }
 
 -- node 1 is retired
 abbrev pub state_two : ClusterState
-state_two = record { version = 2; distributors = Up ∷ []; nodes = Up ∷ Retired ∷ [] }
+state_two = record { version = 2; distributors = Up ∷ []; nodes = Up ∷ Retired ∷ []; groups = 1 }
 
 abbrev pub stamp_one : Stamp
 stamp_one = record { version = 1; count = 1 }
@@ -111,25 +111,9 @@ life_one id =
     event.Begun 1 0 1 id (Some stamp_one) ∷
     united_one
 
--- under the second state what is found goes to node 0, which becomes active; node 1 is emptied; then one more write
-abbrev pub life : Id → List LaneEvent
-life id =
-    event.Closed 3 (outcome.Acked stamp_three) ∷
-    event.Returned 21 ∷
-    event.Delivered 21 (reply.Answer [] []) ∷
-    event.Sent 21 2 0 0 (body.Store stamp_three) ∷
-    event.Wrote 3 (record { stamp = stamp_three; id = id; body = None }) ∷
-    event.Prepared 3 lane 1 ∷
-    event.Begun 3 0 2 id (Some stamp_three) ∷
-    event.Decided 0 2 (choice.DeleteOver lane 1) ∷
-    event.Returned 20 ∷
-    -- node 1 held the entry and drops it
-    event.Delivered 20 (reply.Answer [] []) ∷
-    event.Sent 20 2 0 1 (body.Delete lane 4) ∷
-    -- node 0 has all that node 1 showed
-    event.Decided 0 2 (choice.DeleteFrom lane 1 4) ∷
-    event.Delivered 19 (reply.Answer [] []) ∷
-    event.Sent 19 2 0 0 (body.Activate lane) ∷
+-- under the second state what is found goes to node 0, which becomes active
+abbrev pub activated : Id → List LaneEvent
+activated id =
     event.Decided 0 2 (choice.ActiveOn lane 0) ∷
     event.Returned 18 ∷
     event.Delivered 18 (reply.Answer [] []) ∷
@@ -159,3 +143,24 @@ life id =
     -- node 1 is retired: it serves and is no target any more
     event.Published state_two ∷
     life_one id
+
+-- then node 1 is emptied, and there is one more write
+abbrev pub life : Id → List LaneEvent
+life id =
+    event.Closed 3 (outcome.Acked stamp_three) ∷
+    event.Returned 21 ∷
+    event.Delivered 21 (reply.Answer [] []) ∷
+    event.Sent 21 2 0 0 (body.Store stamp_three) ∷
+    event.Wrote 3 (record { stamp = stamp_three; id = id; body = None }) ∷
+    event.Prepared 3 lane 1 ∷
+    event.Begun 3 0 2 id (Some stamp_three) ∷
+    event.Decided 0 2 (choice.DeleteOver lane 1) ∷
+    event.Returned 20 ∷
+    -- node 1 held the entry and drops it
+    event.Delivered 20 (reply.Answer [] []) ∷
+    event.Sent 20 2 0 1 (body.Delete lane 4) ∷
+    -- node 0 has all that node 1 showed
+    event.Decided 0 2 (choice.DeleteFrom lane 1 4) ∷
+    event.Delivered 19 (reply.Answer [] []) ∷
+    event.Sent 19 2 0 0 (body.Activate lane) ∷
+    activated id

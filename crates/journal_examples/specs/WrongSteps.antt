@@ -1,21 +1,26 @@
--- Steps that no legal journal takes: each journal here is legal, and the event that is named with it isn't
--- permitted.
-use Rattle.std.specs.Prelude.{ℕ, false, List, [], ◌∷◌, None, Some}
+-- Steps that no legal journal takes: four journals here are legal, and of two more what they mean is legal, wherever
+-- the nodes are; the event that is named with each isn't permitted.
+use Rattle.std.specs.Prelude.{false, List, [], ◌∷◌, None, Some}
 use Rattle.cluster_states.specs.declared.marks.Mark.TheVariants.{Up, Down}
 use Rattle.cluster_states.specs.declared.cluster_state.ClusterState.{ClusterState}
 use Rattle.lane_journals.specs.Buckets.{Id}
 use Rattle.lane_journals.specs.States.{LegalByStates}
 use Rattle.lane_journals.specs.Meanings.{history}
-use Rattle.journal_examples.specs.Lives.{lane, stamp_one, opened_one, united_one}
+use Rattle.lane_journals.specs.KeptJournals.{IsLegal}
+use Rattle.journal_examples.specs.Lives.{lane, setting, stamp_one, opened_one, united_one}
 use Rattle.messages.specs.declared.noted.NotedBody.TheVariants as body
 use Rattle.messages.specs.declared.noted.NotedReply.TheVariants as reply
 use Rattle.messages.specs.declared.decision.Decision.TheVariants as choice
 use Rattle.lane_journals.specs.declared.event.LaneEvent.{LaneEvent}
 use Rattle.lane_journals.specs.declared.event.LaneEvent.TheVariants as event
 
+-- the journal is legal, and not with this event
+abbrev pub IsRefused : List LaneEvent → LaneEvent → Type 0
+IsRefused J e = IsLegal setting J × (IsLegal setting (e ∷ J) → ⊥)
+
 -- what the journal means is legal, and not with this event
-abbrev pub IsRefused : ℕ → List LaneEvent → LaneEvent → Type 0
-IsRefused acks J e = LegalByStates acks (history J) × (LegalByStates acks (history (e ∷ J)) → ⊥)
+abbrev pub IsRefusedByStates : List LaneEvent → LaneEvent → Type 0
+IsRefusedByStates J e = LegalByStates 1 (history J) × (LegalByStates 1 (history (e ∷ J)) → ⊥)
 
 -- the opening, where node 1 has not answered
 abbrev pub opened_early : LaneEvent
@@ -23,7 +28,7 @@ opened_early = event.Opened 0 1 (lane ∷ [])
 
 -- a state without node 1, which may be the only one that has what was acknowledged
 abbrev pub state_small : ClusterState
-state_small = record { version = 2; distributors = Up ∷ []; nodes = Up ∷ Down ∷ [] }
+state_small = record { version = 2; distributors = Up ∷ []; nodes = Up ∷ Down ∷ []; groups = 1 }
 
 -- a line is begun where no node is complete yet
 abbrev pub incomplete_read : Id → List LaneEvent
@@ -32,8 +37,8 @@ incomplete_read id =
     opened_one
 
 -- node 0 is active
-abbrev pub activated_twice : List LaneEvent
-activated_twice =
+abbrev pub active_one : List LaneEvent
+active_one =
     event.Decided 0 1 (choice.ActiveOn lane 0) ∷
     united_one
 
@@ -46,7 +51,7 @@ acked_without_active id =
     event.Wrote 1 (record { stamp = stamp_one; id = id; body = None }) ∷
     event.Prepared 1 lane 3 ∷
     event.Begun 1 0 1 id (Some stamp_one) ∷
-    activated_twice
+    active_one
 
 -- after one more round node 1 has a Delete, and is no complete member
 abbrev pub deleting_keeper : List LaneEvent

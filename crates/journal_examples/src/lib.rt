@@ -1,7 +1,7 @@
 //! Journals that are written out: one of a lane that lives, and wrong ones, which the definitions refuse.
 //!
-//! `life` in `specs/Lives.antt` is a legal journal of 84 events. `specs/WrongSteps.antt` has six legal journals,
-//! each with an event that may not come next, and `specs/WrongCarriage.antt` eight journals in which a message
+//! `life` in `specs/Lives.antt` is a legal journal of 84 events. `specs/WrongSteps.antt` has six journals, each
+//! with an event that may not come next, and `specs/WrongCarriage.antt` eight journals in which a message
 //! has another fate than it was given, each beside the right one. A crate of laws; nothing stands on it.
 //!
 //! ```text

@@ -48,7 +48,7 @@ pub fn document_from_json(
     Document::of(id, list)
 }
 
-/// All fields of a document in JSON, in the order of their names. The only error is want of memory.
+/// All fields of a document in JSON, in the order of their names.
 pub fn fields_json(alloc: Global, document: &Document) -> Result<Value, NoMemory>
     ensures { IfOk result (λ json. view json ≡ object (fields_json document.now.fields)) }
 {

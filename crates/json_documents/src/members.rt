@@ -16,7 +16,7 @@ use serde_json::{Map, Value};
 use std::alloc::Global;
 use value_lists::NoMemory;
 
-/// The least name that is no field of a type; takes no memory.
+/// The least name that is no field of a type.
 pub fn unknown_in<'a>(
     members: &'a Map<String, Value>,
     type_name: &str,

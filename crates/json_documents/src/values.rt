@@ -66,8 +66,7 @@ fn few_texts(alloc: Global, items: &[Value]) -> Result<Option<TextList>, NoMemor
     texts_of(alloc, items)
 }
 
-/// A list of numbers that a value says; none where it is no list of at most 256 whole numbers. The only
-/// error is want of memory.
+/// A list of numbers that a value says; none where it is no list of at most 256 whole numbers.
 pub fn numbers_in(alloc: Global, value: &Value) -> Result<Option<IntList>, NoMemory>
     ensures { IfOk result (λ list. list ≡ list_in whole (view value.now)) }
 {
@@ -77,8 +76,7 @@ pub fn numbers_in(alloc: Global, value: &Value) -> Result<Option<IntList>, NoMem
     }
 }
 
-/// A list of texts that a value says; none where it is no list of at most 256 texts. The only error is
-/// want of memory.
+/// A list of texts that a value says; none where it is no list of at most 256 texts.
 pub fn texts_in(alloc: Global, value: &Value) -> Result<Option<TextList>, NoMemory>
     ensures { IfOk result (λ list. list ≡ list_in as_str (view value.now)) }
 {
@@ -98,8 +96,7 @@ fn text_in(alloc: Global, value: &Value) -> Result<Option<TextValue>, NoMemory>
     }
 }
 
-/// What a value says of a field of a kind; none where it is no value of that kind. The only error is
-/// want of memory.
+/// What a value says of a field of a kind; none where it is no value of that kind.
 #[tactic(auto, unfolding(crate::specs::Json::value_of))]
 pub fn value_of(
     alloc: Global,
@@ -152,7 +149,7 @@ fn texts_json(alloc: Global, texts: &[TextValue]) -> Result<Vec<Value>, NoMemory
     Ok(list)
 }
 
-/// A value in JSON. The only error is want of memory.
+/// A value in JSON.
 pub fn value_json(alloc: Global, value: &FieldValue) -> Result<Value, NoMemory>
     ensures { IfOk result (λ json. view json ≡ value_json value.now) }
 {

@@ -22,7 +22,7 @@ use serde_json::{Map, Value};
 use std::alloc::Global;
 use value_lists::NoMemory;
 
-/// The one member of an object that has just one; takes no memory.
+/// The one member of an object that has just one.
 fn only(members: &Map<String, Value>) -> Option<(&str, &Value)>
     ensures { option_map (λ m. (m.0.now, view m.1.now)) result ≡ only (members_view members.now.entries) }
 {
@@ -49,7 +49,7 @@ fn assign_by(alloc: Global, kind: FieldType, value: &Value) -> Result<Option<Cha
     }
 }
 
-/// What a word says of a number; takes no memory.
+/// What a word says of a number.
 fn number_change(word: &str, by: i64) -> Option<Change>
     ensures { result ≡ number_change word.now by }
 {

@@ -17,8 +17,8 @@ use Rattle.lane_keeping.specs.Acting.{IsKnownRow}
 use Rattle.operation_keeping.specs.OperationKeeping.{IsUnderWay, KnowsPreparing, KnowsOperation}
 use Rattle.operation_keeping.specs.Left.{messages_left}
 use Rattle.line_wants.specs.Wants.{Wants, Adds}
-use Rattle.lane_core.specs.declared.job.Job.{Job}
-use Rattle.lane_core.specs.declared.job.Phase.TheVariants as phase
+use Rattle.lane_core.specs.declared.work.Job.{Job}
+use Rattle.lane_core.specs.declared.work.Phase.TheVariants as phase
 use Rattle.lane_states.specs.declared.lane_state.LaneState.{LaneState}
 use Rattle.lane_core.specs.declared.work.Work.{Work}
 use Rattle.lane_states.specs.LaneStates.{journal_of, part_of, IsKept}

@@ -13,9 +13,9 @@ use Rattle.lane_keeping.specs.LaneKeeping.{setting_of}
 use Rattle.lane_states.specs.declared.lane_state.LaneState.{LaneState}
 use Rattle.lane_states.specs.LaneStates.{journal_of}
 use Rattle.lane_lines.specs.Closing.{MayEndWith}
-use Rattle.lane_core.specs.declared.job.Job.{Job}
-use Rattle.lane_core.specs.declared.job.Phase.{Phase}
-use Rattle.lane_core.specs.declared.job.Phase.TheVariants.{Begun, Prepared, Over, Short}
+use Rattle.lane_core.specs.declared.work.Job.{Job}
+use Rattle.lane_core.specs.declared.work.Phase.{Phase}
+use Rattle.lane_core.specs.declared.work.Phase.TheVariants.{Begun, Prepared, Over, Short}
 use Rattle.line_wants.specs.Wants.{IsEnd}
 use Rattle.lane_core.specs.Advancing.{EndsAs}
 use Rattle.lane_core.specs.Works.{progress_of, IsJob, PhaseKeeps, PhaseEnds, MayMark, IsEndedBy}

@@ -18,9 +18,9 @@ use Rattle.lane_keeping.specs.Asking.{OthersStay}
 use Rattle.lane_keeping.specs.LaneKeeping.{part_in}
 use Rattle.line_wants.specs.Wants.{More, IsEnd}
 use Rattle.lane_states.specs.declared.lane_state.LaneState.{LaneState}
-use Rattle.lane_core.specs.declared.job.Job.{Job}
-use Rattle.lane_core.specs.declared.job.Phase.{Phase}
-use Rattle.lane_core.specs.declared.job.Phase.TheVariants as phase
+use Rattle.lane_core.specs.declared.work.Job.{Job}
+use Rattle.lane_core.specs.declared.work.Phase.{Phase}
+use Rattle.lane_core.specs.declared.work.Phase.TheVariants as phase
 use Rattle.lane_values.specs.declared.progress.Progress.TheVariants as progress
 use Rattle.lane_values.specs.declared.progress.UnderWay.{UnderWay}
 use Rattle.lane_values.specs.declared.answers.Advance.TheVariants as advance

@@ -1,5 +1,5 @@
 -- A lane that serves its lines may be told or asked of one thing more, and then serves on.
-use Rattle.std.proofs.Common.{◌≡◌, ◌<◌, ℕ, Bool, false, List, ◌∷◌, Some, inl, inr, refl, sym, ap, ◌∙◌, subst}
+use Rattle.std.proofs.Common.{◌≡◌, ◌<◌, ℕ, Bool, false, List, ◌∷◌, None, Some, inl, inr, refl, sym, ap, ◌∙◌, subst}
 use Rattle.std.specs.Option.{IsSome}
 use Rattle.bucket_ids.specs.Buckets.{Low}
 use Rattle.carriers.specs.declared.fate.Fate.{Fate}
@@ -18,7 +18,8 @@ use Rattle.lane_values.specs.LaneValues.{LaneValue, IsLaneValue}
 use Rattle.lane_values.specs.declared.setting.Setting.{Setting}
 use Rattle.lane_lives.specs.Lives.{FeedLine, Deed, Announces, Stops, Starts, Runs, Maintains, Does, IsMaintained, IsCarriedOut, lines_of, last_line, AreRising, states_in, newest_in}
 use Rattle.lane_core.specs.Runs.{IsLineRun}
-use Rattle.lane_lives.specs.Upkeep.{MayBeUpkept}
+use Rattle.lane_lives.specs.Upkeep.{MayBeUpkept, IsSpan}
+use Rattle.lane_lives.specs.declared.spans.UpkeepSpan.{UpkeepSpan}
 use Rattle.lane_lives.specs.Serving.{bucket_in, IsServing}
 use Rattle.lane_lives.proofs.Upkept.{pass_made}
 use Rattle.lane_lives.proofs.Living.{heard_all, newest_published, states_published, others_fresh, later_none}
@@ -76,7 +77,7 @@ module _ (s : Setting) (planned : List Fate) (lane : ℕ) (deeds : List Deed) (v
     serves_run line x is later run = serves_after (Runs line) new.journal new.given v.has_room is run.after run.holds (later, is.rising) (carried_here line x is run)
 
     -- a pass of upkeep, or none
-    upkept_here : IsServing s planned lane deeds v → MayBeUpkept v new → Does s (bucket_in s lane) Maintains v.journal new.journal
+    upkept_here : IsServing s planned lane deeds v → MayBeUpkept v new → Does s (bucket_in s lane) (Maintains None) v.journal new.journal
     upkept_here is (inl same) = inl (ap (λ (n : LaneValue). n.journal) same)
     upkept_here is (inr m) = inr (subst (λ (b : Low). IsMaintained b v.journal new.journal) is.lane_is (pass_made v new m))
 
@@ -84,8 +85,15 @@ module _ (s : Setting) (planned : List Fate) (lane : ℕ) (deeds : List Deed) (v
     upkept_after (inl same) = same ∙ (λ i. record v { journal = (sym same i).journal; given = (sym same i).given })
     upkept_after (inr m) = m.after
 
-    pub serves_upkept : IsServing s planned lane deeds v → MayBeUpkept v new → IsLaneValue new → IsServing s planned lane (Maintains ∷ deeds) new
-    serves_upkept is may holds = serves_after Maintains new.journal new.given v.has_room is (upkept_after may) holds is.rising (upkept_here is may)
+    pub serves_upkept : IsServing s planned lane deeds v → MayBeUpkept v new → IsLaneValue new → IsServing s planned lane (Maintains None ∷ deeds) new
+    serves_upkept is may holds = serves_after (Maintains None) new.journal new.given v.has_room is (upkept_after may) holds is.rising (upkept_here is may)
+
+    -- a pass whose span is noted
+    spanned_here : (span : UpkeepSpan) → IsServing s planned lane deeds v → IsSpan span v new → Does s (bucket_in s lane) (Maintains (Some span)) v.journal new.journal
+    spanned_here span is made = record { pass = subst (λ (b : Low). IsMaintained b v.journal new.journal) is.lane_is (pass_made v new made.pass); from = made.from; to = made.to }
+
+    pub serves_spanned : (span : UpkeepSpan) → IsServing s planned lane deeds v → IsSpan span v new → IsLaneValue new → IsServing s planned lane (Maintains (Some span) ∷ deeds) new
+    serves_spanned span is made holds = serves_after (Maintains (Some span)) new.journal new.given v.has_room is (made.pass).after holds is.rising (spanned_here span is made)
 
     -- ---- what is no deed
 

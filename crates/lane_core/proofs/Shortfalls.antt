@@ -5,8 +5,8 @@ use Rattle.messages.specs.declared.outcome.Outcome.{Outcome}
 use Rattle.messages.specs.declared.outcome.Outcome.TheVariants.{Acked, Nothing, Found, Missing, ConditionFailed, BadUpdate, TooFew, OwnedElsewhere, NoMemory}
 use Rattle.lane_journals.specs.Readers.{Journal}
 use Rattle.lane_journals.specs.Meanings.{is_acked}
-use Rattle.lane_core.specs.declared.job.Job.{Job}
-use Rattle.lane_core.specs.declared.job.Phase.TheVariants.{Over}
+use Rattle.lane_core.specs.declared.work.Job.{Job}
+use Rattle.lane_core.specs.declared.work.Phase.TheVariants.{Over}
 use Rattle.lane_core.specs.declared.work.Work.{Work}
 use Rattle.lane_states.specs.LaneStates.{journal_of}
 use Rattle.lane_core.specs.Works.{IsWork, JobKeeps, MayMark, under_way_in, one_if}

@@ -9,8 +9,8 @@ use Rattle.op_machine.specs.Outcomes.{Next, Asks, Finishes, message_in, outcome_
 use Rattle.op_machine.specs.Standings.{next_at, IsAnswered}
 use Rattle.operation_keeping.specs.Left.{messages_left}
 use Rattle.lane_states.specs.declared.lane_state.LaneState.{LaneState}
-use Rattle.lane_core.specs.declared.job.Phase.{Phase}
-use Rattle.lane_core.specs.declared.job.Phase.TheVariants as phase
+use Rattle.lane_core.specs.declared.work.Phase.{Phase}
+use Rattle.lane_core.specs.declared.work.Phase.TheVariants as phase
 use Rattle.lane_values.specs.declared.answers.Advance.{Advance}
 use Rattle.lane_values.specs.declared.answers.Advance.TheVariants as advance
 use Rattle.lane_lines.specs.Steps.{StandsIn, TellsOne}

@@ -32,7 +32,7 @@ use Rattle.lane_upkeep.specs.Maintaining.{IsBetween, AreReturned}
 use Rattle.lane_values.specs.LaneValues.{LaneValue}
 use Rattle.lane_core.specs.Upkeeping.{MaintainsBy, OpensBy, RestsBy}
 use Rattle.lane_core.specs.declared.work.Work.{Work}
-use Rattle.lane_core.specs.declared.job.Job.{Job}
+use Rattle.lane_core.specs.declared.work.Job.{Job}
 use Rattle.lane_core.specs.Works.{IsWork, JobKeeps, JobLasts, value_of}
 
 -- ---- the span

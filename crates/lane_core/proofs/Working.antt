@@ -16,7 +16,7 @@ use Rattle.distributor_part.specs.Parts.{Part}
 use Rattle.op_machine.specs.Plans.{IsOwn, is_get}
 use Rattle.lane_journals.specs.Buckets.{Id, contains, key_of}
 use Rattle.lane_journals.specs.Readers as readers
-use Rattle.lane_journals.specs.Readers.{Journal, held, began, stamps_of, running, before_line, sent, round_of, asked, opened}
+use Rattle.lane_journals.specs.Readers.{Journal, held, stamps_of, running, before_line, sent, round_of, asked, opened}
 use Rattle.lane_journals.specs.Legal.{IsNextStamp}
 use Rattle.lane_journals.specs.RowLists.{row_with, rows}
 use Rattle.lane_journals.specs.Meanings.{history}
@@ -29,7 +29,7 @@ use Rattle.lane_keeping.specs.Acting.{IsActing}
 use Rattle.lane_keeping.proofs.Acting.{one-owner}
 use Rattle.operation_keeping.specs.OperationKeeping.{KnowsPreparing, IsPlainGet}
 use Rattle.lane_journals.specs.Facts.{AllClosed}
-use Rattle.lane_core.specs.declared.job.Job.{Job}
+use Rattle.lane_core.specs.declared.work.Job.{Job}
 use Rattle.lane_core.specs.declared.work.Work.{Work}
 use Rattle.lane_states.specs.LaneStates.{journal_of, IsKept, HasRoom, AreResting, IsSetUp}
 use Rattle.lane_values.specs.LaneValues.{drawn}

@@ -10,9 +10,9 @@ use Rattle.operation_keeping.specs.Left.{messages_left}
 use Rattle.lane_states.specs.declared.lane_state.LaneState.{LaneState}
 use Rattle.lane_values.specs.declared.answers.Advance.{Advance}
 use Rattle.lane_values.specs.declared.answers.Advance.TheVariants as advance
-use Rattle.lane_core.specs.declared.job.Job.{Job}
-use Rattle.lane_core.specs.declared.job.Phase.{Phase}
-use Rattle.lane_core.specs.declared.job.Phase.TheVariants.{Prepared, Over, Short}
+use Rattle.lane_core.specs.declared.work.Job.{Job}
+use Rattle.lane_core.specs.declared.work.Phase.{Phase}
+use Rattle.lane_core.specs.declared.work.Phase.TheVariants.{Prepared, Over, Short}
 use Rattle.lane_core.specs.declared.work.Work.{Work}
 use Rattle.lane_core.specs.Advancing.{IsAdvance}
 use Rattle.lane_core.specs.Works.{under_way_in, value_of}

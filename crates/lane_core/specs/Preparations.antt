@@ -13,8 +13,8 @@ use Rattle.messages.specs.declared.outcome.Outcome.{Outcome}
 use Rattle.lane_journals.specs.declared.event.LaneEvent.TheVariants.{Prepared, Closed}
 use Rattle.lane_keeping.specs.Acting.{IsActing, IsKnownRow}
 use Rattle.line_wants.specs.Wants.{Wants, Adds, IsEnd}
-use Rattle.lane_core.specs.declared.job.Job.{Job}
-use Rattle.lane_core.specs.declared.job.Phase.{Phase}
+use Rattle.lane_core.specs.declared.work.Job.{Job}
+use Rattle.lane_core.specs.declared.work.Phase.{Phase}
 use Rattle.lane_values.specs.declared.progress.Progress.TheVariants.{Runs, Over}
 use Rattle.lane_values.specs.declared.progress.UnderWay.{UnderWay}
 use Rattle.lane_states.specs.declared.lane_state.LaneState.{LaneState}

@@ -4,9 +4,9 @@ use Rattle.carriers.specs.declared.fate.Fate.{Fate}
 use Rattle.messages.specs.declared.outcome.Outcome.{Outcome}
 use Rattle.line_wants.specs.Wants.{IsEnd}
 use Rattle.lane_values.specs.declared.answers.Advance.{Advance}
-use Rattle.lane_core.specs.declared.job.Job.{Job}
-use Rattle.lane_core.specs.declared.job.Phase.{Phase}
-use Rattle.lane_core.specs.declared.job.Phase.TheVariants as phase
+use Rattle.lane_core.specs.declared.work.Job.{Job}
+use Rattle.lane_core.specs.declared.work.Phase.{Phase}
+use Rattle.lane_core.specs.declared.work.Phase.TheVariants as phase
 use Rattle.lane_values.specs.declared.progress.Progress.{Progress}
 use Rattle.lane_values.specs.declared.progress.Progress.TheVariants as progress
 use Rattle.lane_values.specs.declared.progress.UnderWay.{UnderWay}

@@ -30,9 +30,9 @@ use Rattle.lane_keeping.specs.Acting.{IsActing}
 use Rattle.operation_keeping.specs.OperationKeeping.{IsUnderWay, IsPlainGet}
 use Rattle.lane_journals.specs.Facts.{AllClosed}
 use Rattle.operation_keeping.specs.Left.{messages_left}
-use Rattle.lane_core.specs.declared.job.Job.{Job}
-use Rattle.lane_core.specs.declared.job.Phase.{Phase}
-use Rattle.lane_core.specs.declared.job.Phase.TheVariants.{Begun, Prepared, Over, Short}
+use Rattle.lane_core.specs.declared.work.Job.{Job}
+use Rattle.lane_core.specs.declared.work.Phase.{Phase}
+use Rattle.lane_core.specs.declared.work.Phase.TheVariants.{Begun, Prepared, Over, Short}
 use Rattle.lane_values.specs.declared.progress.Progress.{Progress}
 use Rattle.lane_values.specs.declared.progress.Progress.TheVariants as progress
 use Rattle.lane_values.specs.declared.progress.UnderWay.{UnderWay}

@@ -1,28 +1,32 @@
-ghost use Rattle.std.specs.Prelude.{◌≡◌, ◌≤◌, ◌+◌, ◌≢◌, ℕ, None, IsSome, IfSome, IfOk, OnOk, OnErr, vec_len, vec_capacity};
+ghost use Rattle.std.specs.Prelude.{◌≡◌, ◌≤◌, ◌+◌, ◌≢◌, ℕ, None, IsSome, IfSome, IfOk, OnOk, OnErr, vec_len, vec_capacity, true};
 ghost use Rattle.std.specs.Ordering.{nat_cmp};
-ghost use Rattle.std.specs.BTreeMap as tree;
 ghost use Rattle.bucket_ids.specs.Buckets.{IsIn};
-ghost use Rattle.global_ids.specs.Keys as keys;
 ghost use Rattle.ideal_nodes.specs.Placement.{IsOwner};
 ghost use Rattle.op_machine.specs.Plans.{is_get, IsOwn};
-ghost use Rattle.lane_journals.specs.Buckets as buckets;
 ghost use Rattle.lane_journals.specs.Readers.{held, stamps_of};
 ghost use Rattle.lane_journals.specs.Meanings.{history};
 ghost use Rattle.lane_keeping.specs.Acting.{IsActing};
 ghost use Rattle.operation_keeping.specs.OperationKeeping.{IsFresh, IsPlainGet};
-ghost use Rattle.lane_states.specs.LaneStates.{journal_of, part_of, HasRoom, StaysCarried};
+ghost use Rattle.lane_states.specs.LaneStates.{journal_of, part_of, HasRoom, StaysCarried, IsCarriedBy};
 ghost use Rattle.lane_values.specs.LaneValues.{drawn, Begins, BeginsAtOwner, Refuses, IsBeginning};
 ghost use Rattle.lane_keeping.specs.Tidings.{last_state};
 ghost use Rattle.lane_core.specs.Works.{IsWork, OfValues, SameValue, count_of, count_after, begun_by};
+ghost use Rattle.lane_core.specs.Phases.{AdvancesBy};
+ghost use Rattle.lane_core.specs.Searching.{just_begun, is_begun, HasCall, spent, SearchesBy, ComesToRow, AdvancesFrom};
+ghost use Rattle.std.specs.BTreeMap as tree;
+ghost use Rattle.global_ids.specs.Keys as keys;
+ghost use Rattle.lane_journals.specs.Buckets as buckets;
+ghost use Rattle.lane_values.specs.declared.answers.Advance.TheVariants as advance;
 
-use crate::job::{Job, Phase};
-use crate::work::{Work, put_job};
+use crate::work::{Job, Phase, Work, put_job};
+use carriers::Carrier;
 use cluster_states::ClusterState;
 use document_ids::DocId;
 use lane_journals::LaneEvent;
 use lane_keeping::laws::owners_act;
+use lane_lines::readying::{Shortage, find_row};
 use lane_states::known_owner::KnownOwner;
-use lane_values::answers::Begin;
+use lane_values::answers::{Advance, Begin};
 use messages::{OpKind, Operation, Outcome, SharedOperation};
 use operation_keeping::laws::{lines_are_refused, operations_begin};
 use stamps::Stamp;
@@ -40,14 +44,14 @@ fn is_get(kind: &OpKind) -> bool
     }
 }
 
-/// A copy of the operation, which its lane and its machine share. The only error is want of memory.
+/// A copy of the operation, which its lane and its machine share.
 fn shared_copy(alloc: Global, operation: &Operation) -> Result<SharedOperation, NoMemory>
     ensures { IfOk result (λ copy. copy ≡ operation.now) }
 {
     SharedOperation::new(alloc, operation.copy(alloc)?)
 }
 
-/// Begins to count the stamps of a version, if it isn't counted yet. The only error is want of memory.
+/// Begins to count the stamps of a version, if it isn't counted yet.
 fn make_count(counts: &mut BTreeMap<u32, u64>, version: u32) -> Result<(), NoMemory>
     ensures same { (v : ℕ) → count_of counts.new v ≡ count_of counts.old v }
     ensures there { OnOk result (IsSome (tree.get nat_cmp counts.new version)) }
@@ -58,7 +62,7 @@ fn make_count(counts: &mut BTreeMap<u32, u64>, version: u32) -> Result<(), NoMem
     Ok(())
 }
 
-/// Counts a stamp that is drawn, if one is; takes no memory.
+/// Counts a stamp that is drawn, if one is.
 fn count_stamp(counts: &mut BTreeMap<u32, u64>, stamp: Option<Stamp>)
     requires there { IfSome stamp (λ s. IsSome (tree.get nat_cmp counts.old s.version)) }
     ensures { (v : ℕ) → count_of counts.new v ≡ count_after stamp (count_of counts.old) v }
@@ -137,7 +141,7 @@ impl Work {
         }
     }
 
-    /// Begins it at the owner under the state that it holds. The only error is want of memory.
+    /// Begins it at the owner under the state that it holds.
     fn begin_at(
         &mut self,
         line: u32,
@@ -169,7 +173,7 @@ impl Work {
     }
 
     /// Begins the operation of a line at the owner under the newest state, which first hears that state. The
-    /// owner may be known. The only error is want of memory.
+    /// owner may be known.
     pub fn begin_at_owner(
         &mut self,
         line: u32,
@@ -203,8 +207,7 @@ impl Work {
         Ok(())
     }
 
-    /// Makes room for so many events, and for what is counted of the stamps of a version. The only error is want
-    /// of memory.
+    /// Makes room for so many events, and for what is counted of the stamps of a version.
     pub fn room_to_begin(&mut self, events: usize, version: u32) -> Result<(), NoMemory>
         requires keeps { IsWork self.old }
         requires few { events ≤ 3 }
@@ -223,7 +226,7 @@ impl Work {
         make_count(&mut self.drawn, version)
     }
 
-    /// The operation of a line begins at the owner under the state that it holds; takes no memory. Room was made
+    /// The operation of a line begins at the owner under the state that it holds. Room was made
     /// for it, and for its close.
     fn note_begun(
         &mut self,
@@ -275,8 +278,7 @@ impl Work {
         );
     }
 
-    /// Refuses a line at a distributor that isn't the owner under the state that it holds. The only error is
-    /// want of memory.
+    /// Refuses a line at a distributor that isn't the owner under the state that it holds.
     fn refuse(
         &mut self,
         line: u32,
@@ -304,5 +306,102 @@ impl Work {
             outcome: Outcome::OwnedElsewhere { owner, version },
         });
         Ok(Outcome::OwnedElsewhere { owner, version })
+    }
+}
+
+/// Whether nothing was done of an operation since it was begun.
+fn is_begun(phase: &Phase) -> bool
+    ensures { result ≡ is_begun phase.now }
+{
+    match phase {
+        Phase::Begun => true,
+        Phase::Prepared { .. } | Phase::Over { .. } | Phase::Short => false,
+    }
+}
+
+/// Takes one call of the job, which wants memory until more is known of it.
+fn spend(place: &mut Option<Job>)
+    requires { HasCall place.old }
+    ensures { place.new ≡ spent place.old }
+{
+    let Some(job) = place else {
+        unreachable!();
+    };
+    job.left -= 1;
+    job.phase = Phase::Short;
+}
+
+impl Work {
+    /// Whether nothing was done for the operation under way since it was begun.
+    pub fn is_begun(&self) -> bool
+        ensures { result ≡ just_begun self.now.job }
+    {
+        match &self.job {
+            Some(job) => is_begun(&job.phase),
+            None => false,
+        }
+    }
+
+    /// Finds the row for the operation that was begun, or how it ends without one. The only error is want of
+    /// memory, and then the operation goes no further.
+    fn search<C: Carrier>(&mut self, carrier: &mut C) -> Result<Option<Shortage>, NoMemory>
+        requires keeps { IsWork self.old }
+        requires carried { IsCarriedBy self.old.state (C.given carrier.old) }
+        requires begun { just_begun self.old.job ≡ true }
+        ensures keeps { IsWork self.new }
+        ensures carried { IsCarriedBy self.new.state (C.given carrier.new) }
+        ensures planned { C.planned carrier.new ≡ C.planned carrier.old }
+        ensures kind { C.takes_plans carrier.new ≡ C.takes_plans carrier.old }
+        ensures searches { IfOk result
+            (λ end. SearchesBy self.old self.new (C.given carrier.old) (C.given carrier.new)) }
+        ensures comes { IfOk result (ComesToRow self.new) }
+        ensures cut { OnErr result
+            (AdvancesBy self.old self.new (C.given carrier.old) (C.given carrier.new) advance.NoMemory) }
+    {
+        owners_act();
+        let Some(job) = &self.job else {
+            unreachable!();
+        };
+        let distributor = job.distributor;
+        let key = job.key;
+        spend(&mut self.job);
+        find_row(&mut self.state, distributor, key, carrier)
+    }
+
+    /// Prepares the operation in the row that was found; where none was, it is over with the outcome of that.
+    fn come(&mut self, found: Option<Shortage>) -> Advance
+        requires keeps { IsWork self.old }
+        requires comes { ComesToRow self.old found }
+        ensures keeps { IsWork self.new }
+        ensures carried { StaysCarried self.old.state self.new.state }
+        ensures advances { AdvancesFrom self.old self.new result }
+    {
+        match found {
+            None => match self.prepare_in_row() {
+                Ok(()) => Advance::More,
+                Err(NoMemory) => Advance::NoMemory,
+            },
+            Some(shortage) => {
+                self.fall_short(shortage.outcome(), shortage.outcome());
+                Advance::Done
+            }
+        }
+    }
+
+    /// The first call of an operation that was begun: it is prepared in its row, or is over. It takes memory.
+    pub fn prepare<C: Carrier>(&mut self, carrier: &mut C) -> Advance
+        requires keeps { IsWork self.old }
+        requires carried { IsCarriedBy self.old.state (C.given carrier.old) }
+        requires begun { just_begun self.old.job ≡ true }
+        ensures keeps { IsWork self.new }
+        ensures carried { IsCarriedBy self.new.state (C.given carrier.new) }
+        ensures planned { C.planned carrier.new ≡ C.planned carrier.old }
+        ensures kind { C.takes_plans carrier.new ≡ C.takes_plans carrier.old }
+        ensures advances { AdvancesBy self.old self.new (C.given carrier.old) (C.given carrier.new) result }
+    {
+        match self.search(carrier) {
+            Ok(found) => self.come(found),
+            Err(NoMemory) => Advance::NoMemory,
+        }
     }
 }

@@ -1,4 +1,4 @@
-ghost use Rattle.std.specs.Prelude.{◌≡◌, ◌≢◌, ℕ, ◌≤◌, ◌<◌, ◌^◌, [], ◌∷◌, Bool, true, false, None, Some, IsSome, IfSome, IfOk, OnOk, OnErr, option_map};
+ghost use Rattle.std.specs.Prelude.{◌≡◌, ◌≤◌, ◌<◌, [], ◌∷◌, true, false, None, Some, IsSome, IfSome, IfOk, OnOk, OnErr};
 ghost use Rattle.std.specs.Option.{option_copied};
 ghost use Rattle.bucket_ids.specs.Buckets.{IsIn};
 ghost use Rattle.global_ids.specs.Keys as keys;
@@ -11,7 +11,7 @@ ghost use Rattle.lane_journals.specs.Meanings.{history, entry_at};
 ghost use Rattle.lane_journals.specs.Places.{told};
 ghost use Rattle.lane_journals.specs.KeptJournals.{past};
 ghost use Rattle.lane_journals.specs.declared.event.LaneEvent.TheVariants as event;
-ghost use Rattle.node_journals.specs.NodeKeeping.{NodeKeeps};
+ghost use Rattle.lane_keeping.specs.NodeKeeping.{NodeKeeps};
 ghost use Rattle.lane_keeping.specs.LaneKeeping.{setting_of};
 ghost use Rattle.operation_keeping.specs.OperationKeeping.{IsFresh, IsPlainGet};
 ghost use Rattle.lane_keeping.specs.Tidings.{heard_next, announced, stopped_next, started_next, last_state};
@@ -70,7 +70,7 @@ impl<C: Carrier + Drop> Model for Lane<C> {
 }
 
 impl<C: Carrier + Drop> Lane<C> {
-    /// A lane in which nothing happened, of this number among those of so many bits; takes no memory.
+    /// A lane in which nothing happened, of this number among those of so many bits.
     pub fn new(alloc: Global, lane: u8, bits: u8, rules: Rules, carrier: C) -> Lane<C>
         requires set_up { IsSetUp (record { bits = bits; low = lane }) rules }
         requires unused { C.given carrier ≡ [] }
@@ -85,8 +85,7 @@ impl<C: Carrier + Drop> Lane<C> {
 
     // ---- states
 
-    /// Makes room for one publication with all that hear it, or for one stop or start. The only error is want
-    /// of memory.
+    /// Makes room for one publication with all that hear it, or for one stop or start.
     pub fn room(&mut self) -> Result<(), NoMemory>
         ensures ok { OnOk result (self.new ≡ record self.old { has_room = true }) }
         ensures err { OnErr result (self.new ≡ self.old) }
@@ -94,7 +93,7 @@ impl<C: Carrier + Drop> Lane<C> {
         self.work.room()
     }
 
-    /// Publishes a state; takes no memory. Room was made for it since the last one.
+    /// Publishes a state. Room was made for it since the last one.
     pub fn publish(&mut self, state: &ClusterState)
         requires idle { self.old.under_way ≡ None }
         requires room { self.old.has_room ≡ true }
@@ -107,7 +106,7 @@ impl<C: Carrier + Drop> Lane<C> {
         self.owner = KnownOwner::new(self.work.state.lane, state);
     }
 
-    /// Publishes a state, which all distributors hear but the deaf ones, in rising number; takes no memory. Room
+    /// Publishes a state, which all distributors hear but the deaf ones, in rising number. Room
     /// was made for it since the last one.
     pub fn announce(&mut self, state: &ClusterState, deaf: NodeSet)
         requires idle { self.old.under_way ≡ None }
@@ -121,7 +120,7 @@ impl<C: Carrier + Drop> Lane<C> {
         self.owner = KnownOwner::new(self.work.state.lane, state);
     }
 
-    /// The version of the state that a distributor holds, if it holds one; takes no memory.
+    /// The version of the state that a distributor holds, if it holds one.
     pub fn held(&self, distributor: u8) -> Option<u32>
         ensures { result ≡ held distributor (history self.now.journal) }
     {
@@ -143,7 +142,7 @@ impl<C: Carrier + Drop> Lane<C> {
 
     // ---- nodes
 
-    /// A node stops; nothing happens where it is stopped already. Takes no memory. Room was made for it.
+    /// A node stops; nothing happens where it is stopped already. Room was made for it.
     pub fn stop(&mut self, node: u8)
         requires idle { self.old.under_way ≡ None }
         requires room { self.old.has_room ≡ true }
@@ -153,7 +152,7 @@ impl<C: Carrier + Drop> Lane<C> {
         self.work.stop(node);
     }
 
-    /// A node starts; nothing happens where it isn't stopped. Takes no memory. Room was made for it.
+    /// A node starts; nothing happens where it isn't stopped. Room was made for it.
     pub fn start(&mut self, node: u8)
         requires idle { self.old.under_way ≡ None }
         requires room { self.old.has_room ≡ true }
@@ -218,7 +217,7 @@ impl<C: Carrier + Drop> Lane<C> {
         self.work.step(&mut self.carrier)
     }
 
-    /// Closes the operation, which is over or wanted memory; takes no memory.
+    /// Closes the operation, which is over or wanted memory.
     pub fn close(&mut self, line: u32) -> Outcome
         requires { MayClose line self.old.under_way }
         ensures outcome { IsOutcome self.old.under_way self.old result }
@@ -252,7 +251,7 @@ impl<C: Carrier + Drop> Lane<C> {
     // ---- the carrier
 
     /// Plans the fates of the coming messages, behind those that are planned; `false` exactly where the
-    /// carrier takes no plans. The only error is want of memory.
+    /// carrier takes no plans.
     pub fn plan(&mut self, fates: &[Fate]) -> Result<bool, NoMemory>
         ensures taken { IfOk result (λ taken. taken ≡ self.old.takes_plans) }
         ensures ok { IfOk result (λ taken. self.new
@@ -273,7 +272,7 @@ impl<C: Carrier + Drop> Lane<C> {
         &self.work.state.journal
     }
 
-    /// The entry that was written with a stamp; takes no memory.
+    /// The entry that was written with a stamp.
     pub fn entry(&self, stamp: Stamp) -> Option<&Entry>
         ensures { option_copied result ≡ entry_at stamp self.now.journal }
     {

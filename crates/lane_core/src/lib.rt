@@ -13,24 +13,11 @@
 #![tactic(auto)]
 
 pub mod beginning;
-pub mod begun;
-pub mod job;
+pub mod deeds;
 pub mod lane;
-pub mod laws;
-pub mod maintaining;
-pub mod opening;
-pub mod operating;
 pub mod phases;
-pub mod preparing;
-pub mod shortfall;
-pub mod states;
-pub mod telling;
-pub mod upkeep;
 pub mod work;
 
+pub use deeds::{announce, maintain, open_lane, run_line, start, stop};
 pub use lane::Lane;
-pub use maintaining::maintain;
-pub use opening::open_lane;
-pub use operating::run_line;
-pub use telling::{announce, start, stop};
 pub use work::Work;

@@ -1,14 +1,16 @@
 -- What follows: newer, fresh, found.
-use Rattle.std.proofs.Common.{◌≡◌, ◌≢◌, ℕ, ◌<◌, ◌≤◌, Bool, true, false, [], ◌∷◌, Option, Some, None, refl, sym, ap, ◌∙◌, subst, arith, inl, inr, ◌⊎◌}
+use Rattle.std.proofs.Common.{◌≡◌, ◌≢◌, ℕ, ◌<◌, ◌≤◌, Bool, true, false, List, [], ◌∷◌, ◌++◌, Option, Some, None, refl, sym, ap, ◌∙◌, subst, arith, inl, inr, ◌⊎◌}
 use Rattle.std.proofs.lemmas.Bool.{cases_lt, cases_eq}
+use Rattle.std.proofs.lemmas.Bool.Decides.{nat_tests}
 use Rattle.lane_journals.specs.Sets.{AtLeast}
 use Rattle.lane_journals.specs.Stamps.{Stamp, Le}
-use Rattle.lane_journals.specs.Buckets.{Id, key_of}
-use Rattle.lane_journals.specs.Events.{Content, Body, ReadDoc, Store, Reply, Answer, Event, Begun, Prepared, Sent, Delivered}
-use Rattle.lane_journals.specs.Readers.{Journal, known, Beginning, began, stamps_of, Preparing, prepared, closed, before_line, opened, Message, sent, is_answer, Accepted, version, store, Given, AckedBy, Acked}
-use Rattle.lane_journals.specs.Facts.{InRegion, ReadAt, IsOpen}
+use Rattle.lane_journals.specs.Buckets.{Id, Bucket, key_of}
+use Rattle.lane_journals.specs.Events.{Content, Body, ReadDoc, Store, Reply, Answer, Event, Begun, Opened, Prepared, Sent, Delivered, Closed}
+use Rattle.lane_journals.specs.Readers.{Journal, known, Beginning, began, stamps_of, Preparing, prepared, closed, before_line, opened, Message, sent, is_answer, Accepted, version, store, Given, answered_store, AckedBy, Acked}
+use Rattle.lane_journals.specs.Facts.{InRegion, ReadAt, IsOpen, TookStore}
 use Rattle.lane_journals.specs.Legal.{IsNextStamp, MayBegin, MayPrepare, Belongs, MayCarry, MaySend, MayDeliver, MayClose, Legal}
 use Rattle.lane_journals.specs.Endings.{HasSeen}
+use Rattle.lane_durability.specs.Durability.{TookBefore}
 use Rattle.lane_journals.proofs.Order.{Le_trans, Le-at}
 use Rattle.lane_journals.proofs.Counts.{AtLeast-some, AtLeast-map, one_inside}
 use Rattle.lane_journals.proofs.Basics.{sent-stays, sent-cases, SentNow, sent_before, sent-member, sent-early, replied-sent, replied-accepted, first_reply-cases, accepted-cases, accepted-sent, began-cases, began-stays, prepared-stays, closed-before, opened-stays}
@@ -16,7 +18,7 @@ use Rattle.lane_journals.proofs.Beginnings.{before-same, before-now, lasting, be
 use Rattle.lane_journals.proofs.Rows.{PreparedNow, open-cases}
 use Rattle.lane_journals.proofs.Serials.{Accepts, accepts-at}
 use Rattle.lane_journals.proofs.Marks.{now-accepts, active-complete}
-use Rattle.lane_journals.proofs.Kept.{answered-took-op, store-line, stamp-line, stamp-bound, one-open}
+use Rattle.lane_journals.proofs.Kept.{TookOp, answered-took-op, store-line, stamp-line, stamp-bound, one-open}
 use Rattle.lane_durability.proofs.Bases.{facts, acked-cases, acked-opened, opened-published}
 use Rattle.lane_journals.proofs.Versions.{opened-version, sent-published}
 use Rattle.lane_journals.proofs.Regions.{region-active}
@@ -240,3 +242,51 @@ module _ (acks : ℕ) (P : ℕ → ℕ → Bool) (some : 1 ≤ acks) where
 
   pub late-message : (J : Journal) → Legal acks P J → (e : Event) → Legal acks P (e ∷ J) → (v k : ℕ) (m : Message) (r : Reply) → opened v J ≡ true → e ≡ Delivered k r → is_answer r ≡ true → sent k J ≡ Some m → m.version < v → P v m.receiver ≡ true → ⊥
   late-message J l' e l v k m r o is ans s lt p = let x = now-accepts acks P J e l.1 k m.receiver m r is ans s refl in late-outside J e l v m.receiver o x.0 (let z : (x.0).message.version ≡ m.version = ap (λ (y : Message). y.version) x.1 in omega arith) p
+
+  -- ---- at each close, and once a version is opened
+
+  legal-front : (later J : Journal) → Legal acks P (later ++ J) → Legal acks P J
+  legal-front [] J l = l
+  legal-front (e ∷ later) J l = legal-front later J l.0
+
+  -- a line that is closed was open until then
+  pub saw-nothing-older : (J : Journal) → Legal acks P J → (later run : Journal) (k : ℕ) (ok : Bool) (b : Beginning) (seen : Option Stamp) → J ≡ later ++ Closed k ok ∷ run → began k run ≡ Some b → HasSeen acks run k b seen → (w : ℕ) (s : Stamp) → Acked w b.id s (before_line k run) → Le (Some s) seen
+  saw-nothing-older J l later run k ok b seen is f h w s a =
+      let closing : Legal acks P (Closed k ok ∷ run) = legal-front later (Closed k ok ∷ run) (subst (Legal acks P) is l) in
+      let may : MayClose acks run k ok = closing.1 in
+      seen-current run closing.0 k b h.preparing seen (record { began = f; version = refl; prepared = h.was_prepared; unclosed = may.unclosed }) h w s a
+
+  opened-since : (later K : Journal) (d v : ℕ) (rows : List Bucket) → opened v (later ++ Opened d v rows ∷ K) ≡ true
+  opened-since [] K d v rows = grind (arith, nat_tests)
+  opened-since (e ∷ later) K d v rows = opened-stays v (later ++ Opened d v rows ∷ K) e (opened-since later K d v rows)
+
+  -- what a node of an opened version took of a smaller one, it took before
+  took-before : (later K : Journal) (d v : ℕ) (rows : List Bucket) → Legal acks P (later ++ Opened d v rows ∷ K) → (j : ℕ) (m : Message) → sent j (later ++ Opened d v rows ∷ K) ≡ Some m → Accepted j (later ++ Opened d v rows ∷ K) → m.version < v → P v m.receiver ≡ true → (sent j K ≡ Some m) × Accepted j K
+  took-before [] K d v rows l j m s a lt p = elim (accepted-cases j K (Opened d v rows) a) [
+    | inl before ↦ (sent_before acks P K j (Opened d v rows) m (accepted-sent acks P K l.0 j before) s, before)
+    | inr now ↦ other now.1
+  ]
+    where
+      other : {r : Reply} {A : Type 0} → Opened d v rows ≡ Delivered j r → A
+      other h = cc h
+  took-before (e ∷ later) K d v rows l j m s a lt p =
+      let J : Journal = later ++ Opened d v rows ∷ K in
+      elim (accepted-cases j J e a) [
+        | inl before ↦ took-before later K d v rows l.0 j m (sent_before acks P J j e m (accepted-sent acks P J l.0 j before) s) before lt p
+        | inr now ↦ (let q : MayDeliver J j now.0 = rw now.1 at l.1 in
+            let s' = sent_before acks P J j e m (q.message, q.was_sent) s in
+            absurd (late-message J l.0 e l v j m now.0 (opened-since later K d v rows) now.1 now.2 s' lt p))
+      ]
+
+  -- once a version is opened, no operation of a smaller one is acknowledged unless enough nodes took its entry before
+  pub answered-before : (J : Journal) → Legal acks P J → (later K : Journal) (d v : ℕ) (rows : List Bucket) → J ≡ later ++ Opened d v rows ∷ K → (w : ℕ) (id : Id) (s : Stamp) → w < v → Acked w id s J → TookBefore acks P v w id s K J
+  answered-before J l later K d v rows is w id s lt a = record {
+    enough = acked-answered acks P some J l w id s a;
+    before = λ n h p. took n h p (answered-took-op J w id s n h);
+    few = state-few acks P J l v (opened-published acks P some J l v (subst (λ (y : Journal). opened v y ≡ true) (sym is) (opened-since later K d v rows)));
+  }
+    where
+      took : (n : ℕ) → answered_store w id s n J ≡ true → P v n ≡ true → TookOp w n id s J → TookStore id s n K
+      took n h p t =
+          let x = took-before later K d v rows (subst (Legal acks P) is l) t.number t.message (subst (λ (y : Journal). sent t.number y ≡ Some t.message) is t.was_sent) (subst (λ (y : Journal). Accepted t.number y) is t.accepted) (let z = t.version in omega arith) (subst (λ (i : ℕ). P v i ≡ true) (sym t.receiver) p) in
+          record { number = t.number; message = t.message; was_sent = x.0; receiver = t.receiver; body = t.body; accepted = x.1 }

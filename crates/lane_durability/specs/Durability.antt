@@ -1,11 +1,11 @@
 -- The law on versions, and what it gives operations and searches.
-use Rattle.std.specs.Prelude.{◌≡◌, ℕ, ◌<◌, ◌≤◌, Bool, true, ◌⊎◌, ◌∷◌, Option, Some}
+use Rattle.std.specs.Prelude.{◌≡◌, ℕ, ◌<◌, ◌≤◌, Bool, true, ◌⊎◌, List, ◌∷◌, ◌++◌, Option, Some}
 use Rattle.lane_journals.specs.Sets.{count, AtLeast, both, outside}
 use Rattle.lane_journals.specs.Stamps.{Stamp, Le}
-use Rattle.lane_journals.specs.Buckets.{Id, key_of}
-use Rattle.lane_journals.specs.Events.{Content, Event, Delivered, Reply}
-use Rattle.lane_journals.specs.Readers.{Journal, published, known, Beginning, Preparing, began, before_line, opened, Message, sent, is_answer, version, store, base, Acked}
-use Rattle.lane_journals.specs.Facts.{InRegion, IsOpen, ReadAt}
+use Rattle.lane_journals.specs.Buckets.{Id, Bucket, key_of}
+use Rattle.lane_journals.specs.Events.{Content, Event, Opened, Delivered, Closed, Reply}
+use Rattle.lane_journals.specs.Readers.{Journal, published, known, Beginning, Preparing, began, before_line, opened, Message, sent, is_answer, version, store, base, answered_store, Acked}
+use Rattle.lane_journals.specs.Facts.{InRegion, IsOpen, ReadAt, TookStore}
 use Rattle.lane_journals.specs.Legal.{Legal}
 use Rattle.lane_journals.specs.Endings.{HasSeen}
 use Rattle.lane_journals.specs.Below.{below}
@@ -44,6 +44,11 @@ abbrev pub SeenIsCurrent : ℕ → Journal → Type 0
 SeenIsCurrent acks J = (line : ℕ) (b : Beginning) (p : Preparing) (seen : Option Stamp) → IsOpen b.version line b p J → HasSeen acks J line b seen
     → (w : ℕ) (s : Stamp) → Acked w b.id s (before_line line J) → Le (Some s) seen
 
+-- a line that is closed, if it saw something, saw nothing older than what was acknowledged before it began
+abbrev pub SawNothingOlder : ℕ → Journal → Type 0
+SawNothingOlder acks J = (later run : Journal) (line : ℕ) (ok : Bool) (b : Beginning) (seen : Option Stamp) → J ≡ later ++ Closed line ok ∷ run
+    → began line run ≡ Some b → HasSeen acks run line b seen → (w : ℕ) (s : Stamp) → Acked w b.id s (before_line line run) → Le (Some s) seen
+
 -- no key lies in the regions of one version at two nodes
 abbrev pub CountedOnce : Journal → Type 0
 CountedOnce J = (v n m key : ℕ) → InRegion v n key J → InRegion v m key J → n ≡ m
@@ -61,3 +66,15 @@ LateAreOutside acks P J = (e : Event) → Legal acks P (e ∷ J) → (v k : ℕ)
 -- and fewer known nodes than a write needs are outside
 abbrev pub FewAreOutside : ℕ → (ℕ → ℕ → Bool) → Journal → Type 0
 FewAreOutside acks P J = (v : ℕ) → published v J ≡ true → count (both (λ n. known v n J) (outside (P v))) < acks
+
+-- enough nodes took what an operation of version w wrote: those that serve under v before v was opened, and fewer than a
+-- write needs are other nodes
+pub record TookBefore (acks : ℕ) (P : ℕ → ℕ → Bool) (v w : ℕ) (id : Id) (s : Stamp) (K J : Journal) : Type 0 where
+  pub enough : AtLeast acks (λ n. answered_store w id s n J ≡ true)
+  pub before : (n : ℕ) → answered_store w id s n J ≡ true → P v n ≡ true → TookStore id s n K
+  pub few : count (both (λ n. known v n J) (outside (P v))) < acks
+
+-- once a version is opened, no operation of a smaller one is acknowledged unless enough answers were given before
+abbrev pub AnsweredBefore : ℕ → (ℕ → ℕ → Bool) → Journal → Type 0
+AnsweredBefore acks P J = (later K : Journal) (d v : ℕ) (rows : List Bucket) → J ≡ later ++ Opened d v rows ∷ K
+    → (w : ℕ) (id : Id) (s : Stamp) → w < v → Acked w id s J → TookBefore acks P v w id s K J

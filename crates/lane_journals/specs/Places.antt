@@ -1,12 +1,12 @@
 -- What the cluster states say of places: who owns the lane, which nodes are the targets of a row and in which
 -- order they come, into which rows an opening parts the lane.
-use Rattle.std.specs.Prelude.{◌≡◌, ◌≢◌, ◌==◌, ◌⊎◌, ◌↔◌, ◌≤◌, ℕ, true, List, [], ◌∷◌, ◌++◌, Option, Some, None, take, codes, is_some, Contains, if◌then◌else◌}
+use Rattle.std.specs.Prelude.{◌≡◌, ◌≢◌, ◌==◌, ◌⊎◌, ◌↔◌, ◌≤◌, ℕ, true, List, [], ◌∷◌, ◌++◌, Option, Some, None, take, is_some, Contains, if◌then◌else◌}
 use Rattle.bucket_ids.specs.Buckets.{IsBucket, parent_of}
 use Rattle.node_sets.specs.Members.{has_node}
 use Rattle.cluster_states.specs.declared.cluster_state.ClusterState.{ClusterState}
 use Rattle.cluster_states.specs.Publishing.{Told, distributor_fault, up_fault}
-use Rattle.ideal_nodes.specs.Scores.{score_of, Ranks, Has}
-use Rattle.ideal_nodes.specs.Placement.{IsIdeal, IsOwner}
+use Rattle.ideal_nodes.specs.Scores.{Has}
+use Rattle.ideal_nodes.specs.Placement.{Precedes, IsIdeal, IsOwner}
 use Rattle.lane_journals.specs.Buckets.{Bucket, contains, same_bucket, covers, first_child, second_child, key_of}
 use Rattle.lane_journals.specs.Readers.{Journal, or_else, only_if, row_in, active, Given, asked}
 use Rattle.lane_journals.specs.Facts.{AnsweredReady, IsRow, IsMember}
@@ -74,7 +74,7 @@ pub record IsFirstMember (S : Setting) (J : List LaneEvent) (v : ℕ) (b : Bucke
   pub ideal : List ℕ
   pub is_ideal : IsIdeal b state ideal
   pub listed : Has n ideal
-  pub first : (m : ℕ) → Has m ideal → IsMember v m b (history J) → (m ≡ n) ⊎ Ranks (score_of (codes "ideal") b) n m
+  pub first : (m : ℕ) → Has m ideal → IsMember v m b (history J) → (m ≡ n) ⊎ Precedes b state n m
 
 -- the receivers of the bucket's newest round
 abbrev pub receivers_of : ℕ → Bucket → List LaneEvent → Option ℕ

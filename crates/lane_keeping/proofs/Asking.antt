@@ -25,7 +25,7 @@ use Rattle.distributor_part.specs.Parts.{Part, new_part, rows_of}
 use Rattle.distributor_part.specs.Steps.{IsAfterAnswer, Opens, buckets_shown}
 use Rattle.lane_journals.specs.Events as plain
 use Rattle.lane_journals.specs.Readers as readers
-use Rattle.lane_journals.specs.Readers.{Given, or_else, only_if, sent, began, closed, first_reply, returned, held, asked, given_by, opened}
+use Rattle.lane_journals.specs.Readers.{or_else, only_if, sent, began, closed, first_reply, returned, held, asked, opened}
 use Rattle.lane_journals.specs.Legal.{Parted}
 use Rattle.lane_journals.specs.RowLists.{row_with, rows}
 use Rattle.lane_journals.specs.Meanings.{history, entry_at, meaning_reply, content}
@@ -33,9 +33,9 @@ use Rattle.lane_journals.specs.Places.{Setting}
 use Rattle.lane_journals.specs.KeptJournals.{IsLegalStep}
 use Rattle.lane_journals.specs.declared.event.LaneEvent.{LaneEvent}
 use Rattle.lane_journals.specs.declared.event.LaneEvent.TheVariants as event
-use Rattle.node_journals.specs.NodeKeeping.{NodeKeeps}
-use Rattle.node_journals.specs.Flights.{IsInFlight, Brings, IsWhole, meant}
-use Rattle.node_journals.specs.Replaying.{sending, delivered}
+use Rattle.lane_keeping.specs.NodeKeeping.{NodeKeeps}
+use Rattle.lane_keeping.specs.Flights.{IsInFlight, Brings, IsWhole, meant}
+use Rattle.lane_keeping.specs.Replaying.{sending, delivered}
 use Rattle.lane_keeping.specs.LaneKeeping.{setting_of, IsIdle, node_in, AreShown, KnowsOpening, IsRowOf, row_by, PartKeeps, part_in, Keeps}
 use Rattle.lane_keeping.specs.Asking.{IsAsking, IsAlike, KnowsTheSame, IsPartTold, unkept, IsTakenBy, OthersStay, IsToldTo}
 use Rattle.lane_keeping.specs.Laws.{IsSentNext}

@@ -25,9 +25,9 @@ use Rattle.lane_journals.specs.KeptJournals.{IsLegal, IsLegalStep}
 use Rattle.lane_journals.specs.declared.event.LaneEvent.{LaneEvent}
 use Rattle.lane_journals.specs.declared.event.LaneEvent.TheVariants as event
 use Rattle.lane_journals.proofs.Basics.{or_else-cases, only_if-some, sent-stays, first_reply-stays}
-use Rattle.node_journals.specs.NodeKeeping.{NodeKeeps}
-use Rattle.node_journals.specs.Flights.{IsInFlight, Brings, IsWhole, meant}
-use Rattle.node_journals.specs.Replaying.{IsNoDelivery, IsTaken, OfTaken, sending, delivered}
+use Rattle.lane_keeping.specs.NodeKeeping.{NodeKeeps}
+use Rattle.lane_keeping.specs.Flights.{IsInFlight, Brings, IsWhole, meant}
+use Rattle.lane_keeping.specs.Replaying.{IsNoDelivery, IsTaken, OfTaken, sending, delivered}
 use Rattle.lane_keeping.specs.LaneKeeping.{setting_of, AreNumbered, IsNewest, IsPartOf, node_in, PartsKeep, part_in, Keeps}
 use Rattle.lane_keeping.specs.Asking.{IsJustSent, IsTakenBy}
 use Rattle.lane_keeping.specs.Laws.{IsQuietEvent, IsNoAsk, IsKeptNext, IsSentNext}

@@ -17,7 +17,7 @@ use Rattle.distributor_part.specs.Steps.{HasRows, buckets_shown}
 use Rattle.lane_journals.specs.Buckets.{contains, same_bucket}
 use Rattle.lane_journals.specs.Events.{Content, Ask, Reply, Answer, Returned}
 use Rattle.lane_journals.specs.Readers as readers
-use Rattle.lane_journals.specs.Readers.{Journal, Given, or_else, sent, first_reply, returned, published, held, asked, asked_of, is_ask, given_by, opened}
+use Rattle.lane_journals.specs.Readers.{Journal, Given, or_else, sent, first_reply, returned, published, asked, asked_of, is_ask, given_by, opened}
 use Rattle.lane_journals.specs.Facts.{AnsweredAsk}
 use Rattle.lane_journals.specs.Legal.{Parted}
 use Rattle.lane_journals.specs.RowLists as listed

@@ -26,8 +26,8 @@ use Rattle.lane_journals.specs.declared.event.LaneEvent.TheVariants as event
 use Rattle.lane_journals.proofs.Basics.{or_else-some, or_else-cases, only_if-some}
 use Rattle.lane_journals.proofs.Meant.{state-published, state-serves}
 use Rattle.lane_journals.proofs.RowLists.{no_rows}
-use Rattle.node_journals.specs.NodeKeeping.{NodeKeeps}
-use Rattle.node_journals.specs.Replaying.{sending, delivered}
+use Rattle.lane_keeping.specs.NodeKeeping.{NodeKeeps}
+use Rattle.lane_keeping.specs.Replaying.{sending, delivered}
 use Rattle.lane_keeping.specs.LaneKeeping.{setting_of, IsIdle, node_in, KnowsOpening, IsRowOf, Holds, PartKeeps, part_in, Keeps}
 use Rattle.lane_keeping.proofs.Acting.{Acted, not-yet, unopened, unasked}
 use Rattle.proof_basics.proofs.Numbers.{apart}

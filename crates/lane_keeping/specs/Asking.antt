@@ -17,7 +17,7 @@ use Rattle.distributor_part.specs.Steps.{buckets_shown}
 use Rattle.lane_journals.specs.Readers.{first_reply, returned}
 use Rattle.lane_journals.specs.Meanings.{history}
 use Rattle.lane_journals.specs.declared.event.LaneEvent.{LaneEvent}
-use Rattle.node_journals.specs.Flights.{IsInFlight}
+use Rattle.lane_keeping.specs.Flights.{IsInFlight}
 use Rattle.lane_keeping.specs.LaneKeeping.{node_in, part_in}
 
 -- the owner's part, whose state isn't opened, asks a serving node that hasn't answered

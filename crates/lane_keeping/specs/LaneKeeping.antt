@@ -22,7 +22,7 @@ use Rattle.lane_journals.specs.Meanings.{history}
 use Rattle.lane_journals.specs.Places.{Setting, state_in}
 use Rattle.lane_journals.specs.KeptJournals.{IsLegal}
 use Rattle.lane_journals.specs.declared.event.LaneEvent.{LaneEvent}
-use Rattle.node_journals.specs.NodeKeeping.{NodeKeeps}
+use Rattle.lane_keeping.specs.NodeKeeping.{NodeKeeps}
 
 -- what a lane's bucket and its rules set up
 abbrev pub setting_of : Low → Rules → Setting

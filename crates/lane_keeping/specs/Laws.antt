@@ -13,7 +13,7 @@ use Rattle.lane_journals.specs.Meanings.{is_acked}
 use Rattle.lane_journals.specs.KeptJournals.{IsLegalStep}
 use Rattle.lane_journals.specs.declared.event.LaneEvent.{LaneEvent}
 use Rattle.lane_journals.specs.declared.event.LaneEvent.TheVariants.{Begun, Refused, Prepared, Wrote, Closed, Decided, Stopped, Started}
-use Rattle.node_journals.specs.Replaying.{sending}
+use Rattle.lane_keeping.specs.Replaying.{sending}
 use Rattle.lane_keeping.specs.LaneKeeping.{setting_of, Keeps}
 use Rattle.lane_keeping.specs.Asking.{IsJustSent}
 

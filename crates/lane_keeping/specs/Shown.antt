@@ -11,7 +11,7 @@ use Rattle.lane_journals.specs.Buckets.{Id}
 use Rattle.lane_journals.specs.Readers.{store}
 use Rattle.lane_journals.specs.Meanings.{history}
 use Rattle.lane_journals.specs.declared.event.LaneEvent.{LaneEvent}
-use Rattle.node_journals.specs.NodeKeeping.{stamp_of}
+use Rattle.lane_keeping.specs.NodeKeeping.{stamp_of}
 use Rattle.lane_keeping.specs.LaneKeeping.{PartKeeps}
 
 abbrev pub node_or_new : Option Node → Node

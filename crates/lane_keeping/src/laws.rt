@@ -29,14 +29,14 @@ ghost use Rattle.lane_journals.specs.Meanings.{history, entry_at};
 ghost use Rattle.lane_journals.specs.KeptJournals.{IsLegalStep};
 ghost use Rattle.lane_journals.specs.declared.event.LaneEvent.{LaneEvent};
 ghost use Rattle.lane_journals.specs.declared.event.LaneEvent.TheVariants.{Published, Heard, Opened, Returned, Closed, Decided};
-ghost use Rattle.node_journals.specs.Flights.{IsInFlight, Brings, IsWhole};
-ghost use Rattle.node_journals.specs.Replaying.{sending, delivered};
+ghost use Rattle.lane_keeping.specs.Flights.{IsInFlight, Brings, IsWhole};
+ghost use Rattle.lane_keeping.specs.Replaying.{sending, delivered};
 ghost use Rattle.lane_keeping.specs.LaneKeeping.{setting_of, IsIdle, KnowsOpening, part_in, Keeps};
 ghost use Rattle.lane_keeping.specs.Acting.{IsActing, IsKnownRow, IsNoHearing};
 ghost use Rattle.lane_keeping.specs.Asking.{IsAsking, IsJustSent, KnowsTheSame, IsPartTold, unkept, IsTakenBy, OthersStay, IsToldTo};
 ghost use Rattle.lane_keeping.specs.Laws.{OfKept, IsQuietEvent, IsNoAsk, IsKeptNext, IsSentNext};
 
-use node_journals::laws::{messages_fly, nodes_replay, nodes_wait};
+use crate::node_laws::{messages_fly, nodes_replay, nodes_wait};
 
 /// A lane in which nothing happened keeps the empty journal.
 pub fn lanes_begin()

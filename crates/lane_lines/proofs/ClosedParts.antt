@@ -1,5 +1,5 @@
 -- The marks that a close takes at its owner's part.
-use Rattle.std.proofs.Common.{◌≡◌, ℕ, ◌<◌, true, false, List, ◌∷◌, length, Option, Some, slice_set, sym, ap, subst, ◌≢◌, ◌≤◌, Bool, None, IsSome, is_some, rules, nat_eq, nat_lt, refl, ◌∙◌, arith}
+use Rattle.std.proofs.Common.{◌≡◌, ℕ, ◌<◌, true, false, List, length, Option, Some, slice_set, sym, ap, subst, ◌≢◌, ◌≤◌, Bool, None, IsSome, is_some, rules, nat_eq, nat_lt, refl, ◌∙◌, arith}
 use Rattle.bucket_ids.specs.Buckets.{Low}
 use Rattle.cluster_states.specs.declared.cluster_state.ClusterState.{ClusterState}
 use Rattle.bucket_db.specs.Rows.{Rows}

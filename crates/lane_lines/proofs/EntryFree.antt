@@ -7,16 +7,16 @@ use Rattle.messages.specs.declared.message.Message.{Message}
 use Rattle.messages.specs.declared.late.Late.{Late}
 use Rattle.lane_journals.specs.declared.event.LaneEvent.{LaneEvent}
 use Rattle.lane_journals.specs.declared.event.LaneEvent.TheVariants.{Opened}
-use Rattle.node_journals.specs.Replaying.{sending}
+use Rattle.lane_keeping.specs.Replaying.{sending}
 use Rattle.lane_carriage.specs.Waits.{numbers}
 use Rattle.lane_states.specs.declared.lane_state.LaneState.{LaneState}
-use Rattle.round_runs.specs.declared.round_run.RoundRun.{RoundRun}
-use Rattle.round_runs.specs.declared.round_run.RoundEnd.{RoundEnd}
+use Rattle.round_keeping.specs.declared.round_run.RoundRun.{RoundRun}
+use Rattle.round_keeping.specs.declared.round_run.RoundEnd.{RoundEnd}
 use Rattle.lane_carriage.specs.Carrying.{met_at}
 use Rattle.lane_states.specs.LaneStates.{journal_of}
 use Rattle.lane_rounds.specs.Openings.{EndsOpening, StopsOpening}
 use Rattle.lane_rounds.specs.declared.opening.OpeningEnd.{OpeningEnd}
-use Rattle.round_runs.specs.RoundRuns.{Sends, IsRoundRun, Nothing, Further, Begins, IsWholeRun, IsCutShort}
+use Rattle.round_keeping.specs.RoundRuns.{Sends, IsRoundRun, Nothing, Further, Begins, IsWholeRun, IsCutShort}
 use Rattle.lane_states.specs.Written.{AddsNoEntry}
 use Rattle.lane_carriage.proofs.Staying.{stays-delivered, stays-dealt}
 use Rattle.lane_rounds.proofs.Staying.{stays-ended, stays-stopped}

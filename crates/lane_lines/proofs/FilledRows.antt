@@ -40,10 +40,10 @@ use Rattle.operation_keeping.proofs.Counting.{small, count_nodes-is}
 use Rattle.proof_basics.proofs.Tests.{not_answered}
 use Rattle.line_wants.specs.Wants.{Ends, EndsUnless, NoRoundSince, reads_short, union_short, is_round_read, is_round_apply, AfterRound, ShortWants}
 use Rattle.lane_states.specs.declared.lane_state.LaneState.{LaneState}
-use Rattle.round_runs.specs.declared.round_run.RoundRun.{RoundRun}
-use Rattle.round_runs.specs.declared.round_run.RoundEnd.{RoundEnd}
+use Rattle.round_keeping.specs.declared.round_run.RoundRun.{RoundRun}
+use Rattle.round_keeping.specs.declared.round_run.RoundEnd.{RoundEnd}
 use Rattle.lane_states.specs.LaneStates.{journal_of, part_of, IsKept}
-use Rattle.round_runs.specs.RoundRuns.{WasRefused, is_read_in, is_apply_in, NoneRuns, are_missing, is_short, EndsWith, IsEnd, IsWholeRun}
+use Rattle.round_keeping.specs.RoundRuns.{WasRefused, is_read_in, is_apply_in, NoneRuns, are_missing, is_short, EndsWith, IsEnd, IsWholeRun}
 use Rattle.lane_lines.specs.declared.readying.Shortage.{Shortage}
 use Rattle.lane_lines.specs.declared.readying.Shortage.TheVariants as shortage
 use Rattle.lane_lines.specs.Readying.{outcome_of, IsToPrepare, BeganNoRound, EndsShort, HasRowFor, FindsOr}

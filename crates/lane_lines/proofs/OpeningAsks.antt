@@ -15,7 +15,7 @@ use Rattle.lane_journals.specs.Meanings.{history}
 use Rattle.lane_journals.specs.KeptJournals.{IsLegal}
 use Rattle.lane_journals.specs.declared.event.LaneEvent.{LaneEvent}
 use Rattle.lane_journals.specs.declared.event.LaneEvent.TheVariants.{Delivered, Returned}
-use Rattle.node_journals.specs.Replaying.{sending}
+use Rattle.lane_keeping.specs.Replaying.{sending}
 use Rattle.lane_keeping.specs.LaneKeeping.{PartKeeps, setting_of}
 use Rattle.operation_keeping.specs.OperationKeeping.{WasShort}
 use Rattle.line_wants.specs.Wants.{IsRun, Same, More, WasAskedIn, is_ask}

@@ -27,7 +27,7 @@ use Rattle.lane_journals.proofs.Basics.{sent-stays, sent-cases, first_reply-stay
 use Rattle.proof_basics.proofs.Options.{some-none}
 use Rattle.lane_journals.proofs.Beginnings.{lasting}
 use Rattle.lane_journals.proofs.Meant.{meant-legal}
-use Rattle.node_journals.specs.Replaying.{sending}
+use Rattle.lane_keeping.specs.Replaying.{sending}
 use Rattle.lane_keeping.specs.LaneKeeping.{setting_of}
 use Rattle.lane_keeping.specs.Acting.{IsNoHearing}
 use Rattle.lane_keeping.proofs.Owners.{acting-stays}

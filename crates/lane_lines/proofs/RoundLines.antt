@@ -26,17 +26,17 @@ use Rattle.lane_journals.proofs.Beginnings.{lasting}
 use Rattle.lane_journals.proofs.BucketLaws.{same_bucket-refl}
 use Rattle.lane_keeping.specs.Acting.{IsActing}
 use Rattle.line_wants.specs.Wants.{NoRoundSince}
-use Rattle.round_runs.specs.declared.round_run.RoundRun.{RoundRun}
-use Rattle.round_runs.specs.declared.round_run.RoundEnd.{RoundEnd}
+use Rattle.round_keeping.specs.declared.round_run.RoundRun.{RoundRun}
+use Rattle.round_keeping.specs.declared.round_run.RoundEnd.{RoundEnd}
 use Rattle.lane_states.specs.LaneStates.{IsResting}
 use Rattle.lane_keeping.specs.Tidings.{last_state}
 use Rattle.lane_lines.specs.Steps.{IsUneventful}
-use Rattle.round_runs.specs.RoundRuns.{NoneRuns, MayBegin, Begins, EndsRun, IsWholeRun, IsCutShort}
+use Rattle.round_keeping.specs.RoundRuns.{NoneRuns, MayBegin, Begins, EndsRun, IsWholeRun, IsCutShort}
 use Rattle.lane_lines.specs.RoundLines.{IsBegunFor, IsWaitedFor}
 use Rattle.lane_lines.specs.Readying.{IsToPrepare, BeganNoRound}
 use Rattle.proof_basics.proofs.Options.{some_same as some-same}
 use Rattle.lane_states.proofs.SameStates.{same-state}
-use Rattle.round_runs.proofs.Staying.{stays-round}
+use Rattle.round_keeping.proofs.Staying.{stays-round}
 use Rattle.lane_carriage.proofs.Staying.{IsOfMessage}
 
 -- ---- a line that is to be prepared

@@ -16,10 +16,10 @@ use Rattle.lane_keeping.specs.LaneKeeping.{part_in}
 use Rattle.lane_keeping.specs.Asking.{OthersStay}
 use Rattle.line_wants.specs.Wants.{IsRun, Same, IsCutRun}
 use Rattle.lane_states.specs.declared.lane_state.LaneState.{LaneState}
-use Rattle.round_runs.specs.declared.round_run.RoundRun.{RoundRun}
-use Rattle.round_runs.specs.declared.round_run.RoundEnd.{RoundEnd}
+use Rattle.round_keeping.specs.declared.round_run.RoundRun.{RoundRun}
+use Rattle.round_keeping.specs.declared.round_run.RoundEnd.{RoundEnd}
 use Rattle.lane_states.specs.LaneStates.{journal_of, IsResting}
-use Rattle.round_runs.specs.RoundRuns.{NoneRuns, EndsEnough, Begins, IsWholeRun, IsCutShort}
+use Rattle.round_keeping.specs.RoundRuns.{NoneRuns, EndsEnough, Begins, IsWholeRun, IsCutShort}
 use Rattle.lane_lines.specs.RoundLines.{IsBegunFor, IsWaitedFor, OfWaited}
 use Rattle.lane_lines.specs.Steps.{IsUneventful}
 use Rattle.lane_lines.specs.Readying.{IsToPrepare, BeganNoRound, GoesOnWith, IsCutOffWith}

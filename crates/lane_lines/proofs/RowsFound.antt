@@ -11,7 +11,7 @@ use Rattle.lane_keeping.specs.Asking.{OthersStay}
 use Rattle.line_wants.specs.Wants.{IsRun, IsCutRun, Same, More}
 use Rattle.lane_states.specs.declared.lane_state.LaneState.{LaneState}
 use Rattle.lane_states.specs.LaneStates.{journal_of, part_of}
-use Rattle.round_runs.specs.RoundRuns.{NoneRuns}
+use Rattle.round_keeping.specs.RoundRuns.{NoneRuns}
 use Rattle.lane_lines.specs.Steps.{IsUneventful}
 use Rattle.lane_lines.specs.Readying.{IsToPrepare, AskedNobody, BeganNoRound, IsForLine, IsForNewLine, OfUnprepared, GoesOnWith, IsCutOffWith, IsOpenedFor, OpensOr, FindsOr}
 use Rattle.lane_lines.specs.declared.readying.Shortage.{Shortage}

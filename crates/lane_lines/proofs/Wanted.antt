@@ -22,17 +22,17 @@ use Rattle.lane_journals.specs.Readers.{prepared, running}
 use Rattle.lane_journals.specs.Meanings.{history}
 use Rattle.lane_journals.specs.declared.event.LaneEvent.{LaneEvent}
 use Rattle.lane_journals.specs.declared.event.LaneEvent.TheVariants.{Delivered, Returned, Decided}
-use Rattle.node_journals.specs.Replaying.{sending}
+use Rattle.lane_keeping.specs.Replaying.{sending}
 use Rattle.lane_keeping.specs.Acting.{IsActing, IsKnownRow}
 use Rattle.lane_keeping.specs.LaneKeeping.{PartKeeps}
 use Rattle.round_keeping.specs.RoundKeeping.{KnowsRound}
 use Rattle.operation_keeping.specs.OperationKeeping.{IsUnderWay}
 use Rattle.line_wants.specs.Wants.{Adds, Wants, NoRoundSince, RoundGives, IsRun, Same, More, IsCutRun}
 use Rattle.lane_carriage.specs.Carrying.{met_at}
-use Rattle.round_runs.specs.RoundRuns.{SendsNext, IsRoundRun, Nothing, Further, IsRunning, NoneRuns, Begins, IsWholeRun, IsCutShort}
+use Rattle.round_keeping.specs.RoundRuns.{SendsNext, IsRoundRun, Nothing, Further, IsRunning, NoneRuns, Begins, IsWholeRun, IsCutShort}
 use Rattle.lane_lines.specs.RoundLines.{IsBegunFor, IsWaitedFor}
-use Rattle.round_runs.specs.declared.round_run.RoundRun.{RoundRun}
-use Rattle.round_runs.specs.declared.round_run.RoundEnd.{RoundEnd}
+use Rattle.round_keeping.specs.declared.round_run.RoundRun.{RoundRun}
+use Rattle.round_keeping.specs.declared.round_run.RoundEnd.{RoundEnd}
 use Rattle.lane_carriage.proofs.GivenOut.{over-all}
 
 module _ (lane : Low) (rules : Rules) (d : ℕ) (s : ClusterState) (line : ℕ) (o : Operation) (stamp : Option Stamp) (row : Low) (inside : contains row (key_of o.id) ≡ true) where

@@ -1,5 +1,5 @@
 -- Whose operation a round is for.
-use Rattle.std.specs.Prelude.{◌≡◌, ℕ, List, ◌∷◌, Option, None}
+use Rattle.std.specs.Prelude.{◌≡◌, ℕ, List, Option, None}
 use Rattle.bucket_ids.specs.Buckets.{Low}
 use Rattle.stamps.specs.declared.stamp.Stamp.{Stamp}
 use Rattle.messages.specs.declared.operation.Operation.{Operation}
@@ -9,7 +9,7 @@ use Rattle.lane_journals.specs.Meanings.{history}
 use Rattle.lane_journals.specs.declared.event.LaneEvent.{LaneEvent}
 use Rattle.operation_keeping.specs.OperationKeeping.{IsUnderWay}
 use Rattle.line_wants.specs.Wants.{NoRoundSince}
-use Rattle.round_runs.specs.declared.round_run.RoundRun.{RoundRun}
+use Rattle.round_keeping.specs.declared.round_run.RoundRun.{RoundRun}
 
 -- the round that begins is for the operation of a line, which isn't prepared yet and began no round of its row before
 pub record IsBegunFor (lane : Low) (J : List LaneEvent) (x : RoundRun) (line : ℕ) (o : Operation) (stamp : Option Stamp) : Type 0 where

@@ -1,7 +1,7 @@
-ghost use Rattle.std.specs.Prelude.{◌≡◌, ◌<◌, ℕ, IsSome, IfOk, OnErr, vec_len};
+ghost use Rattle.std.specs.Prelude.{◌≡◌, ◌<◌, IsSome, IfOk, OnErr, vec_len};
 ghost use Rattle.lane_keeping.specs.Asking.{OthersStay};
 ghost use Rattle.lane_states.specs.LaneStates.{journal_of, IsKept, HasRoom, part_of, IsResting, IsCarriedBy, IsSetUp};
-ghost use Rattle.round_runs.specs.RoundRuns.{NoneRuns};
+ghost use Rattle.round_keeping.specs.RoundRuns.{NoneRuns};
 ghost use Rattle.lane_lines.specs.Steps.{IsUneventful};
 ghost use Rattle.lane_states.specs.Written.{AddsNoEntry};
 ghost use Rattle.lane_lines.specs.FilledRows.{shortage_after, IsFound};
@@ -18,11 +18,11 @@ use line_wants::laws::rounds_reach_enough;
 use node_sets::NodeSet;
 use op_machine::counting::absent_in;
 use operation_keeping::laws::{operations_end, preparing_ends};
+use round_keeping::RoundEnd;
 use round_keeping::laws::rounds_fall_short;
-use round_runs::RoundEnd;
 use value_lists::NoMemory;
 
-/// Why an operation ends whose row has too few complete members after its round; takes no memory.
+/// Why an operation ends whose row has too few complete members after its round.
 fn shortage_of(end: &RoundEnd, serving: NodeSet, acks: u8) -> Shortage
     ensures { result ≡ shortage_after end.now serving acks }
 {
@@ -44,7 +44,7 @@ fn shortage_of(end: &RoundEnd, serving: NodeSet, acks: u8) -> Shortage
 }
 
 /// What the row of an operation comes to after its round: none where it has enough complete members, else why the
-/// operation ends. Takes no memory.
+/// operation ends.
 fn found_after(end: &RoundEnd, serving: NodeSet, acks: u8) -> Option<Shortage>
     ensures { IsFound end.now serving acks result }
 {
@@ -55,7 +55,7 @@ fn found_after(end: &RoundEnd, serving: NodeSet, acks: u8) -> Option<Shortage>
 }
 
 /// Runs a round in the row of the key where that has too few complete members; answers why the operation of
-/// the line ends where they are too few after it. The only error is want of memory.
+/// the line ends where they are too few after it.
 pub fn fill_row<C: Carrier>(
     lane: &mut LaneState,
     distributor: u8,

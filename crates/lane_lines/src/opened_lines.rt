@@ -1,8 +1,8 @@
-ghost use Rattle.std.specs.Prelude.{◌≡◌, ◌<◌, ℕ, None, IfOk, OnErr, vec_len};
+ghost use Rattle.std.specs.Prelude.{◌≡◌, ◌<◌, None, IfOk, OnErr, vec_len};
 ghost use Rattle.node_sets.specs.Members.{has_node};
 ghost use Rattle.lane_keeping.specs.Asking.{OthersStay};
 ghost use Rattle.lane_states.specs.LaneStates.{journal_of, IsKept, HasRoom, part_of, IsResting, IsCarriedBy};
-ghost use Rattle.round_runs.specs.RoundRuns.{NoneRuns};
+ghost use Rattle.round_keeping.specs.RoundRuns.{NoneRuns};
 ghost use Rattle.lane_lines.specs.Steps.{IsUneventful};
 ghost use Rattle.lane_states.specs.Written.{AddsNoEntry};
 ghost use Rattle.lane_lines.specs.OpeningRuns.{opening_shortage};
@@ -19,7 +19,7 @@ use op_machine::counting::absent_in;
 use operation_keeping::laws::operations_end;
 use value_lists::NoMemory;
 
-/// Why an operation ends where these nodes haven't answered an Ask; all that serve are needed. Takes no memory.
+/// Why an operation ends where these nodes haven't answered an Ask; all that serve are needed.
 fn shortage_of(serving: NodeSet, answered: NodeSet, missing: NodeSet, short: bool) -> Shortage
     ensures { result ≡ opening_shortage (has_node serving) answered missing short }
 {
@@ -45,7 +45,7 @@ fn answered_at(lane: &LaneState, distributor: u8) -> NodeSet
 }
 
 /// Opens the state of the owner for the operation of a line, which answers why it ends where not all nodes
-/// answer. The only error is want of memory.
+/// answer.
 pub fn open_for_line<C: Carrier>(
     lane: &mut LaneState,
     distributor: u8,

@@ -2,7 +2,7 @@ ghost use Rattle.std.specs.Prelude.{◌≡◌, ◌<◌, IfOk, OnErr, vec_len, is
 ghost use Rattle.bucket_ids.specs.Buckets.{IsIn};
 ghost use Rattle.lane_keeping.specs.Asking.{OthersStay};
 ghost use Rattle.lane_states.specs.LaneStates.{journal_of, IsKept, HasRoom, part_of, IsResting, IsCarriedBy, IsSetUp};
-ghost use Rattle.round_runs.specs.RoundRuns.{NoneRuns};
+ghost use Rattle.round_keeping.specs.RoundRuns.{NoneRuns};
 ghost use Rattle.lane_lines.specs.Steps.{IsUneventful};
 ghost use Rattle.lane_states.specs.Written.{AddsNoEntry};
 ghost use Rattle.lane_lines.specs.Readying.{outcome_of, AskedNobody, BeganNoRound, IsForNewLine, OfUnprepared, GoesOnWith, IsCutOffWith, HasRowWith, FindsOr};
@@ -29,7 +29,7 @@ pub enum Shortage {
 }
 
 impl Shortage {
-    /// The outcome of the operation; takes no memory.
+    /// The outcome of the operation.
     pub fn outcome(self) -> Outcome
         ensures { result ≡ outcome_of self }
     {
@@ -56,8 +56,7 @@ fn has_rows(lane: &LaneState, distributor: u8) -> bool
     lane.parts[usize::from(distributor)].is_opened()
 }
 
-/// Opens the state, and finds the row of the key for the operation of a new line. The only error is want of
-/// memory.
+/// Opens the state, and finds the row of the key for the operation of a new line.
 fn open_row<C: Carrier>(
     lane: &mut LaneState,
     distributor: u8,
@@ -108,7 +107,7 @@ fn open_row<C: Carrier>(
 
 /// Finds the row of the key for the operation of a new line, with enough complete members: the state is
 /// opened where it isn't, and a round is run where they are too few. Answers why the operation ends where it finds
-/// none. The only error is want of memory.
+/// none.
 pub fn find_row<C: Carrier>(
     lane: &mut LaneState,
     distributor: u8,

@@ -11,7 +11,7 @@ ghost use Rattle.lane_journals.specs.declared.event.LaneEvent.TheVariants as eve
 ghost use Rattle.lane_carriage.specs.Carriage.{IsDealt};
 ghost use Rattle.lane_carriage.specs.Readers.{IsPrompt};
 ghost use Rattle.lane_carriage.specs.Waits.{kept_by};
-ghost use Rattle.node_journals.specs.Flights.{IsInFlight};
+ghost use Rattle.lane_keeping.specs.Flights.{IsInFlight};
 ghost use Rattle.lane_keeping.specs.LaneKeeping.{setting_of};
 ghost use Rattle.lane_keeping.specs.Asking.{IsJustSent};
 ghost use Rattle.lane_states.specs.LaneStates.{journal_of, IsKept, HasRoom, Receives, IsCarriedBy, StaysCarried};
@@ -24,17 +24,16 @@ use documents::SharedEntry;
 use lane_carriage::laws::late_messages_wait;
 use lane_journals::LaneEvent;
 use lane_keeping::laws::events_are_kept;
+use lane_keeping::node_laws::{entries_are_written, messages_fly};
 use lane_states::lane_state::{LaneState, push_within};
 use lane_states::written::keep_place;
 use messages::{Body, Message, NotedBody};
-use node_journals::laws::{entries_are_written, messages_fly};
 use op_machine::OpMachine;
 use operation_keeping::laws::{operations_hear, operations_send, operations_write};
 use stamps::StampPlaces;
 use value_lists::{NoMemory, TryCopy};
 
-/// Notes that a line writes an entry, which may come next, and keeps its place. The only error is want of
-/// memory.
+/// Notes that a line writes an entry, which may come next, and keeps its place.
 fn write_entry(
     lane: &mut LaneState,
     places: &mut StampPlaces,
@@ -63,7 +62,7 @@ fn write_entry(
 }
 
 /// Writes the entry of the message that comes next, if that is a Store and nothing is written yet; answers
-/// whether an entry is written. The only error is want of memory.
+/// whether an entry is written.
 fn write_wanted(
     lane: &mut LaneState,
     places: &mut StampPlaces,
@@ -139,7 +138,7 @@ fn bring_back_operation(
     machine.answer(lane.alloc, message.receiver, Some(&reply))
 }
 
-/// Tells the machine that no reply to its message comes. The only error is want of memory.
+/// Tells the machine that no reply to its message comes.
 fn bring_none_operation(
     lane: &LaneState,
     machine: &mut OpMachine,

@@ -16,6 +16,7 @@ use Rattle.lane_lives.specs.Lives.{Lines, Deed, Announces, Stops, Starts, Runs, 
 use Rattle.lane_lives.proofs.FirstEvents.{heard_first}
 use Rattle.lane_lives.proofs.OneLine.{IsLine, IsUnbegun, IsEnded, IsOf, deed_is, told_line, told_upkeep, passes_announced}
 use Rattle.lane_lives.proofs.Told as told
+use Rattle.lane_lives.proofs.Upkept.{pass_or_none}
 
 -- ---- states and nodes
 
@@ -26,7 +27,7 @@ events_told s lane (Announces state deaf ∷ deeds) K life = ap told_events life
 events_told s lane (Stops n ∷ deeds) K life = ap told_events life.1.1 ∙ told.told_stopped n life.0 ∙ ap (stopped_next n) (events_told s lane deeds life.0 life.1.0)
 events_told s lane (Starts n ∷ deeds) K life = ap told_events life.1.1 ∙ told.told_started n life.0 ∙ ap (started_next n) (events_told s lane deeds life.0 life.1.0)
 events_told s lane (Runs line ∷ deeds) K life = told_line lane s.rules line line.via life.0 K life.1.1 ∙ events_told s lane deeds life.0 life.1.0
-events_told s lane (Maintains ∷ deeds) K life = told_upkeep lane life.0 K life.1.1 ∙ events_told s lane deeds life.0 life.1.0
+events_told s lane (Maintains noted ∷ deeds) K life = told_upkeep lane life.0 K (pass_or_none lane noted life.0 K life.1.1) ∙ events_told s lane deeds life.0 life.1.0
 
 pub states_published : (s : Setting) (lane : Low) (deeds : List Deed) (J : List LaneEvent) → IsLife s lane deeds J → published_states J ≡ states_in s deeds
 states_published s lane deeds J life = sym (told.published_told J) ∙ ap published_states (events_told s lane deeds J life) ∙ told.states_told s deeds
@@ -47,7 +48,7 @@ deed_own (Announces state deaf) = tt
 deed_own (Stops n) = tt
 deed_own (Starts n) = tt
 deed_own (Runs line) = refl
-deed_own Maintains = tt
+deed_own (Maintains noted) = tt
 
 -- each distributor holds a state
 pub heard_all : (s : Setting) (lane : Low) (deeds : List Deed) (J : List LaneEvent) → IsLife s lane deeds J → (d : ℕ) → d < 32 → IsSome (held d (history J))
@@ -77,7 +78,7 @@ others_fresh s lane [] J life j none = subst (λ K. IsFresh (history K) j) (sym 
 others_fresh s lane (Announces state deaf ∷ deeds) K life j none = fresh_after (j + 1) j life.0 K (deed_is s lane (Announces state deaf) (j + 1) tt life.0 K life.1.1) (other_number j) (others_fresh s lane deeds life.0 life.1.0 j none)
 others_fresh s lane (Stops n ∷ deeds) K life j none = fresh_after (j + 1) j life.0 K (deed_is s lane (Stops n) (j + 1) tt life.0 K life.1.1) (other_number j) (others_fresh s lane deeds life.0 life.1.0 j none)
 others_fresh s lane (Starts n ∷ deeds) K life j none = fresh_after (j + 1) j life.0 K (deed_is s lane (Starts n) (j + 1) tt life.0 K life.1.1) (other_number j) (others_fresh s lane deeds life.0 life.1.0 j none)
-others_fresh s lane (Maintains ∷ deeds) K life j none = fresh_after (j + 1) j life.0 K (deed_is s lane Maintains (j + 1) tt life.0 K life.1.1) (other_number j) (others_fresh s lane deeds life.0 life.1.0 j none)
+others_fresh s lane (Maintains noted ∷ deeds) K life j none = fresh_after (j + 1) j life.0 K (deed_is s lane (Maintains noted) (j + 1) tt life.0 K life.1.1) (other_number j) (others_fresh s lane deeds life.0 life.1.0 j none)
 others_fresh s lane (Runs line ∷ deeds) K life j none = fresh_after line.number j life.0 K (deed_is s lane (Runs line) line.number refl life.0 K life.1.1) none.0 (others_fresh s lane deeds life.0 life.1.0 j none.1)
 
 -- ---- numbers
@@ -163,7 +164,7 @@ ordered s lane [] J life rising = λ earlier later early a b. absurd (false≢tr
 ordered s lane (Announces state deaf ∷ deeds) K life rising = by_other s lane (Announces state deaf) deeds K life tt rising (ordered s lane deeds life.0 life.1.0 rising)
 ordered s lane (Stops n ∷ deeds) K life rising = by_other s lane (Stops n) deeds K life tt rising (ordered s lane deeds life.0 life.1.0 rising)
 ordered s lane (Starts n ∷ deeds) K life rising = by_other s lane (Starts n) deeds K life tt rising (ordered s lane deeds life.0 life.1.0 rising)
-ordered s lane (Maintains ∷ deeds) K life rising = by_other s lane Maintains deeds K life tt rising (ordered s lane deeds life.0 life.1.0 rising)
+ordered s lane (Maintains noted ∷ deeds) K life rising = by_other s lane (Maintains noted) deeds K life tt rising (ordered s lane deeds life.0 life.1.0 rising)
 ordered s lane (Runs line ∷ deeds) K life rising =
     order_after line.number life.0 K (deed_is s lane (Runs line) line.number refl life.0 K life.1.1) (λ j h. above s lane deeds life.0 life.1.0 rising.1 line.number rising.0 j h)
     (λ j h. begun_closed s lane deeds life.0 life.1.0 j h) (ordered s lane deeds life.0 life.1.0 rising.1)

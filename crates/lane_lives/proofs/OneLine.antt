@@ -22,7 +22,7 @@ use Rattle.lane_values.specs.declared.setting.Setting.{Setting}
 use Rattle.lane_lives.specs.Lives.{FeedLine, IsRunAt, IsRefused, IsCarriedOut, Deed, Announces, Stops, Starts, Runs, Maintains, Does, IsMaintained, outcome_in, told_events}
 use Rattle.lane_lives.proofs.Leaving.{Leaves, leaves_to}
 use Rattle.lane_lives.proofs.Told.{some_or, heard_keeps, next_keeps, told_next}
-use Rattle.lane_lives.proofs.Upkept.{leaves_upkeep}
+use Rattle.lane_lives.proofs.Upkept.{leaves_upkeep, pass_or_none}
 
 -- ---- readers past the events of another line
 
@@ -304,7 +304,7 @@ deed_is s lane (Announces state deaf) n of J K does = subst (IsLine n J) (sym do
 deed_is s lane (Stops m) n of J K does = subst (IsLine n J) (sym does) (line_passes n J _ (passes_stop m J))
 deed_is s lane (Starts m) n of J K does = subst (IsLine n J) (sym does) (line_passes n J _ (passes_start m J))
 deed_is s lane (Runs line) n of J K does = subst (λ k. IsLine k J K) of (line_is lane s.rules line line.via J K does)
-deed_is s lane Maintains n of J K does = line_passes n J K (passes_upkeep lane J K does)
+deed_is s lane (Maintains noted) n of J K does = line_passes n J K (passes_upkeep lane J K (pass_or_none lane noted J K does))
 
 -- ---- what a line is told and ends with
 

@@ -162,7 +162,7 @@ states_told s (Announces state deaf ∷ deeds) = ap (λ (ss : List ClusterState)
 states_told s (Stops n ∷ deeds) = either published_states (stopped n (history (deed_events s deeds))) _ _ _ (states_told s deeds) (states_told s deeds)
 states_told s (Starts n ∷ deeds) = either published_states (stopped n (history (deed_events s deeds))) _ _ _ (states_told s deeds) (states_told s deeds)
 states_told s (Runs line ∷ deeds) = states_told s deeds
-states_told s (Maintains ∷ deeds) = states_told s deeds
+states_told s (Maintains noted ∷ deeds) = states_told s deeds
 
 pub newest_told : (s : Setting) (deeds : List Deed) → last_state (deed_events s deeds) ≡ Some (newest_in s deeds)
 newest_told s [] = refl
@@ -170,4 +170,4 @@ newest_told s (Announces state deaf ∷ deeds) = refl
 newest_told s (Stops n ∷ deeds) = either last_state (stopped n (history (deed_events s deeds))) _ _ _ (newest_told s deeds) (newest_told s deeds)
 newest_told s (Starts n ∷ deeds) = either last_state (stopped n (history (deed_events s deeds))) _ _ _ (newest_told s deeds) (newest_told s deeds)
 newest_told s (Runs line ∷ deeds) = newest_told s deeds
-newest_told s (Maintains ∷ deeds) = newest_told s deeds
+newest_told s (Maintains noted ∷ deeds) = newest_told s deeds

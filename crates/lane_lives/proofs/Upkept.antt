@@ -1,11 +1,13 @@
 -- What a pass of upkeep leaves as it was.
-use Rattle.std.proofs.Common.{ℕ, List, ◌∷◌}
+use Rattle.std.proofs.Common.{◌≡◌, ◌⊎◌, ℕ, List, ◌∷◌, Option, None, Some, inr}
+use Rattle.bucket_ids.specs.Buckets.{Low}
 use Rattle.lane_journals.specs.declared.event.LaneEvent.{LaneEvent}
 use Rattle.lane_journals.specs.declared.event.LaneEvent.TheVariants as event
 use Rattle.upkeep_spans.specs.Spans.{IsUpkeepEvent, AreUpkeep, Nothing, More}
 use Rattle.lane_values.specs.LaneValues.{LaneValue}
 use Rattle.lane_values.specs.Upkept.{Maintains}
-use Rattle.lane_lives.specs.Lives.{IsMaintained}
+use Rattle.lane_lives.specs.Lives.{IsMaintained, MakesPass}
+use Rattle.lane_lives.specs.declared.spans.UpkeepSpan.{UpkeepSpan}
 use Rattle.lane_lives.proofs.Leaving.{Leaves, leaves_itself, leaves-trans, leaves_event}
 use Rattle.lane_lives.proofs.Quiet.{AddsFor}
 
@@ -33,6 +35,11 @@ leaves_upkeep line d v J K (More L e is before) = leaves-trans line J L (e ∷ L
 -- the pass that a lane made, by its journal
 pub pass_made : (old new : LaneValue) → Maintains old new → IsMaintained old.lane old.journal new.journal
 pass_made old new m = record { state = m.state; newest = m.newest; owner = m.owner; owns = m.owns; pass = m.pass }
+
+-- nothing was done, or a pass was made
+pub pass_or_none : (lane : Low) (noted : Option UpkeepSpan) (J K : List LaneEvent) → MakesPass lane noted J K → (K ≡ J) ⊎ IsMaintained lane J K
+pass_or_none lane None J K does = does
+pass_or_none lane (Some span) J K does = inr does.pass
 
 -- what holds before each of its events holds before all of them
 pub upkeep_down : (P : List LaneEvent → Type 0) (d v : ℕ) → ((e : LaneEvent) (L : List LaneEvent) → IsUpkeepEvent d v e → P (e ∷ L) → P L) → (J K : List LaneEvent) → AreUpkeep d v J K → P K → P J

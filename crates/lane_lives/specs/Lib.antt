@@ -1,7 +1,5 @@
--- `Lives` says what the life of a lane is, `Serving` how its bucket and rules come from the setting, `Hearings` who hears
--- which state, `Upkeep` how upkeep went, and `Promises` what holds of each life.
+-- `Lives` says what the life of a lane is, `Serving` how its bucket and rules come from the setting, and `Upkeep` how
+-- upkeep went.
 pub mod Lives
 pub mod Upkeep
 pub mod Serving
-pub mod Promises
-pub mod Hearings

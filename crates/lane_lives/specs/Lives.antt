@@ -1,7 +1,7 @@
 -- What happens in a lane of a session: the first state is published and heard by all, and then come further states,
 -- stops and starts of nodes, upkeep, and the lines that ask for an operation there, one after the other. Nothing else
 -- happens.
-use Rattle.std.specs.Prelude.{◌≡◌, ◌≢◌, ◌==◌, ◌⊎◌, ℕ, ◌<◌, List, [], ◌∷◌, ◌++◌, Option, None, Some}
+use Rattle.std.specs.Prelude.{◌≡◌, ◌≢◌, ◌==◌, ◌⊎◌, ℕ, ◌<◌, List, [], ◌∷◌, ◌++◌, length, Option, None, Some}
 use Rattle.bucket_ids.specs.Buckets.{Low}
 use Rattle.cluster_states.specs.declared.cluster_state.ClusterState.{ClusterState}
 use Rattle.distributor_part.specs.declared.rules.Rules.{Rules}
@@ -19,6 +19,7 @@ use Rattle.lane_values.specs.LaneValues.{drawn}
 use Rattle.upkeep_spans.specs.Spans.{AreUpkeep}
 use Rattle.line_wants.specs.Wants.{IsRun, IsCutRun, IsEnd}
 use Rattle.lane_values.specs.declared.setting.Setting.{Setting}
+use Rattle.lane_lives.specs.declared.spans.UpkeepSpan.{UpkeepSpan}
 
 -- ---- one line
 
@@ -83,6 +84,17 @@ pub record IsMaintained (lane : Low) (J K : List LaneEvent) : Type 0 where
   pub owns : IsOwner lane state owner
   pub pass : AreUpkeep owner state.version (heard_next owner (Some state) J) K
 
+-- the pass is all that the span has: the journal had so many events before it and behind it
+pub record IsSpanned (lane : Low) (span : UpkeepSpan) (J K : List LaneEvent) : Type 0 where
+  pub pass : IsMaintained lane J K
+  pub from : span.from ≡ length J
+  pub to : span.to ≡ length K
+
+-- such a pass is made; where no span is noted of it, want of memory may have cut it, or kept it from beginning
+abbrev pub MakesPass : Low → Option UpkeepSpan → List LaneEvent → List LaneEvent → Type 0
+MakesPass lane None J K = (K ≡ J) ⊎ IsMaintained lane J K
+MakesPass lane (Some span) J K = IsSpanned lane span J K
+
 -- ---- all that happens
 
 pub data Deed : Type 0 where
@@ -94,8 +106,8 @@ pub data Deed : Type 0 where
   Starts : ℕ → Deed
   -- a line asks for its operation
   Runs : FeedLine → Deed
-  -- upkeep is asked for; want of memory may cut it, or keep it from beginning
-  Maintains : Deed
+  -- upkeep is asked for, and its span is noted, unless memory was wanted
+  Maintains : Option UpkeepSpan → Deed
 
 -- what a deed does to a lane's journal
 abbrev pub Does : Setting → Low → Deed → List LaneEvent → List LaneEvent → Type 0
@@ -103,7 +115,7 @@ Does s lane (Announces state deaf) J K = K ≡ announced deaf state J
 Does s lane (Stops n) J K = K ≡ stopped_next n J
 Does s lane (Starts n) J K = K ≡ started_next n J
 Does s lane (Runs line) J K = IsCarriedOut lane s.rules line line.via J K
-Does s lane Maintains J K = (K ≡ J) ⊎ IsMaintained lane J K
+Does s lane (Maintains noted) J K = MakesPass lane noted J K
 
 -- the journal is what these deeds make, the newest first, after the first state was published and heard by all
 abbrev pub IsLife : Setting → Low → List Deed → List LaneEvent → Type 0
@@ -157,7 +169,7 @@ deed_events s (Announces state deaf ∷ deeds) = Published state ∷ deed_events
 deed_events s (Stops n ∷ deeds) = stopped_next n (deed_events s deeds)
 deed_events s (Starts n ∷ deeds) = started_next n (deed_events s deeds)
 deed_events s (Runs line ∷ deeds) = deed_events s deeds
-deed_events s (Maintains ∷ deeds) = deed_events s deeds
+deed_events s (Maintains noted ∷ deeds) = deed_events s deeds
 
 -- ---- what is read off a journal
 

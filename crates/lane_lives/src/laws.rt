@@ -1,53 +1,12 @@
-//! What every lane of a session promises; no function here does anything.
+//! What every life of a lane says of its journal; no function here does anything.
 
-ghost use Rattle.std.specs.Prelude.{◌≡◌, ◌≤◌, ◌<◌, ℕ, false, List, ◌∷◌, ◌++◌, Some};
+ghost use Rattle.std.specs.Prelude.{◌≡◌, List, Some};
 ghost use Rattle.bucket_ids.specs.Buckets.{Low};
-ghost use Rattle.node_sets.specs.Members.{has_node};
-ghost use Rattle.carriers.specs.declared.fate.Fate.{Fate};
-ghost use Rattle.distributor_part.specs.declared.rules.Rules.{Rules};
-ghost use Rattle.messages.specs.declared.outcome.Outcome.TheVariants.{OwnedElsewhere, TooFew};
-ghost use Rattle.lane_journals.specs.Readers.{held};
-ghost use Rattle.lane_journals.specs.Meanings.{history};
 ghost use Rattle.lane_journals.specs.Places.{published_states};
-ghost use Rattle.lane_journals.specs.KeptJournals.{IsLegal};
 ghost use Rattle.lane_journals.specs.declared.event.LaneEvent.{LaneEvent};
-ghost use Rattle.lane_journals.specs.declared.event.LaneEvent.TheVariants.{Heard};
-ghost use Rattle.lane_keeping.specs.LaneKeeping.{setting_of};
-ghost use Rattle.lane_carriage.specs.Carriage.{IsCarried};
-ghost use Rattle.lane_values.specs.LaneValues.{LaneValue};
 ghost use Rattle.lane_keeping.specs.Tidings.{last_state};
-ghost use Rattle.lane_values.specs.Settings.{IsSetting};
 ghost use Rattle.lane_values.specs.declared.setting.Setting.{Setting};
-ghost use Rattle.lane_lives.specs.Hearings.{deaf_in, HeardNewest};
-ghost use Rattle.lane_lives.specs.Lives.{Deed, IsLife, lines_of, states_in, newest_in, deed_events, outcome_in, told_events};
-ghost use Rattle.lane_lives.specs.Promises.{IsComplete, KeepsWrites, WasRefused, LineFellShort};
-
-use lane_carriage::laws::messages_are_carried;
-use lane_completeness::laws::{
-    answered_lines_are_undisturbed, replies_return_in_turn, too_few_has_its_cause,
-    undisturbed_operations_are_decided, undisturbed_writes_end_well, unheard_messages_are_lost,
-};
-use lane_durability::theorem::kept_journals_are_durable;
-
-/// A line that goes to the owner under the newest state isn't refused; and if no message of it is lost, it comes
-/// to what nodes answer, and a put or a remove without condition to its acknowledgement, unless memory was wanted.
-pub fn lanes_are_complete()
-    ensures { (s : Setting) → IsSetting s → (lane : Low) (v : LaneValue) → IsLegal (setting_of lane s.rules) v.journal
-        → IsCarried v.given v.journal → IsComplete s lane v }
-{
-    undisturbed_operations_are_decided();
-    undisturbed_writes_end_well();
-    answered_lines_are_undisturbed();
-    messages_are_carried();
-}
-
-/// The durability theorem holds in a lane.
-pub fn lanes_are_durable()
-    ensures { (lane : Low) (rules : Rules) → 1 ≤ rules.acks → (J : List LaneEvent)
-        → IsLegal (setting_of lane rules) J → KeepsWrites rules.acks (history J) }
-{
-    kept_journals_are_durable();
-}
+ghost use Rattle.lane_lives.specs.Lives.{Deed, IsLife, states_in, newest_in, deed_events, told_events};
 
 /// What a lane is told of states and nodes is what its journal says: the events of states and nodes are those of
 /// its deeds, in their order, and of no other cause. A stop of a stopped node, and a start of one that runs, has
@@ -60,38 +19,3 @@ pub fn states_follow_deeds()
     ensures newest { (s : Setting) (lane : Low) (deeds : List Deed) (J : List LaneEvent) → IsLife s lane deeds J
         → last_state J ≡ Some (newest_in s deeds) }
 {}
-
-/// Who hears which state. A distributor that isn't deaf to the newest state holds it; and each hearing is of the
-/// state that was published last, by a distributor that isn't deaf to it, or by the lane's owner under it.
-pub fn hearings_follow_deeds()
-    ensures hold { (s : Setting) (lane : Low) (deeds : List Deed) (J : List LaneEvent) → IsLife s lane deeds J
-        → (d : ℕ) → d < 32 → has_node (deaf_in deeds) d ≡ false
-        → held d (history J) ≡ Some (newest_in s deeds).version }
-    ensures hear { (s : Setting) (lane : Low) (deeds : List Deed) (J : List LaneEvent) → IsLife s lane deeds J
-        → (after before : List LaneEvent) (d version : ℕ) → J ≡ after ++ Heard d version ∷ before
-        → HeardNewest s lane deeds before d version }
-{}
-
-/// A line that ended since another distributor owns the lane was refused at the distributor
-/// that it names, which held a state under which that other one is the owner, and it isn't.
-pub fn lines_are_refused_with_cause()
-    ensures { (s : Setting) (lane : Low) (deeds : List Deed) (J : List LaneEvent) → IsLife s lane deeds J
-        → IsLegal (setting_of lane s.rules) J → (number owner version : ℕ)
-        → outcome_in number J ≡ Some (OwnedElsewhere owner version)
-        → WasRefused lane (lines_of deeds) J number owner version }
-{}
-
-/// A line that got too few answers sent the absent node a message of the phase that ended it, of which nothing came
-/// back but that the node took a newer version; where nothing came back at all, its fate loses it, or its receiver
-/// was stopped as it was sent.
-pub fn lines_fall_short_with_cause()
-    ensures { (s : Setting) → IsSetting s → (lane : Low) (deeds : List Deed) (J : List LaneEvent) (given : List Fate)
-        → IsLife s lane deeds J → IsLegal (setting_of lane s.rules) J → IsCarried given J
-        → (number answered needed absent : ℕ) → outcome_in number J ≡ Some (TooFew answered needed absent)
-        → LineFellShort given (lines_of deeds) J number answered needed absent }
-{
-    too_few_has_its_cause();
-    replies_return_in_turn();
-    unheard_messages_are_lost();
-    messages_are_carried();
-}

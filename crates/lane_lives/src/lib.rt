@@ -1,12 +1,10 @@
-//! The life of a lane: what a session did there, told as deeds, and what it promises of each such life; a crate of laws.
+//! The life of a lane: what a session did there, told as deeds; a crate of laws.
 //!
 //! `IsLife` in `specs/Lives.antt` says that a journal is what deeds made of a lane, one after the other: states that were
-//! announced, nodes that stopped and started, lines, and upkeep. `specs/Promises.antt` has what holds of each: that writes are
-//! kept, that lines come to what nodes answer, and why one is refused or falls short.
+//! announced, nodes that stopped and started, lines, and upkeep. `specs/Upkeep.antt` says how upkeep went, and
+//! `specs/Serving.antt` how a lane's bucket and rules come from the setting.
 //!
 //! ```text
-//! lanes_are_durable();                 // what was acknowledged, or something newer, is in enough node stores
-//! lanes_are_complete();                // an undisturbed line comes to what nodes answer
 //! states_follow_deeds();               // states and nodes change as the lane was told
 //! ```
 #![tactic(auto)]

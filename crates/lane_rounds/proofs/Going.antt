@@ -4,7 +4,7 @@ use Rattle.carriers.specs.declared.fate.Fate.{Fate}
 use Rattle.messages.specs.declared.message.Message.{Message as Letter}
 use Rattle.messages.specs.declared.late.Late.{Late}
 use Rattle.lane_journals.specs.declared.event.LaneEvent.{LaneEvent}
-use Rattle.node_journals.specs.Replaying.{sending}
+use Rattle.lane_keeping.specs.Replaying.{sending}
 use Rattle.lane_carriage.specs.Carriage.{IsDealt, IsOther, Other}
 use Rattle.lane_carriage.specs.Waits.{numbers}
 use Rattle.lane_states.specs.declared.lane_state.LaneState.{LaneState}

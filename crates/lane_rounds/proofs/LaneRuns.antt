@@ -9,8 +9,8 @@ use Rattle.lane_carriage.specs.Carriage.{due}
 use Rattle.round_keeping.specs.RoundKeeping.{KnowsRound}
 use Rattle.lane_states.specs.declared.lane_state.LaneState.{LaneState}
 use Rattle.lane_states.specs.LaneStates.{journal_of, Went}
-use Rattle.round_runs.specs.RoundRuns.{Nothing, Further, RunsOn}
-use Rattle.round_runs.proofs.Runs.{sends-at}
+use Rattle.round_keeping.specs.RoundRuns.{Nothing, Further, RunsOn}
+use Rattle.round_keeping.proofs.Runs.{sends-at}
 
 module _ (lane : Low) (d : ℕ) (s : ClusterState) where
   -- one message

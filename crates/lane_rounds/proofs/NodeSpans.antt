@@ -6,9 +6,9 @@ use Rattle.messages.specs.Noting.{noted_reply}
 use Rattle.service_layer.specs.Nodes.{Node}
 use Rattle.lane_journals.specs.declared.event.LaneEvent.{LaneEvent}
 use Rattle.lane_journals.specs.declared.event.LaneEvent.TheVariants.{Delivered, Returned}
-use Rattle.node_journals.specs.Flights.{IsInFlight}
-use Rattle.node_journals.specs.Spans.{NodesGo}
-use Rattle.node_journals.proofs.Going.{go-waits}
+use Rattle.lane_keeping.specs.Flights.{IsInFlight}
+use Rattle.lane_keeping.specs.Spans.{NodesGo}
+use Rattle.lane_keeping.proofs.Going.{go-waits}
 use Rattle.lane_keeping.specs.LaneKeeping.{node_in, NodesKeep}
 use Rattle.lane_keeping.specs.Asking.{IsTakenBy}
 use Rattle.lane_states.specs.declared.lane_state.LaneState.{LaneState}

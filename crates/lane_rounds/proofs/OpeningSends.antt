@@ -8,7 +8,7 @@ use Rattle.lane_journals.specs.Places.{Setting}
 use Rattle.lane_journals.specs.KeptJournals.{IsLegal}
 use Rattle.lane_journals.specs.declared.event.LaneEvent.{LaneEvent}
 use Rattle.lane_journals.specs.declared.event.LaneEvent.TheVariants.{Delivered, Returned}
-use Rattle.node_journals.specs.Replaying.{sending}
+use Rattle.lane_keeping.specs.Replaying.{sending}
 use Rattle.lane_carriage.specs.Carriage.{IsDealt}
 use Rattle.lane_rounds.specs.Openings.{IsGone}
 use Rattle.lane_carriage.proofs.GivenOut.{over-all}

@@ -8,7 +8,7 @@ use Rattle.proof_basics.proofs.Lists.{count_at}
 use Rattle.bucket_db.proofs.Inside.{key_in, low_below, has_low}
 use Rattle.bucket_db.proofs.RowLists.{bucket_at, valid_at}
 use Rattle.distributor_part.specs.Parts.{rows_of}
-use Rattle.round_runs.specs.RoundRuns.{LowIsThere}
+use Rattle.round_keeping.specs.RoundRuns.{LowIsThere}
 
 counted : (t : Bool) (n : ℕ) → 1 ≤ n → n ≡ (if t then 1 else 0) → t ≡ true
 counted true n some is = refl

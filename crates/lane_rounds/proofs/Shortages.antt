@@ -15,18 +15,18 @@ use Rattle.lane_journals.specs.Readers.{returned}
 use Rattle.lane_journals.specs.Meanings.{history}
 use Rattle.lane_journals.specs.declared.event.LaneEvent.{LaneEvent}
 use Rattle.lane_journals.specs.declared.event.LaneEvent.TheVariants.{Delivered, Returned, Decided, Opened}
-use Rattle.node_journals.specs.Replaying.{sending}
+use Rattle.lane_keeping.specs.Replaying.{sending}
 use Rattle.lane_carriage.specs.Carriage.{IsDealt}
 use Rattle.lane_carriage.specs.Waits.{numbers}
 use Rattle.lane_carriage.specs.Carrying.{met_at}
 use Rattle.lane_states.specs.Growing.{is_short, IsSettled}
 use Rattle.lane_rounds.specs.Openings.{IsGone}
-use Rattle.round_runs.specs.RoundRuns.{is_refusal, IsRunToldBy, Sends, IsRoundRun, Nothing, Further, RunsOn}
+use Rattle.round_keeping.specs.RoundRuns.{is_refusal, IsRunToldBy, Sends, IsRoundRun, Nothing, Further, RunsOn}
 use Rattle.lane_states.specs.Shortages.{ends_at, WhereItEnds, NoneIsShort, EndsAtOnce}
-use Rattle.round_runs.specs.RoundShortages.{wants_memory, HadMemory}
+use Rattle.round_keeping.specs.RoundShortages.{wants_memory, HadMemory}
 use Rattle.lane_states.specs.declared.at_shortage.AtShortage.{AtShortage}
 use Rattle.lane_states.specs.declared.at_shortage.AtShortage.TheVariants as at_shortage
-use Rattle.round_runs.specs.declared.round_run.RoundRun.{RoundRun}
+use Rattle.round_keeping.specs.declared.round_run.RoundRun.{RoundRun}
 use Rattle.lane_rounds.proofs.Settled.{settled-stays, settled-delivered}
 
 -- ---- what is known of a message stays known

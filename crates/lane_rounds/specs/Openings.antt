@@ -10,7 +10,7 @@ use Rattle.distributor_part.specs.Steps as steps
 use Rattle.distributor_part.specs.Steps.{Opens, LacksAnswers, without_end}
 use Rattle.lane_journals.specs.declared.event.LaneEvent.{LaneEvent}
 use Rattle.lane_journals.specs.declared.event.LaneEvent.TheVariants.{Opened}
-use Rattle.node_journals.specs.Replaying.{sending}
+use Rattle.lane_keeping.specs.Replaying.{sending}
 use Rattle.lane_carriage.specs.Carriage.{IsDealt, AreDelivered}
 use Rattle.lane_keeping.specs.LaneKeeping.{PartKeeps}
 use Rattle.lane_states.specs.declared.lane_state.LaneState.{LaneState}

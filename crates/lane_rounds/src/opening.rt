@@ -1,4 +1,4 @@
-ghost use Rattle.std.specs.Prelude.{◌≡◌, ◌≤◌, ℕ, ◌<◌, ◌+◌, ◌||◌, ◌∷◌, true, false, None, Some, OnOk, OnErr, IfOk, length, vec_len, vec_capacity};
+ghost use Rattle.std.specs.Prelude.{◌≡◌, ◌≤◌, ℕ, ◌<◌, ◌+◌, ◌||◌, true, false, None, Some, OnOk, OnErr, IfOk, length, vec_len, vec_capacity};
 ghost use Rattle.messages.specs.Noting.{noted_reply};
 ghost use Rattle.messages.specs.declared.reply.Reply.TheVariants as reply;
 ghost use Rattle.messages.specs.declared.noted.NotedReply.TheVariants as noted;
@@ -8,7 +8,7 @@ ghost use Rattle.lane_carriage.specs.Carriage.{IsDealt};
 ghost use Rattle.lane_carriage.specs.Readers.{IsPrompt};
 ghost use Rattle.lane_carriage.specs.Waits.{kept_by};
 ghost use Rattle.distributor_part.specs.Steps.{IsAfterAnswer};
-ghost use Rattle.node_journals.specs.Flights.{IsInFlight};
+ghost use Rattle.lane_keeping.specs.Flights.{IsInFlight};
 ghost use Rattle.lane_keeping.specs.Asking.{IsJustSent, OthersStay};
 ghost use Rattle.lane_states.specs.LaneStates.{journal_of, IsKept, HasRoom, Receives, part_of, Asks, IsCarriedBy, IsResting, Stays, Went, NodesOn};
 ghost use Rattle.lane_states.specs.Growing.{IsToldBy, HasHeard, is_short, IsSettled};
@@ -26,10 +26,10 @@ use lane_journals::LaneEvent;
 use lane_keeping::laws::{
     asks_are_kept, nodes_refuse_for_memory, openings_are_kept, parts_are_told,
 };
+use lane_keeping::node_laws::{messages_fly, nodes_hold};
 use lane_states::at_shortage::AtShortage;
 use lane_states::lane_state::{LaneState, push_within};
 use messages::{Job, Message, NotedReply, Reply, Step};
-use node_journals::laws::{messages_fly, nodes_hold};
 use node_sets::NodeSet;
 use service_layer::Taken;
 use value_lists::NoMemory;
@@ -77,7 +77,7 @@ fn tell_short(part: &mut DistributorPart, node: u8) -> NotedReply
     NotedReply::NoMemory
 }
 
-/// Tells a part that no reply comes; takes no memory.
+/// Tells a part that no reply comes.
 fn tell_none(part: &mut DistributorPart, node: u8)
     requires { part.old.awaited ≡ Some node }
     ensures { IsAfterAnswer part.old part.new node None }
@@ -155,7 +155,7 @@ fn bring_back(lane: &mut LaneState, distributor: u8, number: u64, message: &Mess
     short
 }
 
-/// Tells a distributor that no reply to its Ask comes; takes no memory.
+/// Tells a distributor that no reply to its Ask comes.
 fn bring_none(lane: &mut LaneState, distributor: u8, node: u8)
     requires keeps { IsKept lane.old }
     requires awaited { (part_of lane.old distributor).awaited ≡ Some node }
@@ -273,7 +273,7 @@ pub fn ask<C: Carrier>(
 }
 
 /// The next step of a distributor that owns the lane and opens its state; where all have answered the
-/// state is opened. The only error is want of memory.
+/// state is opened.
 fn opening_step(lane: &mut LaneState, distributor: u8, key: u64) -> Result<OpeningStep, NoMemory>
     requires keeps { IsKept lane.old }
     requires spare { HasRoom 0 lane.old }
@@ -311,7 +311,7 @@ fn opening_step(lane: &mut LaneState, distributor: u8, key: u64) -> Result<Openi
     }
 }
 
-/// Asks one node more, or opens the state. The only error is want of memory.
+/// Asks one node more, or opens the state.
 fn ask_next<C: Carrier>(
     lane: &mut LaneState,
     distributor: u8,
@@ -417,7 +417,7 @@ fn ask_all<C: Carrier>(
     }
 }
 
-/// The job of a distributor ends before it is finished; takes no memory.
+/// The job of a distributor ends before it is finished.
 pub fn give_up(lane: &mut LaneState, distributor: u8)
     requires keeps { IsKept lane.old }
     requires part { distributor < vec_len lane.old.parts }

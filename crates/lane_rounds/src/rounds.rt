@@ -1,4 +1,4 @@
-ghost use Rattle.std.specs.Prelude.{◌≡◌, ◌≤◌, ◌<◌, ◌+◌, ◌↔◌, ◌&&◌, ◌||◌, ℕ, List, ◌∷◌, true, false, None, Some, IsSome, OnOk, OnErr, IfOk, IfSome, IfNone, length, vec_len, vec_capacity};
+ghost use Rattle.std.specs.Prelude.{◌≡◌, ◌≤◌, ◌<◌, ◌+◌, ◌↔◌, ◌&&◌, ◌||◌, ℕ, List, true, false, None, Some, IsSome, OnOk, OnErr, IfOk, IfSome, IfNone, length, vec_len, vec_capacity};
 ghost use Rattle.bucket_ids.specs.Buckets.{Low, IsIn};
 ghost use Rattle.node_sets.specs.Members.{has_node};
 ghost use Rattle.messages.specs.Noting.{noted_body, noted_reply};
@@ -17,18 +17,16 @@ ghost use Rattle.lane_carriage.specs.Carriage.{IsDealt};
 ghost use Rattle.lane_carriage.specs.Readers.{IsPrompt};
 ghost use Rattle.lane_carriage.specs.Waits.{kept_by};
 ghost use Rattle.lane_journals.specs.Facts.{Idle};
-ghost use Rattle.lane_journals.specs.Meanings.{history, entry_at};
-ghost use Rattle.lane_journals.specs.KeptJournals.{IsLegalStep};
-ghost use Rattle.node_journals.specs.Flights.{IsInFlight, Brings, IsWhole};
-ghost use Rattle.node_journals.specs.Replaying.{sending};
-ghost use Rattle.lane_keeping.specs.LaneKeeping.{setting_of};
-ghost use Rattle.lane_keeping.specs.Asking.{IsJustSent, OthersStay};
+ghost use Rattle.lane_journals.specs.Meanings.{history};
+ghost use Rattle.lane_keeping.specs.Flights.{IsInFlight};
+ghost use Rattle.lane_keeping.specs.Replaying.{sending};
+ghost use Rattle.lane_keeping.specs.Asking.{OthersStay};
 ghost use Rattle.round_keeping.specs.RoundKeeping.{IsAwaited};
 ghost use Rattle.lane_states.specs.LaneStates.{journal_of, IsKept, HasRoom, Receives, part_of, IsCarriedBy, NodesOn};
-ghost use Rattle.round_runs.specs.RoundRuns.{IsAfterReply, IsRoundToldBy, is_refusal, NoneRuns, IsRunning, IsToSend, IsCutOff, GoesOn, IsRunToldBy, left, IsRunBy, MayBegin, MayBeginAt, LowIsThere, IsNewRun, EndsEnough, Begins, RunsOn, EndsWith, IsStageOver, IsToldOver, EndsJob, EndsRun, are_missing, is_short, IsEnd, IsWholeRun, IsCutShort};
+ghost use Rattle.round_keeping.specs.RoundRuns.{IsAfterReply, IsRoundToldBy, is_refusal, NoneRuns, IsRunning, IsToSend, IsCutOff, GoesOn, IsRunToldBy, left, IsRunBy, MayBegin, MayBeginAt, LowIsThere, IsNewRun, EndsEnough, Begins, RunsOn, EndsWith, IsStageOver, IsToldOver, EndsJob, EndsRun, are_missing, is_short, IsEnd, IsWholeRun, IsCutShort};
 ghost use Rattle.lane_states.specs.Growing.{IsSettled};
 ghost use Rattle.lane_states.specs.Shortages.{WhereItEnds, NoneIsShort, EndsAtOnce};
-ghost use Rattle.round_runs.specs.RoundShortages.{wants_memory, HadMemory};
+ghost use Rattle.round_keeping.specs.RoundShortages.{wants_memory, HadMemory};
 
 use bucket_db::Row;
 use bucket_ids::Bucket;
@@ -40,14 +38,14 @@ use lane_journals::LaneEvent;
 use lane_keeping::laws::{
     events_are_kept, marks_are_kept, nodes_refuse_for_memory, owners_act, parts_are_told,
 };
+use lane_keeping::node_laws::{messages_fly, nodes_hold};
 use lane_states::at_shortage::AtShortage;
 use lane_states::lane_state::{LaneState, push_within};
 use merge_rounds::Round;
 use messages::{Decision, Job, Message, NotedBody, NotedReply, Origin, Reply, Step};
-use node_journals::laws::{messages_fly, nodes_hold};
 use node_sets::NodeSet;
 use round_keeping::laws::{rounds_begin, rounds_end, rounds_hear, rounds_send};
-use round_runs::{RoundEnd, RoundRun};
+use round_keeping::{RoundEnd, RoundRun};
 use service_layer::Taken;
 use std::alloc::Global;
 use value_lists::NoMemory;
@@ -72,7 +70,7 @@ fn tell_short(alloc: Global, round: &mut Round, node: u8) -> NotedReply
     NotedReply::NoMemory
 }
 
-/// Tells a round that no reply comes; takes no memory.
+/// Tells a round that no reply comes.
 fn tell_none(alloc: Global, round: &mut Round, node: u8)
     requires awaited { round.old.awaited ≡ Some node }
     requires small { node < 32 }
@@ -159,7 +157,7 @@ fn begin_step(alloc: Global, part: &mut DistributorPart, key: u64) -> Option<Rou
     }
 }
 
-/// Begins the round of the row of a place at a part, and says what it is; takes no memory.
+/// Begins the round of the row of a place at a part, and says what it is.
 fn begin_at(part: &mut DistributorPart, at: usize) -> RoundPlan
     requires heard { IsSome part.old.state }
     requires opened { IsSome part.old.rows }
@@ -173,7 +171,7 @@ fn begin_at(part: &mut DistributorPart, at: usize) -> RoundPlan
     RoundPlan { bucket, receivers }
 }
 
-/// Tells a part that its round is over; takes no memory. Whom the round lacks is asked of the round, and so it is
+/// Tells a part that its round is over. Whom the round lacks is asked of the round, and so it is
 /// of no matter here whether there is a union.
 fn tell_over(part: &mut DistributorPart, round: &Round)
     requires { steps.IsRunning part.old.stage }
@@ -291,7 +289,7 @@ fn bring_back_round(lane: &mut LaneState, run: &mut RoundRun, number: u64, messa
     push_within(&mut lane.journal, LaneEvent::Returned { number });
 }
 
-/// Tells a round that no reply to its message comes; takes no memory.
+/// Tells a round that no reply to its message comes.
 fn bring_none_round(lane: &LaneState, run: &mut RoundRun, node: u8)
     requires keeps { IsKept lane.now }
     requires runs { IsRunning lane.now.lane (journal_of lane.now) run.old }
@@ -307,7 +305,7 @@ fn bring_none_round(lane: &LaneState, run: &mut RoundRun, node: u8)
     tell_none(lane.alloc, &mut run.round, node);
 }
 
-/// Delivers a message while a round is under way, and its reply is lost; takes no memory.
+/// Delivers a message while a round is under way, and its reply is lost.
 fn deliver_round(lane: &mut LaneState, run: &RoundRun, number: u64, message: &Message)
     requires keeps { IsKept lane.old }
     requires runs { IsRunning lane.old.lane (journal_of lane.old) run.now }
@@ -522,7 +520,7 @@ fn send_all<C: Carrier>(
 
 // ---- a whole round
 
-/// Begins a round in the row of a key, if it has too few complete members; takes no memory. No round is under
+/// Begins a round in the row of a key, if it has too few complete members. No round is under
 /// way in the lane, and no operation is prepared.
 pub fn begin_round(lane: &mut LaneState, distributor: u8, key: u64) -> Option<RoundRun>
     requires keeps { IsKept lane.old }
@@ -573,7 +571,7 @@ pub fn begin_round(lane: &mut LaneState, distributor: u8, key: u64) -> Option<Ro
     Some(run_of(lane.alloc, lane.lane, distributor, state, key, plan))
 }
 
-/// Begins a round in the row of a place, whatever its marks are; takes no memory. Its key is the row's lowest. No
+/// Begins a round in the row of a place, whatever its marks are. Its key is the row's lowest. No
 /// round is under way in the lane, and no operation is prepared.
 pub fn begin_round_at(lane: &mut LaneState, distributor: u8, at: usize) -> RoundRun
     requires keeps { IsKept lane.old }
@@ -622,7 +620,7 @@ pub fn begin_round_at(lane: &mut LaneState, distributor: u8, at: usize) -> Round
     run_of(lane.alloc, lane.lane, distributor, state, key, plan)
 }
 
-/// Ends a round with those that answered its union until then; takes no memory.
+/// Ends a round with those that answered its union until then.
 pub fn end_round(lane: &mut LaneState, run: &RoundRun) -> RoundEnd
     requires keeps { IsKept lane.old }
     requires there { run.now.distributor < vec_len lane.old.parts }

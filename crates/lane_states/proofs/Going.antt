@@ -8,7 +8,7 @@ use Rattle.messages.specs.declared.late.Late.{Late}
 use Rattle.lane_journals.specs.Readers.{stopped}
 use Rattle.lane_journals.specs.Meanings.{history}
 use Rattle.lane_journals.specs.declared.event.LaneEvent.{LaneEvent}
-use Rattle.node_journals.specs.Replaying.{sending}
+use Rattle.lane_keeping.specs.Replaying.{sending}
 use Rattle.lane_carriage.specs.Carriage.{IsDealt, AreDelivered, due, IsMessage, Message}
 use Rattle.lane_carriage.specs.Waits.{numbers, IsWaiting, kept_by}
 use Rattle.lane_carriage.specs.Laws.{OfTaken}

@@ -14,9 +14,9 @@ use Rattle.lane_journals.specs.Readers.{stopped}
 use Rattle.lane_journals.specs.Meanings.{history}
 use Rattle.lane_journals.specs.declared.event.LaneEvent.{LaneEvent}
 use Rattle.lane_journals.specs.declared.event.LaneEvent.TheVariants.{Sent, Delivered, Returned}
-use Rattle.node_journals.specs.Flights.{IsInFlight}
-use Rattle.node_journals.proofs.Flying.{flight-stays}
-use Rattle.node_journals.specs.NodeKeeping.{NodeKeeps}
+use Rattle.lane_keeping.specs.Flights.{IsInFlight}
+use Rattle.lane_keeping.proofs.Flying.{flight-stays}
+use Rattle.lane_keeping.specs.NodeKeeping.{NodeKeeps}
 use Rattle.lane_keeping.specs.LaneKeeping.{node_in, Keeps}
 use Rattle.lane_keeping.specs.Tidings.{IsNoStop}
 use Rattle.lane_states.specs.Accepting.{AreAccepted}

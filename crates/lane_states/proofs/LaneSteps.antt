@@ -12,7 +12,7 @@ use Rattle.service_layer.specs.Takes.{Takes, HasRoom}
 use Rattle.lane_journals.specs.KeptJournals.{past}
 use Rattle.lane_journals.specs.declared.event.LaneEvent.{LaneEvent}
 use Rattle.lane_journals.specs.declared.event.LaneEvent.TheVariants.{Sent}
-use Rattle.node_journals.specs.Replaying.{sending}
+use Rattle.lane_keeping.specs.Replaying.{sending}
 use Rattle.proof_basics.proofs.Lists.{set-own, set-other}
 use Rattle.lane_states.proofs.Places.{default-any}
 use Rattle.lane_keeping.specs.LaneKeeping.{node_in}

@@ -6,10 +6,10 @@ use Rattle.messages.specs.Noting.{noted_reply}
 use Rattle.service_layer.specs.Nodes.{Node}
 use Rattle.lane_journals.specs.declared.event.LaneEvent.{LaneEvent}
 use Rattle.lane_journals.specs.declared.event.LaneEvent.TheVariants.{Delivered}
-use Rattle.node_journals.specs.Flights.{IsInFlight}
-use Rattle.node_journals.specs.Replaying.{IsNoDelivery}
-use Rattle.node_journals.specs.Spans.{IsTakenIn, NodesGo}
-use Rattle.node_journals.proofs.Going.{go-none, go-waits, go-taken, go-further}
+use Rattle.lane_keeping.specs.Flights.{IsInFlight}
+use Rattle.lane_keeping.specs.Replaying.{IsNoDelivery}
+use Rattle.lane_keeping.specs.Spans.{IsTakenIn, NodesGo}
+use Rattle.lane_keeping.proofs.Going.{go-none, go-waits, go-taken, go-further}
 use Rattle.lane_keeping.specs.LaneKeeping.{node_in, NodesKeep}
 use Rattle.lane_keeping.specs.Asking.{IsTakenBy}
 use Rattle.lane_states.specs.declared.lane_state.LaneState.{LaneState}

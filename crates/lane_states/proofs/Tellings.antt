@@ -12,7 +12,7 @@ use Rattle.lane_journals.specs.Meanings.{history, meaning, meaning_reply}
 use Rattle.lane_journals.specs.declared.event.LaneEvent.{LaneEvent}
 use Rattle.lane_journals.specs.declared.event.LaneEvent.TheVariants.{Delivered, Returned}
 use Rattle.lane_journals.proofs.Basics.{sent-stays, first_reply-stays, returned-stays}
-use Rattle.node_journals.specs.Replaying.{sending, delivered}
+use Rattle.lane_keeping.specs.Replaying.{sending, delivered}
 use Rattle.lane_carriage.specs.Carriage.{AreDelivered}
 use Rattle.lane_carriage.specs.Waits.{numbers}
 use Rattle.lane_keeping.specs.Asking.{IsJustSent}

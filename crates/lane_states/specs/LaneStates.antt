@@ -15,9 +15,9 @@ use Rattle.lane_journals.specs.declared.event.LaneEvent.{LaneEvent}
 use Rattle.carriers.specs.declared.fate.Fate.{Fate}
 use Rattle.messages.specs.Waiting.{Each, NoneIsDue}
 use Rattle.messages.specs.declared.late.Late.{Late}
-use Rattle.node_journals.specs.Flights.{IsInFlight}
-use Rattle.node_journals.specs.Replaying.{sending}
-use Rattle.node_journals.specs.Spans.{NodesGo}
+use Rattle.lane_keeping.specs.Flights.{IsInFlight}
+use Rattle.lane_keeping.specs.Replaying.{sending}
+use Rattle.lane_keeping.specs.Spans.{NodesGo}
 use Rattle.lane_carriage.specs.Carriage.{IsDealt}
 use Rattle.lane_carriage.specs.Waits.{kept_by}
 use Rattle.lane_states.specs.Accepting.{AreAccepted}

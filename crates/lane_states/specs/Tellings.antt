@@ -7,7 +7,7 @@ use Rattle.messages.specs.declared.reply.Reply.{Reply}
 use Rattle.lane_journals.specs.Readers.{Message, sent, first_reply, returned}
 use Rattle.lane_journals.specs.Meanings.{history, meaning_reply}
 use Rattle.lane_journals.specs.declared.event.LaneEvent.{LaneEvent}
-use Rattle.node_journals.specs.Flights.{meant}
+use Rattle.lane_keeping.specs.Flights.{meant}
 
 -- neither an Ask nor of a round or of a line
 abbrev pub IsRowBody : Body → Type 0

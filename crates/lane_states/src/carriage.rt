@@ -7,8 +7,8 @@ ghost use Rattle.lane_journals.specs.KeptJournals.{IsLegalStep};
 ghost use Rattle.lane_carriage.specs.Carriage.{IsGivenOut, is_cut_off};
 ghost use Rattle.lane_carriage.specs.Waits.{kept_by};
 ghost use Rattle.carriers.specs.declared.fate.Fate.TheVariants as fate;
-ghost use Rattle.node_journals.specs.Flights.{Brings, IsWhole, IsInFlight};
-ghost use Rattle.node_journals.specs.Replaying.{sending, delivered};
+ghost use Rattle.lane_keeping.specs.Flights.{Brings, IsWhole, IsInFlight};
+ghost use Rattle.lane_keeping.specs.Replaying.{sending, delivered};
 ghost use Rattle.lane_keeping.specs.LaneKeeping.{setting_of, node_in};
 ghost use Rattle.lane_keeping.specs.Asking.{IsJustSent, IsTakenBy};
 ghost use Rattle.lane_states.specs.LaneStates.{journal_of, IsKept, IsComing, HasRoom, Receives, NodesOn};
@@ -19,12 +19,12 @@ use crate::lane_state::{LaneState, push_within};
 use crate::parts::make_nodes;
 use lane_journals::LaneEvent;
 use lane_keeping::laws::events_are_kept;
+use lane_keeping::node_laws::nodes_hold;
 use messages::{Late, Message, NotedBody, Reply};
-use node_journals::laws::nodes_hold;
 use value_lists::NoMemory;
 
 impl LaneState {
-    /// Notes that a message is sent with the next number; takes no memory.
+    /// Notes that a message is sent with the next number.
     pub fn send_message(&mut self, message: &Message, body: NotedBody)
         requires keeps { IsKept self.old }
         requires legal { IsLegalStep (setting_of self.old.lane self.old.rules) (journal_of self.old)
@@ -55,7 +55,7 @@ impl LaneState {
         );
     }
 
-    /// Delivers a message that is on its way to a node that runs, and notes the reply; takes no memory. The key of the
+    /// Delivers a message that is on its way to a node that runs, and notes the reply. The key of the
     /// document that the message names may be known, so that nothing is digested.
     pub fn deliver(&mut self, number: u64, key: Option<u64>, message: &Message) -> Reply
         requires keeps { IsKept self.old }
@@ -87,7 +87,7 @@ impl LaneState {
     }
 
     /// Makes room for a message to a node: for its own events and those of the late messages that may fall due
-    /// with it, for its node, and for one more late message. The only error is want of memory.
+    /// with it, for its node, and for one more late message.
     pub fn room_for_message(&mut self, node: u8) -> Result<(), NoMemory>
         requires keeps { IsKept self.old }
         requires spare { HasRoom 0 self.old }
@@ -108,7 +108,7 @@ impl LaneState {
         make_nodes(self.alloc, &mut self.nodes, node)
     }
 
-    /// Keeps the message that was sent last, to be delivered after so many further ones; takes no memory.
+    /// Keeps the message that was sent last, to be delivered after so many further ones.
     pub fn keep_late(&mut self, later: u32, message: Message)
         requires keeps { IsKept self.old }
         requires flight { IsInFlight (journal_of self.old) self.old.last message }
@@ -126,7 +126,7 @@ impl LaneState {
     }
 
     /// Takes the first late message out, if it is due, and gives it out: it is delivered, or lost where its receiver is
-    /// stopped; takes no memory.
+    /// stopped.
     fn deliver_first(&mut self) -> bool
         requires keeps { IsKept self.old }
         requires room { vec_len self.old.journal + length self.old.late.late ≤ vec_capacity self.old.journal }
@@ -151,7 +151,7 @@ impl LaneState {
         true
     }
 
-    /// Delivers a late message that is due, or loses it where its receiver is stopped; takes no memory.
+    /// Delivers a late message that is due, or loses it where its receiver is stopped.
     fn give_out(&mut self, late: &Late)
         requires keeps { IsKept self.old }
         requires coming { IsComing (journal_of self.old) self.old.nodes.items late.now }
@@ -170,7 +170,7 @@ impl LaneState {
         }
     }
 
-    /// Gives out the late messages that are due, in their order; takes no memory.
+    /// Gives out the late messages that are due, in their order.
     pub fn deliver_due(&mut self)
         requires keeps { IsKept self.old }
         requires room { vec_len self.old.journal + length self.old.late.late ≤ vec_capacity self.old.journal }

@@ -3,7 +3,7 @@ ghost use Rattle.cluster_states.specs.Publishing.{publish_fault};
 ghost use Rattle.lane_journals.specs.Places.{told};
 ghost use Rattle.lane_journals.specs.KeptJournals.{past, IsLegalStep};
 ghost use Rattle.lane_journals.specs.declared.event.LaneEvent.TheVariants as event;
-ghost use Rattle.node_journals.specs.Replaying.{sending};
+ghost use Rattle.lane_keeping.specs.Replaying.{sending};
 ghost use Rattle.lane_keeping.specs.LaneKeeping.{setting_of};
 ghost use Rattle.lane_keeping.specs.Laws.{IsQuietEvent};
 ghost use Rattle.lane_keeping.specs.Tidings.{IsNoStop};
@@ -56,7 +56,7 @@ pub fn push_within(events: &mut Vec<LaneEvent>, event: LaneEvent)
 }
 
 impl LaneState {
-    /// A lane in which nothing happened; takes no memory. A lane's bucket has at most 6 bits.
+    /// A lane in which nothing happened. A lane's bucket has at most 6 bits.
     pub fn new(alloc: Global, lane: Bucket, rules: Rules) -> LaneState
         requires small { lane.bits ≤ 6 }
         ensures keeps { IsKept result }
@@ -85,7 +85,7 @@ impl LaneState {
         }
     }
 
-    /// Makes room for one publication. The only error is want of memory.
+    /// Makes room for one publication.
     pub fn room(&mut self) -> Result<(), NoMemory>
         requires keeps { IsKept self.old }
         ensures keeps { IsKept self.new }

@@ -75,8 +75,7 @@ fn is_behind(held: Option<ClusterState>, version: u32) -> bool
 }
 
 impl LaneState {
-    /// A distributor whose operations are closed hears the newest state, if it holds none or an older one. The
-    /// only error is want of memory.
+    /// A distributor whose operations are closed hears the newest state, if it holds none or an older one.
     pub fn hear(&mut self, distributor: u8) -> Result<(), NoMemory>
         requires keeps { IsKept self.old }
         requires room { HasRoom 0 self.old }
@@ -171,7 +170,7 @@ impl LaneState {
         }
     }
 
-    /// Makes the parts up to that of a distributor. The only error is want of memory.
+    /// Makes the parts up to that of a distributor.
     pub fn need_part(&mut self, distributor: u8) -> Result<(), NoMemory>
         requires keeps { IsKept self.old }
         ensures keeps { IsKept self.new }

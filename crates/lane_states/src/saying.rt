@@ -8,8 +8,8 @@ ghost use Rattle.lane_journals.specs.KeptJournals.{IsLegalStep};
 ghost use Rattle.lane_carriage.specs.Carriage.{IsDealt};
 ghost use Rattle.lane_carriage.specs.Readers.{IsPrompt};
 ghost use Rattle.lane_carriage.specs.Waits.{kept_by};
-ghost use Rattle.node_journals.specs.Flights.{IsInFlight, Brings, IsWhole};
-ghost use Rattle.node_journals.specs.Replaying.{sending};
+ghost use Rattle.lane_keeping.specs.Flights.{IsInFlight, Brings, IsWhole};
+ghost use Rattle.lane_keeping.specs.Replaying.{sending};
 ghost use Rattle.lane_keeping.specs.LaneKeeping.{setting_of};
 ghost use Rattle.lane_keeping.specs.Asking.{IsJustSent};
 ghost use Rattle.lane_states.specs.LaneStates.{journal_of, IsKept, HasRoom, Receives, IsCarriedBy, Went, NodesOn};
@@ -20,12 +20,12 @@ use carriers::{Carrier, Fate};
 use lane_carriage::laws::late_messages_wait;
 use lane_journals::LaneEvent;
 use lane_keeping::laws::events_are_kept;
+use lane_keeping::node_laws::messages_fly;
 use messages::{Message, NotedBody, Reply};
-use node_journals::laws::messages_fly;
 use value_lists::NoMemory;
 
 impl LaneState {
-    /// Delivers a message of a row that was just sent, and notes that its reply is returned; takes no memory.
+    /// Delivers a message of a row that was just sent, and notes that its reply is returned.
     fn bring_back_told(&mut self, number: u64, message: &Message) -> Reply
         requires keeps { IsKept self.old }
         requires just { IsJustSent (journal_of self.old) number message.now }
@@ -103,7 +103,7 @@ impl LaneState {
     }
 
     /// Sends a message of a row, for which there is room, and deals with it by its fate; the late messages that are
-    /// due then are given out. Answers the reply that came back; takes no memory.
+    /// due then are given out. Answers the reply that came back.
     fn send_told<C: Carrier>(
         &mut self,
         message: Message,

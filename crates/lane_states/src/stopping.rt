@@ -46,7 +46,7 @@ impl LaneState {
         met(self.is_stopped(receiver), fate)
     }
 
-    /// Notes that a node stops, where it runs; takes no memory.
+    /// Notes that a node stops, where it runs.
     pub fn stop(&mut self, node: u8)
         requires keeps { IsKept self.old }
         requires small { node < 32 }
@@ -80,7 +80,7 @@ impl LaneState {
         push_within(&mut self.journal, LaneEvent::Stopped { node });
     }
 
-    /// Notes that a node starts, where it is stopped; takes no memory.
+    /// Notes that a node starts, where it is stopped.
     pub fn start(&mut self, node: u8)
         requires keeps { IsKept self.old }
         requires small { node < 32 }

@@ -58,7 +58,7 @@ pub fn entry_in<'a>(
     }
 }
 
-/// Keeps the place at which the entry of a stamp is to be written. The only error is want of memory.
+/// Keeps the place at which the entry of a stamp is to be written.
 #[tactic(auto, unfolding(lane_journals::specs::Stamps::same_stamp))]
 pub fn keep_place(
     alloc: Global,

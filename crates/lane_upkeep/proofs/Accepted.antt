@@ -25,7 +25,7 @@ use Rattle.lane_journals.specs.Facts.{InRegion}
 use Rattle.lane_journals.specs.Meanings.{history}
 use Rattle.lane_journals.specs.declared.event.LaneEvent.{LaneEvent}
 use Rattle.lane_journals.proofs.Basics.{replied-accepted}
-use Rattle.node_journals.proofs.Words.{contains-is}
+use Rattle.lane_keeping.proofs.Words.{contains-is}
 use Rattle.lane_states.specs.Accepting.{IsActiveAt, HasAccepted, IsAccepted, AreRowsAccepted, IsPartAccepted}
 use Rattle.lane_rounds.proofs.RowLists.{all-get, all-come, all-gone, all-kept, all-at, all-changed}
 use Rattle.lane_upkeep.specs.declared.owner.Owner.{Owner}

@@ -15,7 +15,7 @@ use Rattle.distributor_part.specs.Parts.{rows_of, version_of}
 use Rattle.lane_journals.specs.Readers.{Journal}
 use Rattle.lane_journals.specs.Facts.{InRegion}
 use Rattle.lane_journals.specs.Meanings.{history}
-use Rattle.node_journals.proofs.Holding.{regions-hold}
+use Rattle.lane_keeping.proofs.Holding.{regions-hold}
 use Rattle.lane_keeping.specs.LaneKeeping.{node_in, setting_of}
 use Rattle.row_keeping.proofs.Serving.{actives}
 use Rattle.lane_rest.specs.Targets.{is_active}

@@ -14,7 +14,7 @@ use Rattle.lane_states.specs.declared.lane_state.LaneState.{LaneState}
 use Rattle.lane_rounds.specs.declared.opening.OpeningEnd.{OpeningEnd}
 use Rattle.lane_states.specs.LaneStates.{journal_of, part_of, IsKept, HasRoom, IsCarriedBy, IsResting}
 use Rattle.lane_rounds.specs.Openings.{EndsBy, EndsOpening, StopsOpening}
-use Rattle.round_runs.specs.RoundRuns.{NoneRuns}
+use Rattle.round_keeping.specs.RoundRuns.{NoneRuns}
 use Rattle.upkeep_spans.specs.Spans.{AreUpkeep, Nothing, OfUpkeep}
 use Rattle.lane_upkeep.specs.declared.owner.Owner.{Owner}
 use Rattle.lane_upkeep.specs.Passing.{IsPassing, PassesOn}

@@ -31,13 +31,13 @@ use Rattle.round_keeping.proofs.Waiting.{answered-stays}
 use Rattle.lane_states.specs.declared.lane_state.LaneState.{LaneState}
 use Rattle.lane_states.specs.LaneStates.{journal_of, part_of, IsKept, IsKeptBy, HasRoom, IsResting}
 use Rattle.lane_carriage.specs.Carrying.{AreCarried}
-use Rattle.round_runs.specs.RoundRuns.{NoneRuns}
+use Rattle.round_keeping.specs.RoundRuns.{NoneRuns}
 use Rattle.lane_states.specs.Accepting.{IsPartAccepted, AreAccepted}
 use Rattle.lane_states.proofs.Accepting.{accepted-but}
 use Rattle.lane_states.proofs.Kept.{kept_more, kept_still}
 use Rattle.lane_states.proofs.Places.{part-at}
 use Rattle.lane_keeping.proofs.Parts.{part-own, part-others}
-use Rattle.round_runs.proofs.Runs.{carried-decided}
+use Rattle.round_keeping.proofs.Runs.{carried-decided}
 use Rattle.upkeep_spans.specs.Spans.{AreUpkeep, OfUpkeep, Nothing, More}
 use Rattle.lane_upkeep.specs.declared.owner.Owner.{Owner}
 use Rattle.pass_machine.specs.declared.notes.RowNote.{RowNote}

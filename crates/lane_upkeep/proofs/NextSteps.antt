@@ -4,7 +4,7 @@ use Rattle.std.proofs.lemmas.Option.{slice_get_within}
 use Rattle.bucket_ids.specs.Buckets.{Low}
 use Rattle.messages.specs.declared.body.Body.{Body}
 use Rattle.messages.specs.declared.decision.Decision.{Decision}
-use Rattle.pass_model.proofs.Ordering.{ideal-there}
+use Rattle.ideal_nodes.proofs.Listing.{ideal_there}
 use Rattle.lane_states.specs.declared.lane_state.LaneState.{LaneState}
 use Rattle.pass_machine.specs.declared.pass.UpkeepPass.{UpkeepPass}
 use Rattle.pass_machine.specs.declared.doing.UpkeepStep.{UpkeepStep}
@@ -19,11 +19,11 @@ use Rattle.lane_upkeep.proofs.UnderWay.{TellsOf, DecidesAt, turn_known}
 
 -- an ideal order of each bucket
 pub ideal_of : Owner → Low → List ℕ
-ideal_of o b = (ideal-there o.state b).0
+ideal_of o b = (ideal_there b o.state).nodes
 
 pub ideal_is : (o : Owner) → AreIdeal o (ideal_of o)
 unfolding ideal_of
-ideal_is o b = (ideal-there o.state b).1
+ideal_is o b = (ideal_there b o.state).is_ideal
 
 module _ (c : LaneState) (o : Owner) (p : UpkeepPass) (under : IsUnderWay c o p) where
   pub message_of_row : (n : ℕ) (b : Body) → IsNextStep c o p (Tell n b) → TellsOf c o p.doing n b

@@ -21,7 +21,7 @@ use Rattle.row_keeping.specs.Telling.{IsTelling}
 use Rattle.lane_states.specs.declared.lane_state.LaneState.{LaneState}
 use Rattle.lane_states.specs.LaneStates.{journal_of, part_of, IsKept, HasRoom, IsCarriedBy, IsResting, Went}
 use Rattle.lane_carriage.specs.Carrying.{AreCarried}
-use Rattle.round_runs.specs.RoundRuns.{NoneRuns}
+use Rattle.round_keeping.specs.RoundRuns.{NoneRuns}
 use Rattle.lane_states.specs.Tellings.{IsRowBody}
 use Rattle.lane_carriage.proofs.Staying.{IsOfMessage}
 use Rattle.lane_states.proofs.Tellings.{stays-went}

@@ -1,6 +1,6 @@
 -- What the machine allows is what the lane permits.
 use Rattle.std.proofs.Common.{◌≡◌, ◌∙◌, ◌==◌, ◌&&◌, ◌||◌, not, ◌<◌, ◌≤◌, ◌*◌, ◌^◌, ◌%◌, ℕ, zero, suc, Bool, true, false, List, [], ◌∷◌, Option, Some, None, Contains, inl, inr, refl, sym, ap, ap₂, subst, arith, nat_le, nat_lt, slice_get, get_or, length, take, eqb-true, eq-eqb, if◌then◌else◌}
-use Rattle.std.specs.Prelude.{IfSome, codes}
+use Rattle.std.specs.Prelude.{IfSome}
 use Rattle.std.specs.List.{find}
 use Rattle.std.specs.BTreeMap.{BTreeMap, get}
 use Rattle.std.specs.Ordering.{nat_cmp}
@@ -19,8 +19,8 @@ use Rattle.pieces.proofs.PieceLaws.{bucket-same}
 use Rattle.cluster_states.specs.declared.cluster_state.ClusterState.{ClusterState}
 use Rattle.cluster_states.specs.Publishing.{serves}
 use Rattle.ideal_nodes.specs.Placement.{IsIdeal}
-use Rattle.ideal_nodes.specs.Scores.{Has, score_of}
-use Rattle.ideal_nodes.proofs.Unique.{ranked_unique}
+use Rattle.ideal_nodes.specs.Scores.{Has}
+use Rattle.ideal_nodes.proofs.StateMarks.{ideal_once}
 use Rattle.messages.specs.declared.body.Body.{Body}
 use Rattle.messages.specs.declared.body.Body.TheVariants as body
 use Rattle.messages.specs.declared.decision.Decision.{Decision}
@@ -39,7 +39,7 @@ use Rattle.lane_journals.specs.Meanings.{history}
 use Rattle.lane_rest.specs.Targets.{is_member, is_active, is_target_in}
 use Rattle.proof_basics.proofs.Tests.{or_true, or_left, or_right}
 use Rattle.pass_model.proofs.Counting.{has-member, member-has}
-use Rattle.node_journals.specs.Flights.{NamesBucket}
+use Rattle.lane_keeping.specs.Flights.{NamesBucket}
 use Rattle.row_keeping.specs.Deciding.{IsKeeper, IsDeleteOver}
 use Rattle.row_keeping.specs.Telling.{IsOfRow}
 use Rattle.row_keeping.proofs.Serving.{actives}
@@ -210,8 +210,7 @@ module _ (b : Low) (state : ClusterState) (ideal : List ℕ) (is_ideal : IsIdeal
 
   listed : (n : ℕ) → IsTarget redundancy state b active n → is_target_in redundancy ideal active n ≡ true
   listed n (inl x) =
-      let same : x.ideal ≡ ideal = ranked_unique (score_of (codes "ideal") b) x.ideal ideal (x.is_ideal).ranked is_ideal.ranked
-      (λ k. (λ h. (is_ideal.members k).0 (((x.is_ideal).members k).1 h), λ h. ((x.is_ideal).members k).0 ((is_ideal.members k).1 h))) in
+      let same : x.ideal ≡ ideal = ideal_once b state x.ideal ideal x.is_ideal is_ideal in
       or_left (is_member (take redundancy ideal) n) (is_active active n) (has-member (take redundancy ideal) n (subst (λ (ns : List ℕ). Has n (take redundancy ns)) same x.among))
   listed n (inr is) = or_right (is_member (take redundancy ideal) n) (is_active active n) (ap (λ (a : Option ℕ). is_active a n) is ∙ eq-eqb n n refl)
 

@@ -15,7 +15,7 @@ use Rattle.distributor_part.specs.declared.rules.Rules.{Rules}
 use Rattle.distributor_part.specs.Parts.{Part}
 use Rattle.lane_journals.specs.Events as plain
 use Rattle.lane_journals.specs.Readers as readers
-use Rattle.lane_journals.specs.Readers.{Journal, or_else, only_if, sent, first_reply, returned, is_answer, held, asked, opened, published}
+use Rattle.lane_journals.specs.Readers.{or_else, only_if, sent, first_reply, returned, held, asked, opened, published}
 use Rattle.lane_journals.specs.RowLists.{row_with, rows}
 use Rattle.lane_journals.specs.Places.{Setting, state_in}
 use Rattle.lane_journals.specs.States.{state_of}
@@ -27,7 +27,7 @@ use Rattle.lane_journals.specs.declared.event.LaneEvent.TheVariants.{Delivered, 
 use Rattle.lane_journals.proofs.Basics.{sent-stays, first_reply-stays, returned-replied}
 use Rattle.proof_basics.proofs.Options.{some-none}
 use Rattle.lane_journals.proofs.Meant.{meant-legal}
-use Rattle.node_journals.specs.Replaying.{sending}
+use Rattle.lane_keeping.specs.Replaying.{sending}
 use Rattle.lane_keeping.specs.LaneKeeping.{setting_of, IsNewest, PartKeeps, Holds, KnowsOpening}
 use Rattle.lane_keeping.specs.Acting.{IsActing}
 use Rattle.lane_journals.proofs.Replies.{IsOwed, known-owed, not-fenced}

@@ -18,10 +18,10 @@ use Rattle.lane_journals.specs.Meanings.{history}
 use Rattle.lane_journals.specs.declared.event.LaneEvent.{LaneEvent}
 use Rattle.lane_keeping.specs.LaneKeeping.{node_in, setting_of}
 use Rattle.lane_states.specs.declared.lane_state.LaneState.{LaneState}
-use Rattle.round_runs.specs.declared.round_run.RoundRun.{RoundRun}
-use Rattle.round_runs.specs.declared.round_run.RoundEnd.{RoundEnd}
+use Rattle.round_keeping.specs.declared.round_run.RoundRun.{RoundRun}
+use Rattle.round_keeping.specs.declared.round_run.RoundEnd.{RoundEnd}
 use Rattle.lane_states.specs.LaneStates.{journal_of, part_of}
-use Rattle.round_runs.specs.RoundRuns.{Begins}
+use Rattle.round_keeping.specs.RoundRuns.{Begins}
 use Rattle.pass_model.specs.Rows.{Settings}
 use Rattle.pass_model.specs.Scripts.{Script}
 use Rattle.undisturbed_spans.specs.Undisturbed.{Extends}

@@ -11,11 +11,11 @@ use Rattle.messages.specs.Noting.{message_of, noted_reply}
 use Rattle.service_layer.specs.Nodes.{Node}
 use Rattle.lane_journals.specs.Events as plain
 use Rattle.lane_journals.specs.Readers as readers
-use Rattle.lane_journals.specs.Readers.{first_reply, returned, stopped, version}
+use Rattle.lane_journals.specs.Readers.{first_reply, returned, stopped}
 use Rattle.lane_journals.specs.Meanings.{history, entry_at, meaning_reply}
 use Rattle.lane_journals.specs.declared.event.LaneEvent.{LaneEvent}
-use Rattle.node_journals.specs.Flights.{Brings}
-use Rattle.node_journals.specs.Replaying.{sending}
+use Rattle.lane_keeping.specs.Flights.{Brings}
+use Rattle.lane_keeping.specs.Replaying.{sending}
 use Rattle.lane_carriage.specs.Carriage.{met, IsDealt, AreDelivered, due}
 use Rattle.lane_carriage.specs.Waits.{numbers}
 use Rattle.lane_carriage.specs.Laws.{OfTaken}

@@ -17,7 +17,7 @@ use Rattle.lane_journals.specs.Places.{Setting, state_in, published_states}
 use Rattle.lane_journals.specs.KeptJournals.{IsLegal}
 use Rattle.lane_journals.specs.declared.event.LaneEvent.{LaneEvent}
 use Rattle.lane_journals.proofs.Meant.{meant-legal}
-use Rattle.node_journals.specs.NodeKeeping.{NodeKeeps}
+use Rattle.lane_keeping.specs.NodeKeeping.{NodeKeeps}
 use Rattle.lane_carriage.specs.Carriage.{IsCarried}
 use Rattle.lane_keeping.specs.LaneKeeping.{setting_of, part_in, IsNewest, KnowsOpening}
 use Rattle.lane_keeping.specs.Laws.{OfKept}

@@ -13,7 +13,7 @@ use Rattle.lane_journals.specs.Meanings.{history}
 use Rattle.lane_journals.specs.declared.event.LaneEvent.{LaneEvent}
 use Rattle.lane_journals.proofs.BucketLaws.{own-low}
 use Rattle.lane_journals.proofs.Parted.{PartedRows, parted, in-list}
-use Rattle.node_journals.specs.NodeKeeping.{NodeKeeps}
+use Rattle.lane_keeping.specs.NodeKeeping.{NodeKeeps}
 use Rattle.lane_keeping.specs.LaneKeeping.{node_in, row_by, IsRow, IsRowOf}
 use Rattle.lane_states.specs.declared.lane_state.LaneState.{LaneState}
 use Rattle.lane_states.specs.LaneStates.{journal_of, IsKept}

@@ -16,18 +16,18 @@ use Rattle.distributor_part.specs.Steps.{with_marks}
 use Rattle.distributor_part.specs.Upkeep.{BeginsRoundAt}
 use Rattle.merge_rounds.specs.Rounds.{RoundState}
 use Rattle.service_layer.specs.Nodes.{Node}
-use Rattle.node_journals.specs.Spans.{NodesGo}
+use Rattle.lane_keeping.specs.Spans.{NodesGo}
 use Rattle.lane_journals.specs.declared.event.LaneEvent.{LaneEvent}
 use Rattle.lane_keeping.specs.LaneKeeping.{node_in, part_in}
 use Rattle.lane_keeping.specs.Acting.{IsActing}
 use Rattle.lane_keeping.specs.Asking.{OthersStay}
 use Rattle.round_keeping.specs.RoundKeeping.{KnowsAnswers}
-use Rattle.round_runs.specs.declared.round_run.RoundRun.{RoundRun}
-use Rattle.round_runs.specs.declared.round_run.RoundEnd.{RoundEnd}
+use Rattle.round_keeping.specs.declared.round_run.RoundRun.{RoundRun}
+use Rattle.round_keeping.specs.declared.round_run.RoundEnd.{RoundEnd}
 use Rattle.lane_states.specs.declared.lane_state.LaneState.{LaneState}
 use Rattle.lane_states.specs.LaneStates.{journal_of, part_of, NodesOn, IsResting}
-use Rattle.round_runs.specs.RoundRuns.{GoesOn, Begins, EndsRun, IsEnd, IsWholeRun}
-use Rattle.round_runs.proofs.Staying.{stays-round}
+use Rattle.round_keeping.specs.RoundRuns.{GoesOn, Begins, EndsRun, IsEnd, IsWholeRun}
+use Rattle.round_keeping.proofs.Staying.{stays-round}
 use Rattle.lane_states.proofs.SameStates.{same-state}
 use Rattle.upkeep_spans.specs.Spans.{AreUpkeep}
 use Rattle.lane_upkeep.specs.declared.owner.Owner.{Owner}

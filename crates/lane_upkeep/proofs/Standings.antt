@@ -17,7 +17,7 @@ use Rattle.bucket_db.specs.declared.row.Row.{Row}
 use Rattle.distributor_part.specs.Parts.{Part, rows_of}
 use Rattle.distributor_part.specs.Upkeep.{AcceptsAt}
 use Rattle.distributor_part.specs.declared.rules.Rules.{Rules}
-use Rattle.node_journals.specs.Flights.{NamesBucket}
+use Rattle.lane_keeping.specs.Flights.{NamesBucket}
 use Rattle.row_keeping.proofs.Serving.{actives, deletes}
 use Rattle.pass_model.specs.Nodes.{Node}
 use Rattle.pass_model.specs.Shapes.{Shape, shape_of}

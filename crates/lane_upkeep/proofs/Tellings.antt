@@ -10,7 +10,7 @@ use Rattle.bucket_db.specs.declared.row.Row.{Row}
 use Rattle.lane_journals.specs.Events as plain
 use Rattle.lane_journals.specs.Meanings.{content, names, meaning_reply}
 use Rattle.lane_journals.specs.declared.event.LaneEvent.{LaneEvent}
-use Rattle.node_journals.specs.Flights.{meant}
+use Rattle.lane_keeping.specs.Flights.{meant}
 use Rattle.row_keeping.specs.Telling.{IsOfRow}
 use Rattle.lane_states.specs.Tellings.{IsRowBody, IsAnsweredBy}
 use Rattle.upkeep_spans.specs.Spans.{IsUpkeepBody}

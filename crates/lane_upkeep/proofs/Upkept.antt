@@ -15,19 +15,19 @@ use Rattle.distributor_part.specs.Parts.{Part}
 use Rattle.merge_rounds.specs.Rounds.{RoundState, IsNext}
 use Rattle.lane_journals.specs.declared.event.LaneEvent.{LaneEvent}
 use Rattle.lane_journals.specs.declared.event.LaneEvent.TheVariants as event
-use Rattle.node_journals.specs.Replaying.{sending}
+use Rattle.lane_keeping.specs.Replaying.{sending}
 use Rattle.lane_carriage.specs.Carriage.{IsDealt, AreDelivered}
 use Rattle.lane_carriage.specs.Waits.{numbers}
 use Rattle.round_keeping.specs.RoundKeeping.{origin_in}
 use Rattle.lane_states.specs.declared.lane_state.LaneState.{LaneState}
 use Rattle.lane_rounds.specs.declared.opening.OpeningEnd.{OpeningEnd}
-use Rattle.round_runs.specs.declared.round_run.RoundRun.{RoundRun}
-use Rattle.round_runs.specs.declared.round_run.RoundEnd.{RoundEnd}
+use Rattle.round_keeping.specs.declared.round_run.RoundRun.{RoundRun}
+use Rattle.round_keeping.specs.declared.round_run.RoundEnd.{RoundEnd}
 use Rattle.lane_carriage.specs.Carrying.{met_at}
 use Rattle.lane_states.specs.LaneStates.{journal_of, part_of, Went}
 use Rattle.lane_rounds.specs.Openings.{IsGone, IsAsked, Nobody, More, EndsBy, EndsOpening, StopsOpening}
-use Rattle.round_runs.specs.RoundRuns as runs
-use Rattle.round_runs.specs.RoundRuns.{Sends, SendsNext, IsRoundRun, Begins, IsWholeRun, IsCutShort, GoesOn}
+use Rattle.round_keeping.specs.RoundRuns as runs
+use Rattle.round_keeping.specs.RoundRuns.{Sends, IsRoundRun, Begins, IsWholeRun, IsCutShort}
 use Rattle.lane_carriage.proofs.GivenOut.{over-all}
 use Rattle.upkeep_spans.specs.Spans as spans
 use Rattle.upkeep_spans.specs.Spans.{IsUpkeepBody, IsUpkeepEvent, AreUpkeep}

@@ -8,7 +8,7 @@ use Rattle.lane_journals.specs.Meanings.{history}
 use Rattle.lane_keeping.specs.Acting.{IsActing}
 use Rattle.lane_states.specs.declared.lane_state.LaneState.{LaneState}
 use Rattle.lane_states.specs.LaneStates.{journal_of, part_of, IsKept, HasRoom, IsCarriedBy, IsResting}
-use Rattle.round_runs.specs.RoundRuns.{NoneRuns}
+use Rattle.round_keeping.specs.RoundRuns.{NoneRuns}
 use Rattle.upkeep_spans.specs.Spans.{later}
 use Rattle.upkeep_spans.specs.Causes.{first_absent}
 use Rattle.lane_upkeep.specs.declared.owner.Owner.{Owner}

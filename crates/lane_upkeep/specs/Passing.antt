@@ -10,13 +10,13 @@ use Rattle.distributor_part.specs.Parts.{rows_of}
 use Rattle.distributor_part.specs.Steps.{IsOpened}
 use Rattle.lane_journals.specs.Facts.{Idle}
 use Rattle.lane_journals.specs.Meanings.{history}
-use Rattle.node_journals.specs.Flights.{NamesBucket}
+use Rattle.lane_keeping.specs.Flights.{NamesBucket}
 use Rattle.lane_keeping.specs.Acting.{IsActing}
 use Rattle.lane_keeping.specs.Asking.{OthersStay}
 use Rattle.row_keeping.specs.Telling.{IsOfRow}
 use Rattle.lane_states.specs.declared.lane_state.LaneState.{LaneState}
 use Rattle.lane_states.specs.LaneStates.{journal_of, part_of, IsKept, HasRoom, IsCarriedBy, IsResting}
-use Rattle.round_runs.specs.RoundRuns.{NoneRuns}
+use Rattle.round_keeping.specs.RoundRuns.{NoneRuns}
 use Rattle.upkeep_spans.specs.Spans.{AreUpkeep}
 use Rattle.lane_upkeep.specs.declared.owner.Owner.{Owner}
 

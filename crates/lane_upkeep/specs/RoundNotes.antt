@@ -16,12 +16,12 @@ use Rattle.merge_rounds.specs.Rounds.{RoundState, HaveAllShown, pieces_by}
 use Rattle.lane_journals.specs.declared.event.LaneEvent.{LaneEvent}
 use Rattle.lane_keeping.specs.LaneKeeping.{node_in}
 use Rattle.round_keeping.specs.RoundKeeping.{KnowsAnswers}
-use Rattle.node_journals.specs.Spans.{NodesGo}
+use Rattle.lane_keeping.specs.Spans.{NodesGo}
 use Rattle.lane_states.specs.declared.lane_state.LaneState.{LaneState}
-use Rattle.round_runs.specs.declared.round_run.RoundEnd.{RoundEnd}
-use Rattle.round_runs.specs.declared.round_run.RoundRun.{RoundRun}
+use Rattle.round_keeping.specs.declared.round_run.RoundEnd.{RoundEnd}
+use Rattle.round_keeping.specs.declared.round_run.RoundRun.{RoundRun}
 use Rattle.lane_states.specs.LaneStates.{journal_of, part_of}
-use Rattle.round_runs.specs.RoundRuns.{Begins, GoesOn, IsEnd, IsWholeRun}
+use Rattle.round_keeping.specs.RoundRuns.{Begins, GoesOn, IsEnd, IsWholeRun}
 use Rattle.lane_upkeep.specs.declared.owner.Owner.{Owner}
 use Rattle.pass_machine.specs.declared.notes.Exact.{Exact}
 use Rattle.pass_machine.specs.declared.notes.RowNote.{RowNote}

@@ -1,4 +1,4 @@
-ghost use Rattle.std.specs.Prelude.{◌≡◌, ◌<◌, ℕ, List, length, OnOk, OnErr, IfSome, slice_get};
+ghost use Rattle.std.specs.Prelude.{◌≡◌, ◌<◌, List, length, OnOk, OnErr, IfSome, slice_get};
 ghost use Rattle.bucket_db.specs.declared.row.Row.{Row};
 ghost use Rattle.carriers.specs.declared.fate.Fate.{Fate};
 ghost use Rattle.distributor_part.specs.Upkeep.{CanJoinAt};
@@ -24,7 +24,7 @@ use row_keeping::laws::{
 use upkeep_spans::laws::upkeep_leaves_lines;
 use value_lists::NoMemory;
 
-/// Makes room for one decision. The only error is want of memory.
+/// Makes room for one decision.
 fn room_for_decision(lane: &mut LaneState) -> Result<(), NoMemory>
     requires keeps { IsKept lane.old }
     requires spare { HasRoom 0 lane.old }
@@ -126,7 +126,7 @@ pub fn activate(lane: &mut LaneState, owner: &Owner, at: usize, node: u8) -> Res
     Ok(())
 }
 
-/// Notes that the active node of a row accepted its activation, which is no decision; takes no memory.
+/// Notes that the active node of a row accepted its activation, which is no decision.
 pub fn accept(lane: &mut LaneState, owner: &Owner, at: usize)
     requires passing { Passes lane.old owner.now }
     requires place { at < length (rows_in lane.old owner.now) }

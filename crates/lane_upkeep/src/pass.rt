@@ -1,4 +1,4 @@
-ghost use Rattle.std.specs.Prelude.{◌≡◌, ℕ, true, false, OnOk, IfOk, length, ◌<◌};
+ghost use Rattle.std.specs.Prelude.{◌≡◌, true, false, OnOk, IfOk, ◌<◌};
 ghost use Rattle.pass_machine.specs.declared.doing.Doing.TheVariants.{Finished};
 ghost use Rattle.lane_upkeep.specs.Passing.{IsPassing, PassesOn};
 ghost use Rattle.lane_upkeep.specs.Quiet.{DoesQuietly, PassesQuietly, StandsOn};

@@ -1,4 +1,4 @@
-ghost use Rattle.std.specs.Prelude.{◌≡◌, ◌≢◌, ◌<◌, ◌+◌, ◌↔◌, ℕ, true, false, IfOk, OnOk, IfSome, IfNone, length, Contains, if◌then◌else◌};
+ghost use Rattle.std.specs.Prelude.{◌≡◌, ◌≢◌, ◌<◌, ◌+◌, ℕ, IfOk, OnOk, IfSome, IfNone, length};
 ghost use Rattle.std.specs.List.{list_any};
 ghost use Rattle.node_sets.specs.Members.{has_node};
 ghost use Rattle.entry_maps.specs.Entries.{documents_of};
@@ -9,7 +9,7 @@ ghost use Rattle.undisturbed_spans.specs.Undisturbed.{Extends};
 ghost use Rattle.round_keeping.specs.RoundKeeping.{KnowsAnswers};
 ghost use Rattle.lane_states.specs.LaneStates.{journal_of, part_of};
 ghost use Rattle.lane_states.specs.Shortages.{NoneIsShort, EndsAtOnce};
-ghost use Rattle.round_runs.specs.RoundShortages.{HadMemory};
+ghost use Rattle.round_keeping.specs.RoundShortages.{HadMemory};
 ghost use Rattle.pass_machine.specs.declared.notes.RowNote.{RowNote as Note};
 ghost use Rattle.lane_upkeep.specs.Passing.{IsPassing, PassesOn, rows_in, HasRow};
 ghost use Rattle.lane_upkeep.specs.Notes.{KnowsNote};
@@ -26,7 +26,7 @@ use node_sets::NodeSet;
 use pass_machine::{Exact, RowNote};
 use pass_model::shown_rows::targets_are_of_the_list;
 use pieces::Piece;
-use round_runs::RoundRun;
+use round_keeping::RoundRun;
 use std::alloc::Global;
 use undisturbed_rounds::ending::undisturbed_rounds_end;
 use upkeep_spans::laws::{upkeep_goes_on, upkeep_leaves_lines, upkeep_leaves_states};
@@ -46,7 +46,7 @@ fn has_inside(row: Bucket, pieces: &[Piece]) -> bool
     pieces.iter().any(|piece| row.bits() < piece.bucket.bits() && row.covers(piece.bucket))
 }
 
-/// The nodes that showed a piece strictly over the row of a round; takes no memory.
+/// The nodes that showed a piece strictly over the row of a round.
 fn over_of(round: &Round) -> NodeSet
     ensures { (n : ℕ) → n < 32
         → has_node result n ≡ list_any (is_over round.now.row) (pieces_by n round.now.shown) }
@@ -60,7 +60,7 @@ fn over_of(round: &Round) -> NodeSet
     nodes
 }
 
-/// The nodes that showed a piece strictly inside the row of a round; takes no memory.
+/// The nodes that showed a piece strictly inside the row of a round.
 fn inside_of(round: &Round) -> NodeSet
     ensures { (n : ℕ) → n < 32
         → has_node result n ≡ list_any (is_inside round.now.row) (pieces_by n round.now.shown) }
@@ -86,14 +86,14 @@ fn serial_of(row: Bucket, pieces: &[Piece]) -> Option<u64>
     None
 }
 
-/// The serial of the piece by which a node showed just the row of a round, if it did; takes no memory.
+/// The serial of the piece by which a node showed just the row of a round, if it did.
 fn serial_at(round: &Round, node: u8) -> Option<u64>
     ensures { result ≡ serial_in round.now.row (pieces_by node round.now.shown) }
 {
     serial_of(round.row(), round.pieces_of(node))
 }
 
-/// Adds a node to those that showed just the row of a round, if it did. The only error is want of memory.
+/// Adds a node to those that showed just the row of a round, if it did.
 #[tactic(auto, using(crate::proofs::Exacts::below_none, crate::proofs::Exacts::below_some))]
 fn add_exact(exact: &mut Vec<Exact>, round: &Round, node: u8) -> Result<(), NoMemory>
     requires below { AreExactBelow round.now node exact.old.items }
@@ -108,7 +108,7 @@ fn add_exact(exact: &mut Vec<Exact>, round: &Round, node: u8) -> Result<(), NoMe
     }
 }
 
-/// The nodes that showed just the row of a round. The only error is want of memory.
+/// The nodes that showed just the row of a round.
 #[tactic(auto, using(crate::proofs::Exacts::below_first))]
 fn exact_of(alloc: Global, round: &Round) -> Result<Vec<Exact>, NoMemory>
     ensures { IfOk result (λ exact. AreExactBelow round.now 32 exact.items) }
@@ -132,7 +132,7 @@ fn union_size(round: &Round) -> Option<u64>
     }
 }
 
-/// What a round told of its row. The only error is want of memory.
+/// What a round told of its row.
 fn note_of(alloc: Global, round: &Round) -> Result<RowNote, NoMemory>
     ensures { IfOk result (IsNoteOf round.now) }
 {

@@ -55,7 +55,7 @@ fn nodes_are_few(owner: &Owner)
     let _serving = owner.state.serving();
 }
 
-/// The next step of a pass, which the lane permits; takes no memory.
+/// The next step of a pass, which the lane permits.
 pub fn next_of(lane: &LaneState, owner: &Owner, pass: &mut UpkeepPass) -> UpkeepStep
     requires passing { Passes lane.now owner.now }
     requires under_way { IsUnderWay lane.now owner.now pass.old }
@@ -210,7 +210,7 @@ pub fn decide(
 
 // ---- an acceptance
 
-/// Notes that the active node of the row of a place accepted, which is no decision; takes no memory.
+/// Notes that the active node of the row of a place accepted, which is no decision.
 pub fn note_acceptance(lane: &mut LaneState, owner: &Owner, pass: &mut UpkeepPass, at: usize)
     requires passing { Passes lane.old owner.now }
     requires under_way { IsUnderWay lane.old owner.now pass.old }

@@ -22,7 +22,7 @@ use undisturbed_spans::tellings::undisturbed_tellings_are_told;
 use upkeep_spans::laws::{upkeep_goes_on, upkeep_leaves_lines, upkeep_leaves_states};
 use value_lists::NoMemory;
 
-/// The message of the owner of a lane to a node; takes no memory.
+/// The message of the owner of a lane to a node.
 fn message_to(lane: Bucket, owner: &Owner, node: u8, body: Body) -> Message
     requires { lane.bits ≤ 6 }
     ensures { result ≡ message_of (origin_in lane owner.now.distributor owner.now.state) node body }

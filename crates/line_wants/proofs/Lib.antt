@@ -3,4 +3,3 @@ pub mod Sizes
 pub mod Receivers
 -- Of this crate alone.
 mod Falling
-mod Ideal

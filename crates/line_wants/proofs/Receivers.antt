@@ -1,5 +1,5 @@
 -- A round goes to enough nodes: as many of the ideal order as there are to be copies, and a state has enough of them.
-use Rattle.std.proofs.Common.{◌≡◌, ◌↔◌, ℕ, ◌≤◌, Bool, true, false, cond, List, [], ◌∷◌, length, take, min, Option, Some, None, inl, inr, sym, ap, ◌∙◌, subst, arith, codes, eqb, ltb}
+use Rattle.std.proofs.Common.{◌≡◌, ◌↔◌, ℕ, ◌≤◌, Bool, true, false, cond, List, [], ◌∷◌, length, take, min, Option, Some, None, inl, inr, sym, ap, ◌∙◌, subst, arith, eqb, ltb}
 use Rattle.std.proofs.lemmas.Bool.{cases_lt, lt-ltb}
 use Rattle.std.proofs.lemmas.List.{length-take}
 use Rattle.bucket_ids.specs.Buckets.{Low}
@@ -8,7 +8,10 @@ use Rattle.cluster_states.specs.declared.cluster_state.ClusterState.{ClusterStat
 use Rattle.cluster_states.specs.declared.states.PublishFault.{PublishFault}
 use Rattle.cluster_states.specs.declared.states.PublishFault.TheVariants.{TooFewUp}
 use Rattle.cluster_states.specs.Publishing.{up_of}
-use Rattle.ideal_nodes.specs.Scores.{score_of}
+use Rattle.ideal_nodes.specs.Placement.{Precedes}
+use Rattle.ideal_nodes.proofs.Orders.{precedes_are_order}
+use Rattle.ideal_nodes.proofs.Places.{ranked_take}
+use Rattle.ideal_nodes.proofs.Listing.{ideal_there}
 use Rattle.messages.specs.declared.decision.Decision.TheVariants as choice
 use Rattle.distributor_part.specs.declared.rules.Rules.{Rules}
 use Rattle.lane_journals.specs.Buckets.{same_bucket}
@@ -20,7 +23,6 @@ use Rattle.lane_journals.proofs.Basics.{or_else-cases, only_if-some}
 use Rattle.lane_keeping.specs.LaneKeeping.{setting_of}
 use Rattle.line_wants.specs.RuleBounds.{AreRules}
 use Rattle.line_wants.proofs.Sizes.{within-size, ranked-size}
-use Rattle.line_wants.proofs.Ideal.{ranked-take, ideal-of}
 
 no-fault : (up acks : ℕ) → cond (ltb up acks) (Some (TooFewUp up acks)) None ≡ None → acks ≤ up
 no-fault up acks h = elim (cases_lt up acks) [
@@ -50,11 +52,11 @@ module _ (lane : Low) (rules : Rules) where
   module _ (are : AreRules rules) where
     targets-enough : (L : List LaneEvent) → IsLegal S L → (w : ℕ) (c : Low) (set : ℕ) (s : ClusterState) → state_in w L ≡ Some s → ((n : ℕ) → (has_node set n ≡ true) ↔ IsTarget S L w c n) → rules.acks ≤ size_of set
     targets-enough L l w c set s at is =
-        let i = ideal-of c s in
+        let i = ideal_there c s in
         let up : rules.acks ≤ up_of s = state-up L l w s at in
         let many = i.many in
         let some = are.enough in
-        let first = ranked-size (score_of (codes "ideal") c) (take rules.redundancy i.nodes) set (ranked-take (score_of (codes "ideal") c) rules.redundancy i.nodes (i.is_ideal).ranked)
+        let first = ranked-size (Precedes c s) (precedes_are_order c s) (take rules.redundancy i.nodes) set (ranked_take (Precedes c s) rules.redundancy i.nodes (i.is_ideal).ranked)
         (λ n has. (is n).1 (inl (record { state = s; published = at; ideal = i.nodes; is_ideal = i.is_ideal; among = has }))) in
         let taken = length-take rules.redundancy i.nodes in
         let low = least rules.acks rules.redundancy (length i.nodes) some (omega (arith, up, many)) in

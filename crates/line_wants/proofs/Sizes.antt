@@ -4,7 +4,8 @@ use Rattle.std.proofs.lemmas.Bool.{cases_order, eqb-true, and_from}
 use Rattle.std.proofs.lemmas.Bool.Decides.{nat_tests}
 use Rattle.node_sets.specs.Members.{has_node, size_below, size_of, Within}
 use Rattle.node_sets.proofs.Bits.{size_whole}
-use Rattle.ideal_nodes.specs.Scores.{Ranks, IsRanked, Has}
+use Rattle.ideal_nodes.specs.Scores.{IsRanked, Has}
+use Rattle.ideal_nodes.proofs.Orders.{IsOrder}
 use Rattle.ideal_nodes.proofs.Firsts.{member_small}
 use Rattle.op_machine.specs.Nodes.{count_below, count_nodes}
 use Rattle.op_machine.proofs.NodeLaws.{size_of-count}
@@ -81,26 +82,22 @@ remove-count p n (suc k) h lt = elim (cases_order n k) [
   ]
 ]
 
-not-itself : (score : ℕ → ℕ) (n : ℕ) → Ranks score n n → ⊥
-not-itself score n (inl lower) = omega (arith, lower)
-not-itself score n (inr tie) = let z = tie.1 in omega (arith, z)
-
-ranked-count : (score : ℕ → ℕ) (ns : List ℕ) (p : ℕ → Bool) → IsRanked score ns → ((n : ℕ) → Has n ns → p n ≡ true) → ((n : ℕ) → p n ≡ true → n < 32) → length ns ≤ count_below p 32
-ranked-count score [] p r h small = omega arith
-ranked-count score (n ∷ ns) p r h small =
+ranked-count : (before : ℕ → ℕ → Type 0) → IsOrder before → (ns : List ℕ) (p : ℕ → Bool) → IsRanked before ns → ((n : ℕ) → Has n ns → p n ≡ true) → ((n : ℕ) → p n ≡ true → n < 32) → length ns ≤ count_below p 32
+ranked-count before o [] p r h small = omega arith
+ranked-count before o (n ∷ ns) p r h small =
     let here = h n (inl refl) in
-    let i = ranked-count score ns (but n p) r.1 (λ m has. and_from (p m) (not (eqb m n)) (h m (inr has)) (apart m has (eqb m n) refl)) (λ m q. small m (but-less n p m q)) in
+    let i = ranked-count before o ns (but n p) r.1 (λ m has. and_from (p m) (not (eqb m n)) (h m (inr has)) (apart m has (eqb m n) refl)) (λ m q. small m (but-less n p m q)) in
     let j = remove-count p n 32 here (small n here) in
     omega arith
   where
     apart : (m : ℕ) → Has m ns → (t : Bool) → eqb m n ≡ t → not t ≡ true
-    apart m has true e = absurd (not-itself score n (subst (Ranks score n) (eqb-true m n e) (r.0 m has)))
+    apart m has true e = absurd (o.never n (subst (before n) (eqb-true m n e) (r.0 m has)))
     apart m has false e = refl
 
 -- a ranked list of members
-pub ranked-size : (score : ℕ → ℕ) (ns : List ℕ) (set : ℕ) → IsRanked score ns → ((n : ℕ) → Has n ns → has_node set n ≡ true) → length ns ≤ size_of set
+pub ranked-size : (before : ℕ → ℕ → Type 0) → IsOrder before → (ns : List ℕ) (set : ℕ) → IsRanked before ns → ((n : ℕ) → Has n ns → has_node set n ≡ true) → length ns ≤ size_of set
 unfolding count_nodes
-ranked-size score ns set r h =
-    let i = ranked-count score ns (has_node set) r h (member_small set) in
+ranked-size before o ns set r h =
+    let i = ranked-count before o ns (has_node set) r h (member_small set) in
     let z : size_of set ≡ count_below (has_node set) 32 = size_of-count set (has_node set) (λ n. refl) in
     omega arith

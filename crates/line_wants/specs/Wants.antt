@@ -33,7 +33,7 @@ use Rattle.lane_journals.specs.Readers.{Journal, Beginning, prepared, opened, ro
 use Rattle.lane_journals.specs.Meanings.{history}
 use Rattle.lane_journals.specs.declared.event.LaneEvent.{LaneEvent}
 use Rattle.lane_journals.specs.declared.event.LaneEvent.TheVariants.{Opened, Prepared, Wrote, Delivered, Returned, Decided}
-use Rattle.node_journals.specs.Replaying.{sending}
+use Rattle.lane_keeping.specs.Replaying.{sending}
 use Rattle.lane_keeping.specs.LaneKeeping.{PartKeeps}
 use Rattle.lane_keeping.specs.Acting.{IsActing, IsKnownRow}
 use Rattle.round_keeping.specs.RoundKeeping.{KnowsRound, KnowsAnswers}

@@ -53,7 +53,7 @@ impl Model for Round {
 }
 
 impl Round {
-    /// A round that has sent nothing; takes no memory.
+    /// A round that has sent nothing.
     pub fn new(
         alloc: Global,
         origin: Origin,
@@ -79,7 +79,7 @@ impl Round {
 
     /// The next message: a Read of the row to each reader in rising number, then, where all have answered,
     /// an Apply of the union to each receiver in rising number; `None` where nothing is left to send.
-    /// The answer to the message before was told. The only error is want of memory.
+    /// The answer to the message before was told.
     pub fn send(&mut self, alloc: Global) -> Result<Option<Message>, NoMemory>
         requires { self.old.awaited ≡ None }
         ensures message { IfOk result (λ sent. IsNext self.old sent) }
@@ -171,7 +171,7 @@ impl Round {
         self.awaited
     }
 
-    /// The union of the answers; none exactly while a reader hasn't answered. Takes no memory.
+    /// The union of the answers; none exactly while a reader hasn't answered.
     pub fn union(&self) -> Option<&EntryMap>
         ensures some { IfSome result (λ union. union.now ≡ self.now.union) }
         ensures whole { IfSome result (λ union. HaveAllShown self.now.readers self.now.shown) }

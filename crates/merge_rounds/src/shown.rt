@@ -83,7 +83,7 @@ pub fn pieces_by(node: u8, shown: &[NodePieces]) -> &[Piece]
     &[]
 }
 
-/// Takes what a node's answer showed. The only error is want of memory.
+/// Takes what a node's answer showed.
 fn take(
     alloc: Global,
     shown: &mut Vec<NodePieces>,

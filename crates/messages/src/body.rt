@@ -31,7 +31,7 @@ pub enum Body {
     Activate { bucket: Bucket },
 }
 
-/// A copy of what may be an id. The only error is want of memory.
+/// A copy of what may be an id.
 pub fn copy_id(alloc: Global, id: &Option<DocId>) -> Result<Option<DocId>, NoMemory>
     ensures { IfOk result (λ copy. copy ≡ id.now) }
 {

@@ -50,7 +50,7 @@ fn place_of(items: &[Late], due: u64) -> usize
 }
 
 impl LateList {
-    /// Nothing waits; takes no memory.
+    /// Nothing waits.
     pub fn new(alloc: Global) -> LateList
         ensures { result.late ≡ [] }
     {
@@ -59,7 +59,7 @@ impl LateList {
         }
     }
 
-    /// How many messages wait; takes no memory.
+    /// How many messages wait.
     pub fn len(&self) -> usize
         ensures { result ≡ length self.now.late }
     {
@@ -76,7 +76,7 @@ impl LateList {
         Ok(())
     }
 
-    /// Keeps a message, which was sent after all that wait; takes no memory.
+    /// Keeps a message, which was sent after all that wait.
     pub fn keep(&mut self, due: u64, number: u64, message: Message)
         requires room { self.old.room ≡ true }
         requires newest { AreSentBefore number self.old.late }
@@ -96,7 +96,7 @@ impl LateList {
         };
     }
 
-    /// Takes the first message that waits, if it is due by now; takes no memory.
+    /// Takes the first message that waits, if it is due by now.
     pub fn take_due(&mut self, now: u64) -> Option<Late>
         ensures taken { IsTaken now self.old.late result self.new.late }
         ensures room { self.old.room ≡ true → self.new.room ≡ true }

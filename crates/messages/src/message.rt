@@ -19,7 +19,7 @@ pub struct Message {
 }
 
 impl Message {
-    /// The version of the cluster state under which the message was sent; takes no memory.
+    /// The version of the cluster state under which the message was sent.
     pub fn version(&self) -> u32
         ensures { result ≡ self.now.version }
     {
@@ -49,7 +49,7 @@ pub struct Origin {
 }
 
 impl Origin {
-    /// The message of this origin to a node; takes no memory.
+    /// The message of this origin to a node.
     pub fn message(self, receiver: u8, body: Body) -> Message
         ensures { result ≡ message_of self receiver body }
     {

@@ -96,7 +96,7 @@ impl TryCopy for NotedReply {
     }
 }
 
-/// The stamps of some entries, in rising order. The only error is want of memory.
+/// The stamps of some entries, in rising order.
 fn noted_entries(entries: &EntryMap) -> Result<StampList, NoMemory>
     ensures { IfOk result (λ stamps. stamps ≡ stamps_of entries.now) }
 {
@@ -104,8 +104,7 @@ fn noted_entries(entries: &EntryMap) -> Result<StampList, NoMemory>
 }
 
 impl Body {
-    /// The body with each entry named by its stamp, of several entries in rising order. The only error
-    /// is want of memory.
+    /// The body with each entry named by its stamp, of several entries in rising order.
     pub fn noted(&self, alloc: Global) -> Result<NotedBody, NoMemory>
         ensures { IfOk result (λ noted. noted ≡ noted_body self.now) }
     {
@@ -135,7 +134,7 @@ impl Body {
 }
 
 impl Reply {
-    /// The reply with each entry named by its stamp, in rising order. The only error is want of memory.
+    /// The reply with each entry named by its stamp, in rising order.
     pub fn noted(&self, alloc: Global) -> Result<NotedReply, NoMemory>
         ensures { IfOk result (λ noted. noted ≡ noted_reply self.now) }
     {

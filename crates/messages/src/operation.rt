@@ -137,7 +137,7 @@ fn decide_plain(kind: &OpKind, create: bool, seen: Option<&Document>) -> Decided
 }
 
 impl Operation {
-    /// What becomes of the operation where it sees this document, or none; takes no memory.
+    /// What becomes of the operation where it sees this document, or none.
     pub fn decide(&self, seen: Option<&Document>) -> Decided
         ensures { result ≡ decide self.now (option_map (λ d. d.now) seen.entry) }
     {

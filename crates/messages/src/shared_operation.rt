@@ -25,7 +25,7 @@ impl Model for SharedOperation {
 }
 
 impl SharedOperation {
-    /// The operation, to be shared. The only error is want of memory.
+    /// The operation, to be shared.
     pub fn new(alloc: Global, operation: Operation) -> Result<SharedOperation, NoMemory>
         ensures { IfOk result (λ shared. shared ≡ operation) }
     {
@@ -35,7 +35,7 @@ impl SharedOperation {
         }
     }
 
-    /// The operation; takes no memory.
+    /// The operation.
     pub fn operation(&self) -> &Operation
         ensures { result.now ≡ self.now }
     {

@@ -58,7 +58,7 @@ fn has_active(active: Option<u8>, answered: NodeSet) -> bool
 }
 
 impl Plan {
-    /// The least recipient of which nothing was told; takes no memory.
+    /// The least recipient of which nothing was told.
     pub fn waiting(&self, tally: &Tally) -> Option<u8>
         ensures { result ≡ first_node (waits self.now (answers_of tally.now)) }
     {
@@ -79,14 +79,14 @@ impl Plan {
         absent_in(self.active, self.recipients.difference(tally.answered))
     }
 
-    /// Whether enough recipients answered; takes no memory.
+    /// Whether enough recipients answered.
     pub fn has_enough(&self, tally: &Tally) -> bool
         ensures { result ≡ has_enough self.now (answers_of tally.now) }
     {
         self.acks <= self.count(tally)
     }
 
-    /// How the operation ends where too few answered; takes no memory.
+    /// How the operation ends where too few answered.
     pub fn too_few(&self, tally: &Tally) -> Outcome
         ensures { result ≡ too_few self.now (answers_of tally.now) }
     {
@@ -112,7 +112,7 @@ impl Plan {
         }
     }
 
-    /// How the operation ends by its Stores, if all was told of them; takes no memory.
+    /// How the operation ends by its Stores, if all was told of them.
     pub fn stored_outcome(&self, stores: &Tally, stamp: Stamp) -> Option<Outcome>
         ensures { let told = answers_of stores.now in
             result ≡ stored_outcome (first_node (waits self.now told)) self.now told stamp }

@@ -51,7 +51,7 @@ fn shown(seen: Option<&SharedEntry>) -> Outcome
     }
 }
 
-/// The entry with this body is written. The only error is want of memory.
+/// The entry with this body is written.
 fn writes(
     alloc: Global,
     stamp: Stamp,
@@ -66,7 +66,7 @@ fn writes(
     Ok(Verdict::Writes { entry })
 }
 
-/// What an operation with this stamp writes. The only error is want of memory.
+/// What an operation with this stamp writes.
 fn written(
     alloc: Global,
     operation: &Operation,
@@ -84,7 +84,7 @@ fn written(
     }
 }
 
-/// What an operation that goes ahead comes to. The only error is want of memory.
+/// What an operation that goes ahead comes to.
 fn goes_on(
     alloc: Global,
     operation: &Operation,
@@ -101,8 +101,7 @@ fn goes_on(
     }
 }
 
-/// What an operation comes to by the newest entry that it saw, or by none. The only error is want of
-/// memory.
+/// What an operation comes to by the newest entry that it saw, or by none.
 pub fn judged(
     alloc: Global,
     operation: &Operation,

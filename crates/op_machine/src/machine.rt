@@ -29,8 +29,7 @@ pub struct Standing {
 }
 
 impl Standing {
-    /// What is known of the outcome once these are its Stores, where the entry that is to be stored is known; takes
-    /// no memory.
+    /// What is known of the outcome once these are its Stores, where the entry that is to be stored is known.
     fn outcome_with(&self, stores: &Tally, known: Option<&SharedEntry>) -> Option<Option<Outcome>>
         requires { IsDue self.now.plan (answers_of self.now.reads) (option_copied known) }
         ensures { IfSome result (λ outcome. outcome
@@ -75,7 +74,7 @@ impl Model for OpMachine {
 }
 
 impl OpMachine {
-    /// The machine of an operation of which nothing was sent; takes no memory. The stamp is none exactly
+    /// The machine of an operation of which nothing was sent. The stamp is none exactly
     /// for a get.
     pub fn new(
         origin: Origin,
@@ -127,14 +126,14 @@ impl OpMachine {
         }
     }
 
-    /// The outcome, once there is no message to be sent or answered; takes no memory.
+    /// The outcome, once there is no message to be sent or answered.
     pub fn outcome(&self) -> Option<&Outcome>
         ensures { option_copied result ≡ outcome_in (next_at self.now) }
     {
         self.settled.outcome.as_ref()
     }
 
-    /// Who took the Store; takes no memory.
+    /// Who took the Store.
     pub fn stored(&self) -> NodeSet
         ensures { result ≡ self.now.stores.answered }
     {
@@ -184,8 +183,7 @@ impl OpMachine {
         }
     }
 
-    /// Takes a node's reply to the message that it was sent, or that none came. The only error is want of
-    /// memory.
+    /// Takes a node's reply to the message that it was sent, or that none came.
     pub fn answer(&mut self, alloc: Global, node: u8, reply: Option<&Reply>) -> Result<(), NoMemory>
         requires { IsAsked self.old node }
         ensures told { OnOk result (IsAnswered node (option_copied reply.entry) self.old self.new) }

@@ -38,14 +38,14 @@ fn kind_looks(kind: &OpKind) -> bool
 }
 
 /// Whether an operation looks at its document before it does anything: a get, an update and whatever
-/// has a condition. Takes no memory.
+/// has a condition.
 pub fn looks(operation: &Operation) -> bool
     ensures { result ≡ looks operation.now }
 {
     operation.condition.is_some() || kind_looks(&operation.kind)
 }
 
-/// The Read of an operation's document, whose key is beside it. The only error is want of memory.
+/// The Read of an operation's document, whose key is beside it.
 pub fn read_body(alloc: Global, key: u64, operation: &Operation) -> Result<Body, NoMemory>
     requires { key ≡ key_of operation.now.id }
     ensures { IfOk result (λ body. body ≡ read_body operation.now.id) }

@@ -22,7 +22,7 @@ pub struct Settled {
 }
 
 impl Plan {
-    /// The recipient that is to be read next; takes no memory.
+    /// The recipient that is to be read next.
     pub fn reader(&self, reads: &Tally) -> Option<u8>
         ensures { result ≡ reader self.now (answers_of reads.now) }
     {
@@ -33,7 +33,7 @@ impl Plan {
         }
     }
 
-    /// What the operation comes to once all was told of its Reads. The only error is want of memory.
+    /// What the operation comes to once all was told of its Reads.
     fn verdict(&self, alloc: Global, reads: &Tally) -> Result<Verdict, NoMemory>
         ensures { IfOk result (λ v. v ≡ verdict self.now (answers_of reads.now)) }
     {
@@ -99,8 +99,7 @@ impl Plan {
         }
     }
 
-    /// What follows from what was told, where the entry may be known already. The only error is want of
-    /// memory.
+    /// What follows from what was told, where the entry may be known already.
     pub fn settle(
         &self,
         alloc: Global,
@@ -120,7 +119,7 @@ impl Plan {
         }
     }
 
-    /// The Read that a recipient is sent; the document's key is beside it. The only error is want of memory.
+    /// The Read that a recipient is sent; the document's key is beside it.
     pub fn read_message(&self, alloc: Global, key: u64, node: u8) -> Result<Message, NoMemory>
         requires { key ≡ key_of self.now.operation.id }
         ensures { IfOk result (λ m. m ≡ message_of self.now.origin node (read_body self.now.operation.id)) }
@@ -131,8 +130,7 @@ impl Plan {
         )
     }
 
-    /// The Store that the next recipient is sent, if there is an entry to store. The only error is want of
-    /// memory.
+    /// The Store that the next recipient is sent, if there is an entry to store.
     pub fn store_message(
         &self,
         alloc: Global,

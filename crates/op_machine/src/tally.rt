@@ -63,7 +63,7 @@ fn with(set: NodeSet, node: u8, test: bool) -> NodeSet
     if test { set.with(node) } else { set }
 }
 
-/// A copy of the newer of two entries; of equal stamps of the first. The only error is want of memory.
+/// A copy of the newer of two entries; of equal stamps of the first.
 fn newer_of(
     alloc: Global,
     there: Option<&SharedEntry>,
@@ -86,7 +86,7 @@ fn newer_of(
 }
 
 impl Tally {
-    /// Nothing was told; takes no memory.
+    /// Nothing was told.
     pub fn none() -> Tally
         ensures { IsNobody result }
     {
@@ -99,7 +99,7 @@ impl Tally {
     }
 
     /// The tally once a node's reply to the message about a document is told, or that none came. The document's
-    /// key is beside it. The only error is want of memory.
+    /// key is beside it.
     pub fn with(
         &self,
         alloc: Global,

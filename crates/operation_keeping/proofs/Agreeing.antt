@@ -18,7 +18,7 @@ use Rattle.lane_journals.specs.Readers.{Journal, Beginning}
 use Rattle.lane_journals.specs.Meanings.{history, entry_at}
 use Rattle.lane_journals.specs.declared.event.LaneEvent.{LaneEvent}
 use Rattle.lane_journals.proofs.Order.{same_stamp-true}
-use Rattle.node_journals.specs.NodeKeeping.{stamp_of}
+use Rattle.lane_keeping.specs.NodeKeeping.{stamp_of}
 use Rattle.operation_keeping.specs.OperationKeeping.{beginning_of, KnowsReads, KnowsStores, KnowsOperation}
 use Rattle.operation_keeping.proofs.Plain.{some-same, none-some}
 

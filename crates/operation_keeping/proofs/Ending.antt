@@ -41,7 +41,7 @@ use Rattle.lane_journals.specs.KeptJournals.{IsLegal, IsLegalStep}
 use Rattle.lane_journals.specs.declared.event.LaneEvent.{LaneEvent}
 use Rattle.lane_journals.specs.declared.event.LaneEvent.TheVariants.{Closed}
 use Rattle.lane_journals.proofs.Meant.{meant-legal}
-use Rattle.node_journals.specs.NodeKeeping.{stamp_of}
+use Rattle.lane_keeping.specs.NodeKeeping.{stamp_of}
 use Rattle.lane_keeping.specs.LaneKeeping.{setting_of}
 use Rattle.operation_keeping.specs.OperationKeeping.{beginning_of, KnowsEntry, KnowsOperation}
 use Rattle.operation_keeping.specs.Laws.{IsAckedAs}

@@ -20,8 +20,8 @@ use Rattle.lane_journals.specs.declared.event.LaneEvent.{LaneEvent}
 use Rattle.lane_journals.specs.declared.event.LaneEvent.TheVariants as event
 use Rattle.lane_journals.proofs.Ids.{same_id-refl}
 use Rattle.lane_journals.proofs.Order.{Le_trans, newer-left, newer-right, newer-either, Le-same, Le-at}
-use Rattle.node_journals.specs.NodeKeeping.{stamp_of}
-use Rattle.node_journals.proofs.Stamping.{newer-picks, newer-none, stamp-cond}
+use Rattle.lane_keeping.specs.NodeKeeping.{stamp_of}
+use Rattle.lane_keeping.proofs.Stamping.{newer-picks, newer-none, stamp-cond}
 use Rattle.proof_basics.proofs.Numbers.{apart}
 use Rattle.operation_keeping.specs.OperationKeeping.{WasRead, WasStored, WasShort, IsReadOf, IsStoreOf, KnowsReads, KnowsStores}
 use Rattle.operation_keeping.proofs.Plain.{some-same, none-some, returned-same}

@@ -31,7 +31,7 @@ use Rattle.lane_journals.specs.declared.event.LaneEvent.{LaneEvent}
 use Rattle.lane_journals.specs.declared.event.LaneEvent.TheVariants.{Prepared, Closed}
 use Rattle.lane_journals.proofs.Meant.{meant-legal, state-serves}
 use Rattle.lane_journals.proofs.Kept.{answered-took-op}
-use Rattle.node_journals.specs.NodeKeeping.{stamp_of}
+use Rattle.lane_keeping.specs.NodeKeeping.{stamp_of}
 use Rattle.lane_keeping.specs.LaneKeeping.{setting_of}
 use Rattle.lane_keeping.specs.Acting.{IsActing, IsKnownRow}
 use Rattle.operation_keeping.specs.OperationKeeping.{beginning_of, KnowsPreparing, IsPlainGet, KnowsPlan, KnowsReads, KnowsStores, KnowsOperation}

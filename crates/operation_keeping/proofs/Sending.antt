@@ -32,9 +32,9 @@ use Rattle.lane_journals.specs.declared.event.LaneEvent.TheVariants as event
 use Rattle.lane_journals.proofs.Basics.{sent-stays}
 use Rattle.lane_journals.proofs.Beginnings.{lasting}
 use Rattle.lane_journals.proofs.Meant.{meant-legal, state-serves}
-use Rattle.node_journals.specs.Flights.{meant, Brings, IsExact, IsWhole, IsInFlight}
-use Rattle.node_journals.specs.Replaying.{sending}
-use Rattle.node_journals.proofs.Words.{key-is}
+use Rattle.lane_keeping.specs.Flights.{meant, Brings, IsExact, IsWhole, IsInFlight}
+use Rattle.lane_keeping.specs.Replaying.{sending}
+use Rattle.lane_keeping.proofs.Words.{key-is}
 use Rattle.lane_keeping.specs.LaneKeeping.{setting_of}
 use Rattle.lane_keeping.specs.Acting.{IsActing}
 use Rattle.operation_keeping.specs.OperationKeeping.{beginning_of, KnowsEntry, KnowsOperation, KnowsStanding, HasWritten}

@@ -36,9 +36,9 @@ use Rattle.lane_journals.specs.KeptJournals.{IsLegal, IsLegalStep}
 use Rattle.lane_journals.specs.declared.event.LaneEvent.{LaneEvent}
 use Rattle.lane_journals.specs.declared.event.LaneEvent.TheVariants as event
 use Rattle.lane_journals.proofs.Meant.{meant-legal}
-use Rattle.node_journals.specs.NodeKeeping.{stamp_of, AreWritten}
-use Rattle.node_journals.specs.Flights.{meant, BringsBack}
-use Rattle.node_journals.specs.Replaying.{delivered}
+use Rattle.lane_keeping.specs.NodeKeeping.{stamp_of, AreWritten}
+use Rattle.lane_keeping.specs.Flights.{meant, BringsBack}
+use Rattle.lane_keeping.specs.Replaying.{delivered}
 use Rattle.lane_keeping.specs.LaneKeeping.{setting_of}
 use Rattle.lane_keeping.specs.Asking.{IsJustSent}
 use Rattle.operation_keeping.specs.OperationKeeping.{beginning_of, KnowsPlan, KnowsReads, KnowsStores, KnowsEntry, KnowsStanding, KnowsOperation, KnowsAsked}

@@ -21,7 +21,7 @@ use Rattle.lane_journals.specs.declared.event.LaneEvent.{LaneEvent}
 use Rattle.lane_journals.specs.declared.event.LaneEvent.TheVariants as event
 use Rattle.lane_journals.proofs.Basics.{sent-stays, sent-cases, SentNow}
 use Rattle.lane_journals.proofs.Meant.{meant-legal}
-use Rattle.node_journals.proofs.Flying.{entry-stays, flight-stays}
+use Rattle.lane_keeping.proofs.Flying.{entry-stays, flight-stays}
 use Rattle.lane_keeping.specs.LaneKeeping.{setting_of}
 use Rattle.lane_keeping.specs.Asking.{IsJustSent}
 use Rattle.proof_basics.proofs.Numbers.{apart}

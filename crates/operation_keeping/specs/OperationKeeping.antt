@@ -27,8 +27,8 @@ use Rattle.lane_journals.specs.Facts.{ReadBack}
 use Rattle.lane_journals.specs.Meanings.{history, entry_at}
 use Rattle.lane_journals.specs.declared.event.LaneEvent.{LaneEvent}
 use Rattle.lane_journals.specs.declared.event.LaneEvent.TheVariants.{Begun, Refused, Prepared, Wrote, Closed}
-use Rattle.node_journals.specs.NodeKeeping.{stamp_of}
-use Rattle.node_journals.specs.Flights.{IsInFlight}
+use Rattle.lane_keeping.specs.NodeKeeping.{stamp_of}
+use Rattle.lane_keeping.specs.Flights.{IsInFlight}
 
 -- ---- lines
 

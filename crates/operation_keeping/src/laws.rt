@@ -30,7 +30,7 @@ ghost use Rattle.lane_journals.specs.Meanings.{history};
 ghost use Rattle.lane_journals.specs.KeptJournals.{IsLegalStep};
 ghost use Rattle.lane_journals.specs.declared.event.LaneEvent.{LaneEvent};
 ghost use Rattle.lane_journals.specs.declared.event.LaneEvent.TheVariants.{Begun, Refused, Prepared, Delivered, Returned, Closed};
-ghost use Rattle.node_journals.specs.Replaying.{delivered};
+ghost use Rattle.lane_keeping.specs.Replaying.{delivered};
 ghost use Rattle.lane_keeping.specs.LaneKeeping.{setting_of, part_in};
 ghost use Rattle.lane_keeping.specs.Acting.{IsActing, IsKnownRow};
 ghost use Rattle.lane_keeping.specs.Asking.{IsJustSent, IsTakenBy};
@@ -41,7 +41,7 @@ ghost use Rattle.operation_keeping.specs.Left.{messages_left};
 ghost use Rattle.operation_keeping.specs.Laws.{drawn, OfPreparing, OfUnderWay, OfOperation, OfAsked, MayBeginNext, MayWriteNext, MayAskNext, IsAckedAs, MayLackAnswers};
 
 use lane_keeping::laws::owners_act;
-use node_journals::laws::{entries_are_written, messages_fly, nodes_replay};
+use lane_keeping::node_laws::{entries_are_written, messages_fly, nodes_replay};
 
 /// A fresh line may be begun by the owner, once all lines are closed, for a document of the lane; its stamp
 /// is the next of the version, or none. A stamp counts for one that was drawn.

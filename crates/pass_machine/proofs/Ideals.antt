@@ -1,5 +1,5 @@
 -- The ideal order of a bucket as a list: its first complete member, and those that are to be ready.
-use Rattle.std.proofs.Common.{◌≡◌, ◌∙◌, ◌==◌, ◌||◌, ◌≤◌, ℕ, zero, suc, Bool, true, false, cond, List, [], ◌∷◌, take, filter, Option, Some, None, codes, eq-eqb, eqb-true, refl, sym, ap, subst, ◌⊎◌, inl, inr, arith, if◌then◌else◌}
+use Rattle.std.proofs.Common.{◌≡◌, ◌∙◌, ◌==◌, ◌||◌, ◌≤◌, ℕ, zero, suc, Bool, true, false, cond, List, [], ◌∷◌, take, filter, Option, Some, None, eq-eqb, eqb-true, refl, sym, ap, subst, ◌⊎◌, inl, inr, arith, if◌then◌else◌}
 use Rattle.std.specs.Prelude.{slice_index_or}
 use mathlib.Core.Bool.{true≢false}
 use Rattle.bucket_ids.specs.Buckets.{Low}
@@ -9,9 +9,10 @@ use Rattle.cluster_states.specs.MarkTests.{is_up, counts}
 use Rattle.cluster_states.specs.Publishing.{serves}
 use Rattle.cluster_states.specs.declared.marks.Mark.{Mark}
 use Rattle.cluster_states.specs.declared.marks.Mark.TheVariants.{Up, Down, Retired}
-use Rattle.ideal_nodes.specs.Scores.{Has, Ranks, IsRanked, score_of}
-use Rattle.ideal_nodes.specs.Placement.{IsIdeal}
-use Rattle.ideal_nodes.proofs.Unique.{ranked_unique}
+use Rattle.ideal_nodes.specs.Scores.{Has, IsRanked}
+use Rattle.ideal_nodes.specs.Placement.{Precedes, IsIdeal}
+use Rattle.ideal_nodes.proofs.Orders.{IsOrder, precedes_are_order}
+use Rattle.ideal_nodes.proofs.StateMarks.{ideal_once}
 use Rattle.distributor_part.specs.Targets.{IsAmongFirst, IsToBeActive, LacksComplete, AreToBeReady}
 use Rattle.lane_journals.specs.Readers.{or_else}
 use Rattle.lane_rest.specs.Targets.{is_member, is_active, is_target_in, first_targets}
@@ -29,29 +30,16 @@ has-member [] n h = absurd h
 has-member (m ∷ ns) n (inl here) = or_left (m == n) (is_member ns n) (eq-eqb m n (sym here))
 has-member (m ∷ ns) n (inr later) = or_right (m == n) (is_member ns n) (has-member ns n later)
 
--- ---- one ideal list
-
-one-list : (b : Low) (s : ClusterState) (ns ms : List ℕ) → IsIdeal b s ns → IsIdeal b s ms → ns ≡ ms
-one-list b s ns ms i j = ranked_unique (score_of (codes "ideal") b) ns ms i.ranked j.ranked
-    (λ n. (λ h. (j.members n).0 ((i.members n).1 h), λ h. (i.members n).0 ((j.members n).1 h)))
-
 -- ---- the first member in order
 
--- no two rank each before the other
-never-both : (score : ℕ → ℕ) (a b : ℕ) → Ranks score a b → Ranks score b a → ⊥
-never-both score a b (inl x) (inl y) = omega (arith, x, y)
-never-both score a b (inl x) (inr y) = let e = y.0 in omega (arith, x, e)
-never-both score a b (inr x) (inl y) = let e = x.0 in omega (arith, y, e)
-never-both score a b (inr x) (inr y) = let u = x.1 in let v = y.1 in omega (arith, u, v)
-
-first-is : (score : ℕ → ℕ) (p : ℕ → Bool) (n : ℕ) (ns : List ℕ) → IsRanked score ns → Has n ns → p n ≡ true → ((m : ℕ) → Has m ns → p m ≡ true → (m ≡ n) ⊎ Ranks score n m) → first_in ns p ≡ Some n
-first-is score p n [] r h e f = absurd h
-first-is score p n (m ∷ ms) r h e f = by_test (λ later. first-is score p n ms r.1 later e (λ k i. f k (inr i))) (p m) refl
+first-is : (before : ℕ → ℕ → Type 0) → IsOrder before → (p : ℕ → Bool) (n : ℕ) (ns : List ℕ) → IsRanked before ns → Has n ns → p n ≡ true → ((m : ℕ) → Has m ns → p m ≡ true → (m ≡ n) ⊎ before n m) → first_in ns p ≡ Some n
+first-is before o p n [] r h e f = absurd h
+first-is before o p n (m ∷ ms) r h e f = by_test (λ later. first-is before o p n ms r.1 later e (λ k i. f k (inr i))) (p m) refl
   where
     by_test : (Has n ms → first_in ms p ≡ Some n) → (t : Bool) → p m ≡ t → (if t then Some m else first_in ms p) ≡ Some n
     by_test rest true y = ap (λ (k : ℕ). Some k) (elim (f m (inl refl) y) [
       | inl same ↦ same
-      | inr before ↦ elim h [ inl here ↦ sym here | inr later ↦ absurd (never-both score n m before (r.0 n later)) ]
+      | inr first ↦ elim h [ inl here ↦ sym here | inr later ↦ absurd (o.once n m first (r.0 n later)) ]
     ])
     by_test rest false y = elim h [
       | inl here ↦ absurd (true≢false (sym e ∙ (ap p here ∙ y)))
@@ -63,15 +51,15 @@ first-none p [] h = refl
 first-none p (m ∷ ms) h = ap (λ (t : Bool). if t then Some m else first_in ms p) (h m (inl refl)) ∙ first-none p ms (λ n i. h n (inr i))
 
 -- and the other way round
-first-back : (score : ℕ → ℕ) (p : ℕ → Bool) (n : ℕ) (ns : List ℕ) → IsRanked score ns → first_in ns p ≡ Some n → Has n ns × (p n ≡ true) × ((m : ℕ) → Has m ns → p m ≡ true → (m ≡ n) ⊎ Ranks score n m)
-first-back score p n [] r h = cc
-first-back score p n (m ∷ ms) r h = by_test (λ e. first-back score p n ms r.1 e) (p m) refl h
+first-back : (before : ℕ → ℕ → Type 0) (p : ℕ → Bool) (n : ℕ) (ns : List ℕ) → IsRanked before ns → first_in ns p ≡ Some n → Has n ns × (p n ≡ true) × ((m : ℕ) → Has m ns → p m ≡ true → (m ≡ n) ⊎ before n m)
+first-back before p n [] r h = cc
+first-back before p n (m ∷ ms) r h = by_test (λ e. first-back before p n ms r.1 e) (p m) refl h
   where
-    by_test : (first_in ms p ≡ Some n → Has n ms × (p n ≡ true) × ((k : ℕ) → Has k ms → p k ≡ true → (k ≡ n) ⊎ Ranks score n k)) → (t : Bool) → p m ≡ t → (if t then Some m else first_in ms p) ≡ Some n
-        → Has n (m ∷ ms) × (p n ≡ true) × ((k : ℕ) → Has k (m ∷ ms) → p k ≡ true → (k ≡ n) ⊎ Ranks score n k)
+    by_test : (first_in ms p ≡ Some n → Has n ms × (p n ≡ true) × ((k : ℕ) → Has k ms → p k ≡ true → (k ≡ n) ⊎ before n k)) → (t : Bool) → p m ≡ t → (if t then Some m else first_in ms p) ≡ Some n
+        → Has n (m ∷ ms) × (p n ≡ true) × ((k : ℕ) → Has k (m ∷ ms) → p k ≡ true → (k ≡ n) ⊎ before n k)
     by_test rest true y e =
         let same : m ≡ n = cc in
-        (inl (sym same), ap p (sym same) ∙ y, λ k i t. elim i [ inl here ↦ inl (here ∙ same) | inr later ↦ inr (subst (λ (j : ℕ). Ranks score j k) same (r.0 k later)) ])
+        (inl (sym same), ap p (sym same) ∙ y, λ k i t. elim i [ inl here ↦ inl (here ∙ same) | inr later ↦ inr (subst (λ (j : ℕ). before j k) same (r.0 k later)) ])
     by_test rest false y e =
         let x = rest e in
         (inr x.0, x.1, λ k i t. elim i [ inl here ↦ absurd (true≢false (sym t ∙ (ap p here ∙ y))) | inr later ↦ x.2 k later t ])
@@ -82,10 +70,10 @@ module _ (b : Low) (state : ClusterState) (complete : ℕ) (ideal : List ℕ) (i
   pub to-be : (active : Option ℕ) (node : ℕ) → IsToBeActive state b complete active node → or_else active (first_in ideal (λ n. has_node complete n)) ≡ Some node
   to-be (Some a) node is = ap (λ (k : ℕ). Some k) is
   to-be None node is =
-      let same : is.ideal ≡ ideal = one-list b state is.ideal ideal is.is_ideal is_ideal in
+      let same : is.ideal ≡ ideal = ideal_once b state is.ideal ideal is.is_ideal is_ideal in
       let one = subst (λ (ns : List ℕ). Has node ns) same (is.is_first).listed in
-      let firsts = subst (λ (ns : List ℕ). (m : ℕ) → Has m ns → has_node complete m ≡ true → (m ≡ node) ⊎ Ranks (score_of (codes "ideal") b) node m) same (is.is_first).first in
-      first-is (score_of (codes "ideal") b) (λ n. has_node complete n) node ideal is_ideal.ranked one (is.is_first).member firsts
+      let firsts = subst (λ (ns : List ℕ). (m : ℕ) → Has m ns → has_node complete m ≡ true → (m ≡ node) ⊎ Precedes b state node m) same (is.is_first).first in
+      first-is (Precedes b state) (precedes_are_order b state) (λ n. has_node complete n) node ideal is_ideal.ranked one (is.is_first).member firsts
 
   pub to-be-none : (active : Option ℕ) → active ≡ None → LacksComplete state b complete → or_else active (first_in ideal (λ n. has_node complete n)) ≡ None
   to-be-none active none lacks = ap (λ (a : Option ℕ). or_else a (first_in ideal (λ n. has_node complete n))) none ∙ first-none (λ n. has_node complete n) ideal (lacks ideal is_ideal)
@@ -93,7 +81,7 @@ module _ (b : Low) (state : ClusterState) (complete : ℕ) (ideal : List ℕ) (i
   pub is-to-be : (active : Option ℕ) (node : ℕ) → or_else active (first_in ideal (λ n. has_node complete n)) ≡ Some node → IsToBeActive state b complete active node
   is-to-be (Some a) node h = let e : a ≡ node = cc in e
   is-to-be None node h =
-      let x = first-back (score_of (codes "ideal") b) (λ n. has_node complete n) node ideal is_ideal.ranked h in
+      let x = first-back (Precedes b state) (λ n. has_node complete n) node ideal is_ideal.ranked h in
       record { ideal = ideal; is_ideal = is_ideal; is_first = record { listed = x.0; member = x.1; first = x.2 } }
 
 -- ---- the nodes to be ready
@@ -117,7 +105,7 @@ module _ (searchable : ℕ) (b : Low) (state : ClusterState) (complete set : ℕ
 
   from-ready : (n : ℕ) → IsAmongFirst searchable state b n ⊎ IsToBeActive state b complete active n → (is_member (take searchable ideal) n || is_active be n) ≡ true
   from-ready n (inl x) = or_left (is_member (take searchable ideal) n) (is_active be n)
-      (has-member (take searchable ideal) n (subst (λ (ns : List ℕ). Has n (take searchable ns)) (one-list b state x.ideal ideal x.is_ideal is_ideal) x.among))
+      (has-member (take searchable ideal) n (subst (λ (ns : List ℕ). Has n (take searchable ns)) (ideal_once b state x.ideal ideal x.is_ideal is_ideal) x.among))
   from-ready n (inr t) = or_right (is_member (take searchable ideal) n) (is_active be n) (is-active be n (to-be b state complete ideal is_ideal active n t))
 
   -- the part's set has just those that are listed
@@ -163,7 +151,7 @@ module _ (b : Low) (state : ClusterState) (ideal : List ℕ) (is_ideal : IsIdeal
 
   first-serves : (a : Option ℕ) → active ≡ a → (n : ℕ) → or_else a (first_in ideal (λ m. has_node complete m)) ≡ Some n → serves state n ≡ true
   first-serves (Some m) e n h = let same : m ≡ n = cc in on n (e ∙ ap (λ (k : ℕ). Some k) same)
-  first-serves None e n h = ideal-serves n (first-back (score_of (codes "ideal") b) (λ m. has_node complete m) n ideal is_ideal.ranked h).0
+  first-serves None e n h = ideal-serves n (first-back (Precedes b state) (λ m. has_node complete m) n ideal is_ideal.ranked h).0
 
   -- the node that is to be active serves, and so does each that is asked
   pub be_serves : (n : ℕ) → or_else active (first_in ideal (λ m. has_node complete m)) ≡ Some n → serves state n ≡ true

@@ -20,3 +20,4 @@ mod Rising
 mod Numbers
 mod Nearer
 mod Lists
+mod Silent

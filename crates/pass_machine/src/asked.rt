@@ -1,6 +1,7 @@
 ghost use Rattle.std.specs.Prelude.{◌≡◌, ◌<◌, ℕ, Some, None, length, slice_get, nat_lt, if◌then◌else◌};
 ghost use Rattle.bucket_db.specs.declared.row.Row.{Row as OneRow};
 ghost use Rattle.distributor_part.specs.Parts.{rows_of};
+ghost use Rattle.node_sets.specs.Members.{has_node};
 ghost use Rattle.pass_machine.specs.Settling.{serial_to_lose};
 ghost use Rattle.pass_machine.specs.Turns.{View, Sees, to_be_active, is_asked, is_target};
 
@@ -9,6 +10,7 @@ use crate::settling;
 use bucket_db::Row;
 use cluster_states::ClusterState;
 use distributor_part::DistributorPart;
+use node_sets::NodeSet;
 
 /// The active node of the row of a place, or else the complete member that is to be active, if there is one.
 pub fn to_be_active(part: &DistributorPart, state: &ClusterState, at: usize) -> Option<u8>
@@ -20,6 +22,16 @@ pub fn to_be_active(part: &DistributorPart, state: &ClusterState, at: usize) -> 
     part.to_be_active(at)
 }
 
+/// The nodes that are to be ready in the row of a place, and serve.
+pub fn asked_of(part: &DistributorPart, state: &ClusterState, at: usize) -> NodeSet
+    requires heard { part.now.state ≡ Some state.now }
+    requires place { at < length (rows_of part.now.rows) }
+    ensures { (v : View) → Sees part.now v → (row : OneRow) → slice_get v.rows at ≡ Some row
+        → (n : ℕ) → has_node result n ≡ is_asked v row n }
+{
+    state.serving().intersection(part.to_be_ready(at))
+}
+
 /// Whether a node is to be ready in the row of a place, and serves.
 pub fn is_asked(part: &DistributorPart, state: &ClusterState, at: usize, node: u8) -> bool
     requires heard { part.now.state ≡ Some state.now }
@@ -29,6 +41,16 @@ pub fn is_asked(part: &DistributorPart, state: &ClusterState, at: usize, node: u
 {
     // the ideal order is asked for only where that tells anything
     state.serving().has(node) && part.to_be_ready(at).has(node)
+}
+
+/// The targets of the row of a place.
+pub fn targets_of(part: &DistributorPart, state: &ClusterState, at: usize) -> NodeSet
+    requires heard { part.now.state ≡ Some state.now }
+    requires place { at < length (rows_of part.now.rows) }
+    ensures { (v : View) → Sees part.now v → (row : OneRow) → slice_get v.rows at ≡ Some row
+        → (n : ℕ) → has_node result n ≡ is_target v row n }
+{
+    part.targets(at)
 }
 
 /// Whether a node is a target of the row of a place.

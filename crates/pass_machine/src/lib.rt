@@ -20,6 +20,7 @@ pub mod pass;
 mod places;
 mod resends;
 pub mod settling;
+mod skips;
 
 pub use doing::{Doing, Settle, Time, Turn, UpkeepStep};
 pub use notes::{Exact, Notes, RowNote};

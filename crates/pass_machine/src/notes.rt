@@ -44,7 +44,7 @@ pub struct Notes {
 }
 
 impl Notes {
-    /// No round was run; takes no memory.
+    /// No round was run.
     pub fn new(alloc: Global) -> Notes
         ensures empty { (number : ℕ) → get nat_cmp result.by_number number ≡ None }
     {
@@ -53,7 +53,7 @@ impl Notes {
         }
     }
 
-    /// Keeps the note of a new round in place of an older one of its row. The only error is want of memory.
+    /// Keeps the note of a new round in place of an older one of its row.
     pub fn keep(&mut self, note: RowNote) -> Result<(), NoMemory>
         ensures keeps { OnOk result
             (Updates nat_cmp self.old.by_number self.new.by_number (number_in note.bucket) (Some note)) }
@@ -63,7 +63,7 @@ impl Notes {
         Ok(())
     }
 
-    /// Forgets the note of a row, if there is one; takes no memory.
+    /// Forgets the note of a row, if there is one.
     pub fn forget(&mut self, bucket: Bucket)
         ensures { Updates nat_cmp self.old.by_number self.new.by_number (number_in bucket) None }
     {

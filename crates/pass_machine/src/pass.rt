@@ -15,6 +15,7 @@ ghost use Rattle.pass_machine.specs.declared.doing.Turn.TheVariants.{Says};
 use crate::doing::{Doing, Settle, Time, Turn, UpkeepStep};
 use crate::notes::{Notes, RowNote};
 use crate::places::{is_full, next_place};
+use crate::skips::skipped;
 use crate::{asked, joins, resends, settling};
 use bucket_db::Row;
 use bucket_db::row::number_of;
@@ -244,6 +245,7 @@ fn next_of(
     ensures says { (v : View) → Sees part.now v → turn_at v made.now notes.now.by_number doing.new ≡ Says result }
 {
     loop {
+        *doing = skipped(part, notes, *doing);
         match turn(part, rules, made, notes, *doing) {
             Turn::Over(next) => *doing = next,
             Turn::Says(step) => return step,
@@ -523,7 +525,7 @@ fn rounded_of(part: &DistributorPart, doing: Doing) -> Doing
 }
 
 impl UpkeepPass {
-    /// A pass that begins with what is sent again; takes no memory.
+    /// A pass that begins with what is sent again.
     pub fn new(alloc: Global) -> UpkeepPass
         ensures begins { result.doing ≡ ResendingDelete 0 }
         ensures none_made { (number : ℕ) → get nat_cmp result.made number ≡ None }
@@ -536,7 +538,7 @@ impl UpkeepPass {
         }
     }
 
-    /// The next step: it goes over places where nothing is to be said. Takes no memory.
+    /// The next step: it goes over places where nothing is to be said.
     pub fn next_step(&mut self, part: &DistributorPart, rules: Rules) -> UpkeepStep
         requires heard { IsSome part.now.state }
         requires rules { rules ≡ part.now.rules }
@@ -555,7 +557,7 @@ impl UpkeepPass {
         next_of(part, rules, &self.made, &self.notes, &mut self.doing)
     }
 
-    /// Takes whether the node took what it was told, or whether its reply ends a Delete. Takes no memory.
+    /// Takes whether the node took what it was told, or whether its reply ends a Delete.
     pub fn answer(&mut self, part: &DistributorPart, taken: bool)
         requires heard { IsSome part.now.state }
         requires told { IsTellingRow (length (rows_of part.now.rows)) self.old.doing }
@@ -568,7 +570,6 @@ impl UpkeepPass {
     }
 
     /// Takes that what was to be decided is, and how many rows there are then. A row that it made has no note yet.
-    /// Takes no memory.
     pub fn decided(&mut self, many: usize, decision: Decision)
         requires decided { IsDecided many self.old.doing decision }
         ensures behind { self.new.doing ≡ decided self.old.doing decision }
@@ -582,7 +583,7 @@ impl UpkeepPass {
         self.doing = decided_of(many, self.doing, decision);
     }
 
-    /// Takes that it was noted that an active node accepted, and how many rows there are. Takes no memory.
+    /// Takes that it was noted that an active node accepted, and how many rows there are.
     pub fn accepted(&mut self, many: usize)
         requires accepted { IsAccepted many self.old.doing }
         ensures behind { self.new.doing ≡ accepted self.old.doing }
@@ -592,7 +593,7 @@ impl UpkeepPass {
         self.doing = accepted_of(many, self.doing);
     }
 
-    /// Takes what a round told of its row. The only error is want of memory.
+    /// Takes what a round told of its row.
     pub fn round_over(&mut self, part: &DistributorPart, note: RowNote) -> Result<(), NoMemory>
         requires rounded { IsRounded (length (rows_of part.now.rows)) self.old.doing }
         ensures behind { OnOk result ((v : View) → Sees part.now v → self.new.doing ≡ rounded v self.old.doing) }

@@ -11,7 +11,8 @@ use Rattle.cluster_states.specs.MarkTests.{is_up, counts}
 use Rattle.cluster_states.specs.Publishing.{serves, up_of, up_fault}
 use Rattle.documents.specs.declared.entry.Entry.{Entry}
 use Rattle.ideal_nodes.specs.Placement.{IsIdeal}
-use Rattle.ideal_nodes.specs.Scores.{Ranks, Has, IsRanked}
+use Rattle.ideal_nodes.specs.Scores.{Has, IsRanked}
+use Rattle.ideal_nodes.proofs.Orders.{IsOrder, precedes_are_order}
 use Rattle.lane_journals.specs.Sets.{count, count_below}
 use Rattle.lane_journals.proofs.Counts.{count_below-subset}
 use Rattle.lane_journals.specs.Buckets.{key_of}
@@ -55,13 +56,9 @@ up-serves Retired e = refl
 
 -- ---- ideal orders
 
-ranked-distinct : (score : ℕ → ℕ) (ns : List ℕ) → IsRanked score ns → IsDistinct ns
-ranked-distinct score [] h = tt
-ranked-distinct score (n ∷ ns) h = (λ i. never n (h.0 n i), ranked-distinct score ns h.1)
-  where
-    never : (n : ℕ) → Ranks score n n → ⊥
-    never n (inl less) = absurd (omega (arith, less))
-    never n (inr both) = let l = both.1 in absurd (omega (arith, l))
+ranked-distinct : (before : ℕ → ℕ → Type 0) → IsOrder before → (ns : List ℕ) → IsRanked before ns → IsDistinct ns
+ranked-distinct before o [] h = tt
+ranked-distinct before o (n ∷ ns) h = (λ i. o.never n (h.0 n i), ranked-distinct before o ns h.1)
 
 -- ---- documents of halves
 
@@ -134,7 +131,7 @@ module _ (S : Setting) (first most v : ℕ) (s : ClusterState) (J : List LaneEve
   unfolding count
   acks-first b =
       let t = take-long S.acks S.redundancy (ideal b) enough (long b) in
-      let c = members-count (take S.redundancy (ideal b)) 32 (take-distinct S.redundancy (ideal b) (ranked-distinct _ (ideal b) (are_ideal b).ranked)) (λ n h. up-few n (ideal-up b n (take-has S.redundancy (ideal b) n h))) in
+      let c = members-count (take S.redundancy (ideal b)) 32 (take-distinct S.redundancy (ideal b) (ranked-distinct _ (precedes_are_order b s) (ideal b) (are_ideal b).ranked)) (λ n h. up-few n (ideal-up b n (take-has S.redundancy (ideal b) n h))) in
       omega (arith, t, c)
 
   pub sound : AreSettings (settings_of S first most s J ideal)

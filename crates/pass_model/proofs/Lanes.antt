@@ -25,9 +25,9 @@ use Rattle.lane_journals.specs.Stamps.{newer}
 use Rattle.lane_journals.specs.Buckets.{Id, key_of}
 use Rattle.lane_journals.specs.Meanings.{history}
 use Rattle.lane_journals.specs.declared.event.LaneEvent.{LaneEvent}
-use Rattle.node_journals.specs.NodeKeeping.{stamp_of, NodeKeeps}
-use Rattle.node_journals.proofs.Words.{contains-is, key-is}
-use Rattle.node_journals.proofs.Stamping.{stamps-after}
+use Rattle.lane_keeping.specs.NodeKeeping.{stamp_of, NodeKeeps}
+use Rattle.lane_keeping.proofs.Words.{contains-is, key-is}
+use Rattle.lane_keeping.proofs.Stamping.{stamps-after}
 use Rattle.pass_model.specs.Nodes.{Node, apply_node, split_node, join_node, ready_node, activate_node, delete_node, counted, once_or_twice, received, with_pieces, taken_in, dropped_in}
 use Rattle.pass_model.specs.Shapes.{IsApart, IsSound}
 use Rattle.pass_model.specs.Worlds.{IsSaid}

@@ -9,7 +9,6 @@ pub mod SplitSweeps
 pub mod JoinSweeps
 pub mod Lanes
 pub mod Counting
-pub mod Ordering
 pub mod Shapes
 pub mod ShownCounts
 pub mod Targets

@@ -18,10 +18,10 @@ use Rattle.lane_journals.specs.Places.{Setting, published_states}
 use Rattle.lane_journals.specs.KeptJournals.{IsLegal}
 use Rattle.lane_journals.specs.declared.event.LaneEvent.{LaneEvent}
 use Rattle.lane_journals.proofs.Meant.{meant-legal}
-use Rattle.node_journals.specs.NodeKeeping.{shape, regions}
-use Rattle.node_journals.proofs.Words.{contains-is, same-is, meets-is}
-use Rattle.node_journals.proofs.Shapes.{meets-any, piece-any}
-use Rattle.node_journals.proofs.Regions.{within, said}
+use Rattle.lane_keeping.specs.NodeKeeping.{shape, regions}
+use Rattle.lane_keeping.proofs.Words.{contains-is, same-is, meets-is}
+use Rattle.lane_keeping.proofs.Shapes.{meets-any, piece-any}
+use Rattle.lane_keeping.proofs.Regions.{within, said}
 use Rattle.lane_rest.specs.Sets.{newest_of}
 use Rattle.lane_rest.specs.Targets.{is_member, is_target_in, first_targets}
 use Rattle.pass_model.specs.Nodes.{Node}

@@ -22,7 +22,7 @@ use Rattle.lane_journals.specs.Meanings.{entry_at}
 use Rattle.lane_journals.specs.declared.event.LaneEvent.{LaneEvent}
 use Rattle.lane_journals.specs.declared.event.LaneEvent.TheVariants.{Wrote}
 use Rattle.lane_journals.proofs.Order.{same_stamp-true}
-use Rattle.node_journals.specs.NodeKeeping.{stamp_of}
+use Rattle.lane_keeping.specs.NodeKeeping.{stamp_of}
 use Rattle.lane_rest.specs.Rest.{is_held, documents}
 use Rattle.pass_model.specs.Counted.{AreOnce, AreHeld}
 

@@ -1,12 +1,12 @@
 -- The targets of a row, as a part and as a pass say them.
-use Rattle.std.proofs.Common.{◌≡◌, ◌==◌, ℕ, true, eq-eqb, List, [], ◌∷◌, take, Option, Some, None, codes, refl, sym, ap, ◌∙◌, subst, inl, inr}
+use Rattle.std.proofs.Common.{◌≡◌, ◌==◌, ℕ, true, eq-eqb, List, [], ◌∷◌, take, Option, Some, None, refl, sym, ap, ◌∙◌, subst, inl, inr}
 use Rattle.std.proofs.lemmas.Bool.{eqb-true}
 use Rattle.bucket_ids.specs.Buckets.{Low}
 use Rattle.node_sets.specs.Members.{has_node}
 use Rattle.cluster_states.specs.declared.cluster_state.ClusterState.{ClusterState}
-use Rattle.ideal_nodes.specs.Scores.{Has, score_of}
+use Rattle.ideal_nodes.specs.Scores.{Has}
 use Rattle.ideal_nodes.specs.Placement.{IsIdeal}
-use Rattle.ideal_nodes.proofs.Unique.{ranked_unique}
+use Rattle.ideal_nodes.proofs.StateMarks.{ideal_once}
 use Rattle.distributor_part.specs.Targets.{IsTarget, AreTargets}
 use Rattle.lane_rest.specs.Targets.{is_member, is_active, is_target_in}
 use Rattle.proof_basics.proofs.Tests.{or_true, or_left, or_right, same-by}
@@ -27,11 +27,6 @@ active-is (Some m) n h = ap (λ x. Some x) (eqb-true m n h)
 is-active : (a : Option ℕ) (n : ℕ) → a ≡ Some n → is_active a n ≡ true
 is-active a n h = ap (λ (o : Option ℕ). is_active o n) h ∙ eq-eqb n n refl
 
--- a bucket has one ideal list
-one-list : (b : Low) (s : ClusterState) (ns ms : List ℕ) → IsIdeal b s ns → IsIdeal b s ms → ns ≡ ms
-one-list b s ns ms i j = ranked_unique (score_of (codes "ideal") b) ns ms i.ranked j.ranked
-    (λ n. (λ h. (j.members n).0 ((i.members n).1 h), λ h. (i.members n).0 ((j.members n).1 h)))
-
 pub targets-of-list : (redundancy : ℕ) (s : ClusterState) (b : Low) (active : Option ℕ) (set : ℕ) (ideal : List ℕ) → AreTargets redundancy s b active set → IsIdeal b s ideal
     → (n : ℕ) → has_node set n ≡ is_target_in redundancy ideal active n
 targets-of-list redundancy s b active set ideal t i n = same-by (has_node set n) (is_target_in redundancy ideal active n) (λ h. to_list ((t n).0 h))
@@ -42,5 +37,5 @@ targets-of-list redundancy s b active set ideal t i n = same-by (has_node set n)
   where
     to_list : IsTarget redundancy s b active n → is_target_in redundancy ideal active n ≡ true
     to_list (inl x) = or_left (is_member (take redundancy ideal) n) (is_active active n)
-        (has-member (take redundancy ideal) n (subst (λ (ns : List ℕ). Has n (take redundancy ns)) (one-list b s x.ideal ideal x.is_ideal i) x.among))
+        (has-member (take redundancy ideal) n (subst (λ (ns : List ℕ). Has n (take redundancy ns)) (ideal_once b s x.ideal ideal x.is_ideal i) x.among))
     to_list (inr a) = or_right (is_member (take redundancy ideal) n) (is_active active n) (is-active active n a)

@@ -9,7 +9,7 @@ use Rattle.lane_journals.specs.Events.{Content}
 use Rattle.lane_journals.specs.Meanings.{entry_at}
 use Rattle.lane_journals.specs.declared.event.LaneEvent.{LaneEvent}
 use Rattle.lane_journals.specs.declared.event.LaneEvent.TheVariants.{Wrote}
-use Rattle.node_journals.specs.NodeKeeping.{stamp_of}
+use Rattle.lane_keeping.specs.NodeKeeping.{stamp_of}
 
 -- no two entries were written with one stamp
 abbrev pub AreOnce : List LaneEvent → Type 0

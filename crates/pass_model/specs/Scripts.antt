@@ -4,7 +4,7 @@ use Rattle.messages.specs.declared.body.Body.{Body as Told}
 use Rattle.messages.specs.declared.body.Body.TheVariants as body
 use Rattle.lane_journals.specs.Events.{Body, Ask, Read, ReadDoc, Reply, NoMemory, Delivered}
 use Rattle.lane_journals.specs.Readers.{Journal, Message, sent, first_reply}
-use Rattle.node_journals.specs.NodeKeeping.{stamp_of}
+use Rattle.lane_keeping.specs.NodeKeeping.{stamp_of}
 use Rattle.std.specs.FinMap as fin
 use Rattle.pass_model.specs.Nodes.{Node, apply_node, split_node, join_node, ready_node, activate_node, delete_node}
 

@@ -13,7 +13,7 @@ use Rattle.lane_journals.specs.RowLists.{rows}
 use Rattle.lane_journals.specs.Meanings.{history}
 use Rattle.lane_journals.specs.Places.{Setting}
 use Rattle.lane_journals.specs.declared.event.LaneEvent.{LaneEvent}
-use Rattle.node_journals.specs.NodeKeeping.{HaveShapes, regions}
+use Rattle.lane_keeping.specs.NodeKeeping.{HaveShapes, regions}
 use Rattle.pass_model.specs.Nodes.{Node}
 use Rattle.pass_model.specs.Rows.{Settings, Row}
 use Rattle.pass_model.specs.Passes.{World, In}

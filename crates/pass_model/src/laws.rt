@@ -14,7 +14,7 @@ ghost use Rattle.messages.specs.declared.reply.Reply.{Reply};
 ghost use Rattle.replica_store.specs.Replicas.{IsReplica};
 ghost use Rattle.service_layer.specs.Nodes.{Node, stored};
 ghost use Rattle.service_layer.specs.Takes.{IsInside, Treats};
-ghost use Rattle.node_journals.specs.NodeKeeping.{NodeKeeps};
+ghost use Rattle.lane_keeping.specs.NodeKeeping.{NodeKeeps};
 ghost use Rattle.pass_model.specs.Nodes.{Node as Seen};
 ghost use Rattle.pass_model.specs.Shapes.{IsSound};
 ghost use Rattle.pass_model.specs.Rows.{Settings, united};

@@ -1,7 +1,7 @@
 -- What is owed of each turn of the machine where a pass stands: it stands behind that too.
 use Rattle.std.proofs.Common.{ℕ}
 use Rattle.std.specs.BTreeMap.{BTreeMap}
-use Rattle.node_journals.specs.Flights.{NamesBucket}
+use Rattle.lane_keeping.specs.Flights.{NamesBucket}
 use Rattle.distributor_part.specs.Upkeep.{AcceptsAt}
 use Rattle.pass_model.specs.Nodes.{Node}
 use Rattle.pass_model.specs.Rows.{Settings}

@@ -5,7 +5,7 @@ ghost use Rattle.std.specs.Ordering.{nat_cmp};
 ghost use Rattle.std.specs.BTreeMap.{BTreeMap, get};
 ghost use Rattle.messages.specs.declared.body.Body.{Body};
 ghost use Rattle.messages.specs.declared.decision.Decision.{Decision};
-ghost use Rattle.node_journals.specs.Flights.{NamesBucket};
+ghost use Rattle.lane_keeping.specs.Flights.{NamesBucket};
 ghost use Rattle.distributor_part.specs.Upkeep.{AcceptsAt};
 ghost use Rattle.pass_model.specs.Nodes.{Node};
 ghost use Rattle.pass_model.specs.Rows.{Settings};

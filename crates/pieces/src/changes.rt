@@ -49,7 +49,6 @@ fn push_parts(
 }
 
 /// Puts others in the place of the pieces from one place to another; those behind are moved, none is copied.
-/// The only error is want of memory.
 fn replace_between(
     pieces: &mut Vec<Piece>,
     from: usize,
@@ -65,8 +64,7 @@ fn replace_between(
     Ok(())
 }
 
-/// Splits the piece at a place, which covers a bucket, until the bucket is a piece. The only error is want of
-/// memory.
+/// Splits the piece at a place, which covers a bucket, until the bucket is a piece.
 pub fn split_pieces(
     alloc: Global,
     pieces: &mut Vec<Piece>,
@@ -96,7 +94,7 @@ fn is_any_ready(pieces: &[Piece]) -> bool
     false
 }
 
-/// Makes the pieces inside a bucket one. The only error is want of memory.
+/// Makes the pieces inside a bucket one.
 pub fn join_pieces(
     alloc: Global,
     pieces: &mut Vec<Piece>,
@@ -119,7 +117,7 @@ pub fn join_pieces(
     replace_between(pieces, from, to, joined)
 }
 
-/// Adds a piece, which isn't ready. The only error is want of memory.
+/// Adds a piece, which isn't ready.
 fn add_piece(pieces: &mut Vec<Piece>, bucket: Bucket, serial: u64) -> Result<(), NoMemory>
     requires laid { IsLaid 0 pieces.old.items }
     requires over { list_any (is_over bucket) pieces.old.items ≡ false }
@@ -139,7 +137,7 @@ fn add_piece(pieces: &mut Vec<Piece>, bucket: Bucket, serial: u64) -> Result<(),
     Ok(())
 }
 
-/// Makes a bucket one of the pieces. The only error is want of memory.
+/// Makes a bucket one of the pieces.
 pub fn make_piece(
     alloc: Global,
     pieces: &mut Vec<Piece>,

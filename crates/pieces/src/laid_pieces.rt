@@ -37,7 +37,7 @@ impl Model for LaidPieces {
 }
 
 impl LaidPieces {
-    /// No piece, and no serial drawn; takes no memory.
+    /// No piece, and no serial drawn.
     pub fn new(alloc: Global) -> LaidPieces
         ensures { result ≡ no_pieces }
     {
@@ -47,7 +47,7 @@ impl LaidPieces {
         }
     }
 
-    /// The pieces, in the order of their runs; takes no memory.
+    /// The pieces, in the order of their runs.
     pub fn items(&self) -> &[Piece]
         ensures items { result.now ≡ self.now.pieces }
         ensures valid { IsHolding self.now }
@@ -81,7 +81,7 @@ impl LaidPieces {
         }
     }
 
-    /// The pieces that meet a bucket. The only error is want of memory.
+    /// The pieces that meet a bucket.
     pub fn meeting(&self, alloc: Global, bucket: Bucket) -> Result<Vec<Piece>, NoMemory>
         ensures { IfOk result (λ met. met.items ≡ filter (does_meet bucket) self.now.pieces) }
     {
@@ -89,7 +89,7 @@ impl LaidPieces {
         copy_all(alloc, &self.pieces[from..to])
     }
 
-    /// Draws a serial for the piece with a key; takes no memory.
+    /// Draws a serial for the piece with a key.
     pub fn renew(&mut self, key: u64)
         requires small { key < 2 ^ 58 }
         requires room { self.old.serial < 2 ^ 64 - 1 }
@@ -101,7 +101,7 @@ impl LaidPieces {
         renew_key(&mut self.pieces, key, self.serial);
     }
 
-    /// Draws a serial for a bucket that is a piece already, as where it is made one; takes no memory.
+    /// Draws a serial for a bucket that is a piece already, as where it is made one.
     pub fn renew_piece(&mut self, bucket: Bucket)
         requires piece { list_any (is_exactly bucket) self.old.pieces ≡ true }
         requires room { self.old.serial < 2 ^ 64 - 1 }
@@ -117,7 +117,7 @@ impl LaidPieces {
         self.pieces[place].serial = self.serial;
     }
 
-    /// The pieces after a bucket is made one of them. The only error is want of memory.
+    /// The pieces after a bucket is made one of them.
     pub fn made(&self, alloc: Global, bucket: Bucket) -> Result<LaidPieces, NoMemory>
         requires { self.now.serial < 2 ^ 64 - 1 }
         ensures made { IfOk result (λ made. made ≡ after_apply bucket self.now) }
@@ -184,7 +184,7 @@ impl LaidPieces {
         }
     }
 
-    /// Makes the piece that is a bucket ready; takes no memory.
+    /// Makes the piece that is a bucket ready.
     pub fn ready(&mut self, bucket: Bucket) -> Result<(), StoreFault>
         requires { self.old.serial < 2 ^ 64 - 1 }
         ensures ok { OnOk result (self.new ≡ after_ready bucket self.old) }
@@ -205,7 +205,7 @@ impl LaidPieces {
         Ok(())
     }
 
-    /// Whether a bucket may become an active region: a ready piece covers it. Takes no memory.
+    /// Whether a bucket may become an active region: a ready piece covers it.
     pub fn may_activate(&self, bucket: Bucket) -> Result<(), StoreFault>
         ensures { IsSurelyTold (activate_told bucket self.now.pieces) result }
     {
@@ -219,7 +219,7 @@ impl LaidPieces {
         }
     }
 
-    /// Draws a serial for the piece that covers a bucket, which must be ready; takes no memory.
+    /// Draws a serial for the piece that covers a bucket, which must be ready.
     pub fn activate(&mut self, bucket: Bucket) -> Result<(), StoreFault>
         requires { self.old.serial < 2 ^ 64 - 1 }
         ensures ok { OnOk result (self.new ≡ after_activate bucket self.old) }
@@ -239,7 +239,7 @@ impl LaidPieces {
         Ok(())
     }
 
-    /// Takes out the piece that is a bucket with this serial; takes no memory.
+    /// Takes out the piece that is a bucket with this serial.
     pub fn delete(&mut self, bucket: Bucket, serial: u64) -> Result<(), StoreFault>
         ensures ok { OnOk result (self.new ≡ after_delete bucket self.old) }
         ensures err { OnErr result (self.new ≡ self.old) }

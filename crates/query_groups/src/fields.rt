@@ -18,7 +18,7 @@ pub enum Fold {
     Max,
 }
 
-/// The output that says so of a field; takes no memory.
+/// The output that says so of a field.
 pub fn output_of(fold: Fold, field: TextValue) -> OutputKind
     ensures { result ≡ output_of fold field }
 {

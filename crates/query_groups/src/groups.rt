@@ -12,7 +12,7 @@ pub struct GroupBy {
     pub outputs: OutputKinds,
 }
 
-/// A name that is kept; the only error is want of memory.
+/// A name that is kept.
 pub fn kept(alloc: Global, name: &str) -> Result<TextValue, NoMemory>
     ensures { IfOk result (λ text. text ≡ name.now) }
 {

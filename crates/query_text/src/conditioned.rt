@@ -25,7 +25,7 @@ pub struct Condition {
     pub part: Option<Part>,
 }
 
-/// No token was read yet; the only error is want of memory.
+/// No token was read yet.
 pub fn start(alloc: Global) -> Result<Condition, NoMemory>
     ensures { IfOk result (λ condition. state_of condition ≡ start) }
 {

@@ -31,7 +31,7 @@ pub enum Expr {
     },
 }
 
-/// The expression of one term; takes no memory.
+/// The expression of one term.
 fn expr_of_term(term: Term) -> Expr
     ensures { formula_of result ≡ claim term }
 {
@@ -41,14 +41,14 @@ fn expr_of_term(term: Term) -> Expr
     }
 }
 
-/// The opposite of an expression; the only error is want of memory.
+/// The opposite of an expression.
 fn opposite(alloc: Global, inner: Expr) -> Result<Expr, NoMemory>
     ensures { IfOk result (λ expr. formula_of expr ≡ opposite (formula_of inner)) }
 {
     Ok(Expr::Not(Box::new(alloc, inner)?))
 }
 
-/// Two expressions as one; the only error is want of memory.
+/// Two expressions as one.
 fn join(alloc: Global, joint: Joint, one: Expr, two: Expr) -> Result<Expr, NoMemory>
     ensures { IfOk result (λ expr. formula_of expr ≡ joined joint (formula_of one) (formula_of two)) }
 {
@@ -60,7 +60,7 @@ fn join(alloc: Global, joint: Joint, one: Expr, two: Expr) -> Result<Expr, NoMem
     }
 }
 
-/// The expression of a tree of terms; the only error is want of memory.
+/// The expression of a tree of terms.
 pub fn expr_of(alloc: Global, tree: Tree<Term>) -> Result<Expr, NoMemory>
     ensures { IfOk result (λ expr. formula_of expr ≡ views.formula_of tree) }
 {

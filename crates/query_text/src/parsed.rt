@@ -24,14 +24,14 @@ impl Model for Parsed {
 }
 
 impl Parsed {
-    /// A query as what it says; takes no memory.
+    /// A query as what it says.
     pub fn of(query: Query) -> Parsed
         ensures { result ≡ said_of query }
     {
         Parsed { query }
     }
 
-    /// The query that says so; takes no memory.
+    /// The query that says so.
     pub fn query(self) -> Query
         ensures { said_of result ≡ self }
     {

@@ -48,7 +48,7 @@ impl Query {
         }
     }
 
-    /// Whether it is true of a document; the only error is want of memory.
+    /// Whether it is true of a document.
     pub fn holds(&self, alloc: Global, document: &Document) -> Result<bool, NoMemory>
         ensures { IfOk result (λ holds. holds ≡ matches_document self.now document.now) }
     {

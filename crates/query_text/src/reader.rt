@@ -69,7 +69,7 @@ impl TokenReader for Reading {
     }
 }
 
-/// No token was read yet; takes no memory.
+/// No token was read yet.
 pub fn start() -> Reading
     ensures { query_of result ≡ begin }
 {
@@ -245,7 +245,7 @@ fn step(
     }
 }
 
-/// The query that says so; the only error is want of memory.
+/// The query that says so.
 fn query_saying(
     alloc: Global,
     type_name: TextValue,

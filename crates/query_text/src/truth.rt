@@ -53,7 +53,7 @@ fn value_relates(rel: Rel, number: i64, value: Option<&FieldValue>) -> bool
     }
 }
 
-/// Adds the tokens of a text; the only error is want of memory.
+/// Adds the tokens of a text.
 fn push_tokens(alloc: Global, lists: &mut Vec<TextList>, text: &TextValue) -> Result<(), NoMemory>
     ensures { OnOk result (lists.new.items ≡ lists.old.items ++ tokens_of text.now ∷ []) }
 {
@@ -61,7 +61,7 @@ fn push_tokens(alloc: Global, lists: &mut Vec<TextList>, text: &TextValue) -> Re
     Ok(())
 }
 
-/// The tokens of each text; the only error is want of memory.
+/// The tokens of each text.
 fn tokens_of_all(alloc: Global, texts: &[TextValue]) -> Result<Vec<TextList>, NoMemory>
     ensures { IfOk result (λ lists. lists.items ≡ map tokens_of texts.now) }
 {
@@ -72,7 +72,7 @@ fn tokens_of_all(alloc: Global, texts: &[TextValue]) -> Result<Vec<TextList>, No
     Ok(lists)
 }
 
-/// The tokens of one text, in a list; the only error is want of memory.
+/// The tokens of one text, in a list.
 fn tokens_of_one(alloc: Global, text: &TextValue) -> Result<Vec<TextList>, NoMemory>
     ensures { IfOk result (λ lists. lists.items ≡ tokens_of text.now ∷ []) }
 {
@@ -81,7 +81,7 @@ fn tokens_of_one(alloc: Global, text: &TextValue) -> Result<Vec<TextList>, NoMem
     Ok(lists)
 }
 
-/// The tokens of each text of a value; the only error is want of memory.
+/// The tokens of each text of a value.
 fn tokens_in(alloc: Global, value: Option<&FieldValue>) -> Result<Vec<TextList>, NoMemory>
     ensures { IfOk result (λ lists. lists.items
         ≡ map tokens_of (texts_in (option_map (λ v. v.now) value.entry))) }
@@ -115,7 +115,7 @@ fn all_among(tokens: &[TextValue], lists: &[TextList]) -> bool
     tokens.iter().all(|token| is_among_all(token.text(), lists))
 }
 
-/// Whether a value has each token; the only error is want of memory.
+/// Whether a value has each token.
 fn has_tokens(
     alloc: Global,
     tokens: &[TextValue],
@@ -128,7 +128,7 @@ fn has_tokens(
     Ok(all_among(tokens, &lists))
 }
 
-/// Whether a value contains tokens, of which there is one; the only error is want of memory.
+/// Whether a value contains tokens, of which there is one.
 fn contains(
     alloc: Global,
     tokens: &[TextValue],
@@ -142,7 +142,7 @@ fn contains(
     has_tokens(alloc, tokens, value)
 }
 
-/// Whether a field of a document contains tokens; the only error is want of memory.
+/// Whether a field of a document contains tokens.
 fn field_contains(
     alloc: Global,
     tokens: &TextList,
@@ -161,7 +161,7 @@ fn field_relates(rel: Rel, number: i64, field: &TextValue, document: &Document) 
     value_relates(rel, number, document.get(field.text()))
 }
 
-/// Whether an expression is true of a document; the only error is want of memory.
+/// Whether an expression is true of a document.
 fn expr_holds(alloc: Global, expr: &Expr, document: &Document) -> Result<bool, NoMemory>
     ensures { IfOk result (λ holds. holds ≡ expr_holds document.now expr.now) }
 {
@@ -186,7 +186,7 @@ fn expr_holds(alloc: Global, expr: &Expr, document: &Document) -> Result<bool, N
     }
 }
 
-/// Whether a query is true of a document; the only error is want of memory.
+/// Whether a query is true of a document.
 pub fn query_holds(alloc: Global, query: &Query, document: &Document) -> Result<bool, NoMemory>
     ensures { IfOk result (λ holds. holds ≡ matches_document query.now document.now) }
 {

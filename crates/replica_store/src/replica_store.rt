@@ -47,7 +47,7 @@ impl Model for ReplicaStore {
 }
 
 impl ReplicaStore {
-    /// No bucket and no entry; takes no memory.
+    /// No bucket and no entry.
     pub fn new(alloc: Global) -> ReplicaStore
         ensures { result ≡ no_replica }
     {
@@ -58,7 +58,7 @@ impl ReplicaStore {
         }
     }
 
-    /// The pieces, in the order of their runs; takes no memory.
+    /// The pieces, in the order of their runs.
     pub fn pieces(&self) -> &[Piece]
         ensures pieces { result.now ≡ self.now.pieces }
         ensures valid { IsReplica self.now }
@@ -74,7 +74,7 @@ impl ReplicaStore {
         self.pieces.last_serial()
     }
 
-    /// The entry of a document; takes no memory.
+    /// The entry of a document.
     pub fn entry(&self, id: &DocId) -> Option<&Entry>
         ensures { option_copied result ≡ fin.get self.now.entries id.now }
     {
@@ -104,7 +104,7 @@ impl ReplicaStore {
         self.pieces.has_key(key)
     }
 
-    /// All entries in a bucket, and the pieces that meet it. The only error is want of memory.
+    /// All entries in a bucket, and the pieces that meet it.
     pub fn read(&self, bucket: Bucket) -> Result<Held, StoreFault>
         ensures entries { IfOk result (λ held. held.entries
             ≡ fin.retain_keys self.now.entries (in_bucket bucket)) }
@@ -142,8 +142,7 @@ impl ReplicaStore {
         Ok(())
     }
 
-    /// Makes a bucket a piece, and takes entries of documents whose keys lie in it. The only error is want
-    /// of memory.
+    /// Makes a bucket a piece, and takes entries of documents whose keys lie in it.
     pub fn apply(&mut self, bucket: Bucket, entries: &EntryMap) -> Result<(), StoreFault>
         requires inside { LieIn bucket entries.now }
         requires room { self.old.serial < 2 ^ 64 - 1 }
@@ -206,7 +205,7 @@ impl ReplicaStore {
         self.pieces.join(self.alloc, bucket)
     }
 
-    /// Takes out the piece that is a bucket with this serial, and its entries; takes no memory.
+    /// Takes out the piece that is a bucket with this serial, and its entries.
     pub fn delete(&mut self, bucket: Bucket, serial: u64) -> Result<(), StoreFault>
         ensures ok { OnOk result (self.new ≡ after_delete bucket self.old) }
         ensures err { OnErr result (self.new ≡ self.old) }
@@ -218,7 +217,7 @@ impl ReplicaStore {
         Ok(())
     }
 
-    /// Makes the piece that is a bucket ready; takes no memory.
+    /// Makes the piece that is a bucket ready.
     pub fn ready(&mut self, bucket: Bucket) -> Result<(), StoreFault>
         requires { self.old.serial < 2 ^ 64 - 1 }
         ensures ok { OnOk result (self.new ≡ after_ready bucket self.old) }
@@ -228,14 +227,14 @@ impl ReplicaStore {
         self.pieces.ready(bucket)
     }
 
-    /// Whether a bucket may become an active region: a ready piece covers it. Takes no memory.
+    /// Whether a bucket may become an active region: a ready piece covers it.
     pub fn may_activate(&self, bucket: Bucket) -> Result<(), StoreFault>
         ensures { IsSurelyTold (activate_told bucket self.now.pieces) result }
     {
         self.pieces.may_activate(bucket)
     }
 
-    /// Draws a serial for the piece that covers a bucket, which must be ready; takes no memory.
+    /// Draws a serial for the piece that covers a bucket, which must be ready.
     pub fn activate(&mut self, bucket: Bucket) -> Result<(), StoreFault>
         requires { self.old.serial < 2 ^ 64 - 1 }
         ensures ok { OnOk result (self.new ≡ after_activate bucket self.old) }

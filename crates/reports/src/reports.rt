@@ -377,7 +377,7 @@ fn maintained_report(
     ended(out)
 }
 
-/// The report of a line. The only error is want of memory.
+/// The report of a line.
 pub fn report(alloc: Global, line: u32, answer: &Answer) -> Result<Vec<u8>, NoMemory>
     ensures { IfOk result (λ bytes. bytes.items ≡ report_text line answer.now) }
 {
@@ -423,7 +423,7 @@ pub fn report(alloc: Global, line: u32, answer: &Answer) -> Result<Vec<u8>, NoMe
     }
 }
 
-/// `{"result":"usage"}`, which answers wrong words. The only error is want of memory.
+/// `{"result":"usage"}`, which answers wrong words.
 #[tactic(auto, unfolding(crate::specs::ReportText::usage_text))]
 pub fn usage_report(alloc: Global) -> Result<Vec<u8>, NoMemory>
     ensures { IfOk result (λ bytes. bytes.items ≡ usage_text) }

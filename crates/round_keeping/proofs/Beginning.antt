@@ -36,7 +36,7 @@ use Rattle.proof_basics.proofs.Lists.{contains-none}
 use Rattle.lane_journals.proofs.Rows.{running-row}
 use Rattle.lane_journals.proofs.Meant.{meant-legal, state-serves}
 use Rattle.lane_journals.proofs.Marks.{active-complete, complete-took}
-use Rattle.node_journals.proofs.Uniting.{union-begins}
+use Rattle.lane_keeping.proofs.Uniting.{union-begins}
 use Rattle.lane_keeping.specs.LaneKeeping.{setting_of, Holds, part_in, Keeps}
 use Rattle.lane_keeping.specs.Acting.{IsKnownRow}
 use Rattle.round_keeping.specs.RoundKeeping.{is_apply, origin_in, KnowsAnswersOf, KnowsRoundOf, KnowsRound}

@@ -19,7 +19,7 @@ use Rattle.lane_journals.specs.declared.event.LaneEvent.TheVariants as event
 use Rattle.lane_journals.proofs.BucketLaws.{same_bucket-refl, own-low}
 use Rattle.lane_journals.proofs.Rows.{running-idle}
 use Rattle.lane_journals.proofs.Meant.{meant-legal}
-use Rattle.node_journals.proofs.Uniting.{union-stays}
+use Rattle.lane_keeping.proofs.Uniting.{union-stays}
 use Rattle.lane_keeping.specs.Acting.{IsActing}
 use Rattle.round_keeping.specs.RoundKeeping.{KnowsAnswers, KnowsRound, NoRound}
 use Rattle.round_keeping.proofs.Waiting.{answered-in, answered-stays}

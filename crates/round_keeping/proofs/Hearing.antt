@@ -37,12 +37,12 @@ use Rattle.lane_journals.specs.declared.event.LaneEvent.TheVariants as event
 use Rattle.lane_journals.proofs.BucketLaws.{same_bucket-refl}
 use Rattle.lane_journals.proofs.Meant.{meant-legal}
 use Rattle.proof_basics.proofs.Lists.{contains-none, contains-one}
-use Rattle.node_journals.specs.Flights.{meant, BringsBack}
-use Rattle.node_journals.specs.Replaying.{IsTaken, delivered}
-use Rattle.node_journals.specs.Unions.{IsUnion}
-use Rattle.node_journals.proofs.Stamping.{written-apply, content-is}
-use Rattle.node_journals.proofs.Sending.{taken-back}
-use Rattle.node_journals.proofs.Uniting.{union-stays, union-joins, union-lies}
+use Rattle.lane_keeping.specs.Flights.{meant, BringsBack}
+use Rattle.lane_keeping.specs.Replaying.{IsTaken, delivered}
+use Rattle.lane_keeping.specs.Unions.{IsUnion}
+use Rattle.lane_keeping.proofs.Stamping.{written-apply, content-is}
+use Rattle.lane_keeping.proofs.Sending.{taken-back}
+use Rattle.lane_keeping.proofs.Uniting.{union-stays, union-joins, union-lies}
 use Rattle.lane_keeping.specs.LaneKeeping.{setting_of, node_in, Keeps}
 use Rattle.lane_keeping.specs.Asking.{IsTakenBy}
 use Rattle.round_keeping.specs.RoundKeeping.{was_sent, is_apply, is_of, IsNamed, AreAnswers, IsReading, KnowsRoundOf, KnowsRound, body_of, IsAwaited}

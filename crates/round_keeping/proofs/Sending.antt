@@ -26,11 +26,11 @@ use Rattle.lane_journals.specs.declared.event.LaneEvent.{LaneEvent}
 use Rattle.lane_journals.proofs.Basics.{replied-sent, returned-replied}
 use Rattle.lane_journals.proofs.Rows.{running-row}
 use Rattle.lane_journals.proofs.Meant.{meant-legal, state-serves}
-use Rattle.node_journals.specs.Flights.{Brings, IsWhole}
-use Rattle.node_journals.specs.Replaying.{sending}
-use Rattle.node_journals.proofs.Flying.{flight-sent}
-use Rattle.node_journals.proofs.Sending.{may-send}
-use Rattle.node_journals.proofs.Uniting.{union-unites}
+use Rattle.lane_keeping.specs.Flights.{Brings, IsWhole}
+use Rattle.lane_keeping.specs.Replaying.{sending}
+use Rattle.lane_keeping.proofs.Flying.{flight-sent}
+use Rattle.lane_keeping.proofs.Sending.{may-send}
+use Rattle.lane_keeping.proofs.Uniting.{union-unites}
 use Rattle.lane_keeping.specs.LaneKeeping.{setting_of, Keeps}
 use Rattle.lane_keeping.specs.Asking.{IsJustSent}
 use Rattle.lane_keeping.specs.Acting.{IsActing}

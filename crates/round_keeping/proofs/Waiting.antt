@@ -25,9 +25,9 @@ use Rattle.lane_journals.specs.declared.event.LaneEvent.TheVariants as event
 use Rattle.lane_journals.proofs.Basics.{sent-stays, first_reply-stays, returned-stays, replied-sent, returned-replied, sent_before}
 use Rattle.lane_journals.proofs.Serials.{answer_of-parts}
 use Rattle.lane_journals.proofs.Meant.{meant-legal}
-use Rattle.node_journals.specs.Replaying.{sending}
-use Rattle.node_journals.proofs.Flying.{flight-stays}
-use Rattle.node_journals.proofs.Uniting.{union-stays}
+use Rattle.lane_keeping.specs.Replaying.{sending}
+use Rattle.lane_keeping.proofs.Flying.{flight-stays}
+use Rattle.lane_keeping.proofs.Uniting.{union-stays}
 use Rattle.round_keeping.specs.RoundKeeping.{was_sent, is_apply, is_of, IsNamed, KnowsAnswersOf, KnowsRoundOf, IsAwaited}
 use Rattle.round_keeping.specs.Laws.{IsOfNoRound}
 

@@ -21,8 +21,8 @@ use Rattle.lane_journals.specs.Facts.{AnsweredApply}
 use Rattle.lane_journals.specs.Meanings.{history, entry_at, names as names_of}
 use Rattle.lane_journals.specs.Places.{receivers_of}
 use Rattle.lane_journals.specs.declared.event.LaneEvent.{LaneEvent}
-use Rattle.node_journals.specs.NodeKeeping.{AreWritten}
-use Rattle.node_journals.specs.Unions.{IsUnion}
+use Rattle.lane_keeping.specs.NodeKeeping.{AreWritten}
+use Rattle.lane_keeping.specs.Unions.{IsUnion}
 use Rattle.lane_keeping.specs.Asking.{IsJustSent}
 
 -- ---- what was sent

@@ -24,9 +24,9 @@ use Rattle.lane_journals.specs.Meanings.{history, entry_at}
 use Rattle.lane_journals.specs.Places.{Setting, Owns, PlacedBody}
 use Rattle.lane_journals.specs.KeptJournals.{IsLegalStep}
 use Rattle.lane_journals.specs.declared.event.LaneEvent.{LaneEvent}
-use Rattle.node_journals.specs.Flights.{meant, Brings, IsExact, IsWhole}
-use Rattle.node_journals.specs.Replaying.{sending}
-use Rattle.node_journals.proofs.Sending.{may-send}
+use Rattle.lane_keeping.specs.Flights.{meant, Brings, IsExact, IsWhole}
+use Rattle.lane_keeping.specs.Replaying.{sending}
+use Rattle.lane_keeping.proofs.Sending.{may-send}
 use Rattle.lane_journals.proofs.BucketLaws.{own-low}
 use Rattle.lane_keeping.specs.LaneKeeping.{setting_of, IsDelete, part_in, Keeps}
 use Rattle.lane_keeping.specs.Acting.{IsKnownRow}

@@ -11,7 +11,7 @@ use Rattle.messages.specs.declared.body.Body.TheVariants.{Delete, Split, Join, R
 use Rattle.distributor_part.specs.Parts.{Part}
 use Rattle.lane_journals.specs.declared.event.LaneEvent.{LaneEvent}
 use Rattle.lane_keeping.specs.Acting.{IsActing}
-use Rattle.node_journals.specs.Flights.{NamesBucket}
+use Rattle.lane_keeping.specs.Flights.{NamesBucket}
 
 -- what is said of a row: to any node how it lies and whether its piece is ready, to its active node that it is,
 -- and its unanswered Delete to the node of that

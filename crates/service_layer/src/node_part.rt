@@ -56,7 +56,7 @@ impl Model for NodePart {
 }
 
 impl NodePart {
-    /// A node that took no message; takes no memory.
+    /// A node that took no message.
     pub fn new(alloc: Global) -> NodePart
         ensures { result ≡ new_node }
     {
@@ -75,7 +75,7 @@ impl NodePart {
         self.version
     }
 
-    /// The entry of a document; takes no memory.
+    /// The entry of a document.
     pub fn entry(&self, id: &DocId) -> Option<&Entry>
         ensures { option_copied result ≡ fin.get self.now.entries id.now }
     {
@@ -89,7 +89,7 @@ impl NodePart {
         self.store.entries()
     }
 
-    /// The pieces, in the order of their runs; takes no memory.
+    /// The pieces, in the order of their runs.
     pub fn pieces(&self) -> &[Piece]
         ensures pieces { result.now ≡ self.now.pieces }
         ensures valid { IsReplica (stored self.now) }
@@ -97,7 +97,7 @@ impl NodePart {
         self.store.pieces()
     }
 
-    /// The active regions; takes no memory.
+    /// The active regions.
     pub fn regions(&self) -> &[Bucket]
         ensures { result.now ≡ self.now.regions }
     {

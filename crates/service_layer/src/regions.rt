@@ -19,7 +19,7 @@ fn is_covered(regions: &[Bucket], bucket: Bucket) -> bool
     false
 }
 
-/// The regions after a bucket becomes one. The only error is want of memory.
+/// The regions after a bucket becomes one.
 pub fn with_region(
     alloc: Global,
     regions: &[Bucket],

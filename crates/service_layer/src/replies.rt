@@ -54,7 +54,7 @@ fn refused(fault: StoreFault) -> Taken
     }
 }
 
-/// A message changed what a node has, or was refused; takes no memory.
+/// A message changed what a node has, or was refused.
 pub fn done(alloc: Global, change: Result<(), StoreFault>) -> Taken
     ensures reply { result.reply ≡ done_reply change }
     ensures noted { result.noted ≡ noted_reply result.reply }
@@ -88,7 +88,7 @@ pub fn shown(alloc: Global, shown: Result<Reply, StoreFault>) -> Taken
     }
 }
 
-/// A map of one entry, or of none. The only error is want of memory.
+/// A map of one entry, or of none.
 pub fn only_entry(alloc: Global, entry: Option<&SharedEntry>) -> Result<EntryMap, NoMemory>
     ensures { IfOk result (λ m. m ≡ only_entry (option_copied entry.entry)) }
 {

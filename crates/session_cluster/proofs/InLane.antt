@@ -1,5 +1,5 @@
 -- The lane of a document, and what may be asked of lanes.
-use Rattle.std.proofs.Common.{◌≡◌, ◌<◌, ◌≤◌, ◌^◌, ◌+◌, ℕ, Bool, List, Option, None, Some, IfSome, refl, sym, ap, ◌∙◌, subst, arith, length, map, slice_get, slice_index_or, set}
+use Rattle.std.proofs.Common.{◌≡◌, ◌<◌, ◌≤◌, ◌^◌, ℕ, Bool, List, Option, None, Some, IfSome, refl, sym, ap, ◌∙◌, subst, arith, length, map, slice_get, slice_index_or, set}
 use Rattle.std.specs.Option.{IsSome}
 use Rattle.std.proofs.Math.Pow.{pow_mono}
 use Rattle.std.proofs.lemmas.List.{length-map}
@@ -99,9 +99,9 @@ via_holds s planned lane deeds v (Some d) is small = serving_heard s planned lan
 pub may_run : (s : Setting) (line at : ℕ) (op : Operation) (via : Option ℕ) (c : Cell) → IsReady s line c → at ≡ lane_of_id s.bits op.id → IfSome via (λ d. d < 32)
     → (v : LaneValue) → slice_get c.lanes at ≡ Some v → MayRun line op via v
 may_run s line at op via c ready is small v there =
-    let deeds = deeds_of_lane s at ready.commands in
+    let deeds = deeds_of_lane s c.upkeeps at ready.commands in
     let serving = ready.kept.serving at v there in
-    let low : last_line (lines_of deeds) ≤ length ready.commands = lines_low s at ready.commands in
+    let low : last_line (lines_of deeds) ≤ length ready.commands = lines_low s c.upkeeps at ready.commands in
     record {
       idle = serving.idle;
       fresh = serving_fresh s _ at deeds v line serving (omega (arith, low, ready.next));
@@ -118,15 +118,15 @@ some_line s line c ready = omega (arith, ready.next)
 pub all_telling : (s : Setting) (line : ℕ) (c : Cell) → IsReady s line c → EachLane (IsTelling c.told) c.lanes
 all_telling s line c ready lane v at =
     let serving = ready.kept.serving lane v at in
-    let deeds = deeds_of_lane s lane ready.commands in
-    record { idle = serving.idle; told_is = serving_told s _ lane deeds v serving ∙ deeds_told s lane ready.commands ∙ sym ready.kept.told }
+    let deeds = deeds_of_lane s c.upkeeps lane ready.commands in
+    record { idle = serving.idle; told_is = serving_told s _ lane deeds v serving ∙ deeds_told s c.upkeeps lane ready.commands ∙ sym ready.kept.told }
 
 -- ---- what may be kept in order
 
 pub all_may_maintain : (s : Setting) (line : ℕ) (c : Cell) → IsReady s line c → EachLane MayMaintain c.lanes
 all_may_maintain s line c ready lane v at =
     let serving = ready.kept.serving lane v at in
-    let deeds = deeds_of_lane s lane ready.commands in
+    let deeds = deeds_of_lane s c.upkeeps lane ready.commands in
     record { idle = serving.idle; published = some_there (last_state v.journal) (newest_in s deeds) (serving_newest s _ lane deeds v serving) }
 
 few_lanes : (bits : ℕ) → bits ≤ 6 → 2 ^ bits ≤ 64

@@ -1,5 +1,5 @@
 -- What a line moves in the lanes, and what it leaves.
-use Rattle.std.proofs.Common.{◌≡◌, ◌≢◌, ◌⊎◌, ◌<◌, ◌≤◌, ◌+◌, ℕ, zero, suc, List, [], ◌∷◌, ◌++◌, Option, None, Some, inl, inr, refl, sym, ap, ◌∙◌, subst, arith, length, map, slice_get, set}
+use Rattle.std.proofs.Common.{◌≡◌, ◌⊎◌, ◌≤◌, ℕ, zero, suc, List, [], ◌∷◌, Option, None, Some, inl, inr, refl, sym, ap, ◌∙◌, subst, arith, length, map, slice_get, set}
 use Rattle.std.proofs.lemmas.Bool.{cases_eq, cases_lt}
 use Rattle.std.proofs.lemmas.List.{length-map}
 use Rattle.std.proofs.lemmas.Option.{slice_get_within}
@@ -13,20 +13,19 @@ use Rattle.bucket_ids.specs.Buckets.{Low}
 use Rattle.distributor_part.specs.declared.rules.Rules.{Rules}
 use Rattle.lane_values.specs.LaneValues.{LaneValue}
 use Rattle.lane_values.specs.declared.setting.Setting.{Setting}
-use Rattle.lane_lives.specs.Lives.{FeedLine, Deed, Announces, Stops, Starts, Runs, Maintains, IsCarriedOut, outcome_in}
+use Rattle.lane_lives.specs.Lives.{FeedLine, Announces, Stops, Starts, Runs, Maintains, IsCarriedOut, outcome_in}
 use Rattle.lane_lives.specs.Serving.{bucket_in}
 use Rattle.lane_lives.proofs.OneLine.{IsLine, deed_is}
 use Rattle.lane_lives.proofs.Upkept.{pass_made}
 use Rattle.reports.specs.declared.answer.Answer.TheVariants as answer
 use Rattle.session_cluster.specs.Cells.{Cell, journals}
-use Rattle.session_cluster.specs.Deeds.{deeds_of_lane, planned_for}
 use Rattle.session_cluster.specs.Keeping.{IsKept}
 use Rattle.session_cluster.specs.Lanes.{lane_of_id, journal_in}
 use Rattle.session_cluster.specs.Output.{plan_answer}
-use Rattle.session_cluster.specs.Steps.{with_room, without_room, after_state, after_stop, after_start, IsOperatedIn, IsDoneInEach, IsStateTold, IsPlannedIn, MayHavePassed, MayHaveAllPassed, IsAfter}
+use Rattle.session_cluster.specs.Steps.{with_room, without_room, after_state, after_stop, after_start, IsOperatedIn, IsStateTold, MayHavePassed, MayHaveAllPassed, IsAfter}
 use Rattle.session_cluster.specs.declared.asked.Asked.{Asked}
 use Rattle.session_cluster.specs.declared.asked.Asked.TheVariants as command
-use Rattle.session_cluster.proofs.Elements.{map_there, element_seen}
+use Rattle.session_cluster.proofs.Elements.{map_there}
 use Rattle.session_cluster.proofs.KeptLanes.{lane_there}
 use Rattle.session_cluster.proofs.LaneLists.{journal_is, journal_at, journal_past, journal_set, journal_other}
 use Rattle.session_cluster.proofs.SessionSteps.{after_plan, takes_same}
@@ -121,7 +120,7 @@ operation_moves s plans cs op via old new k at x kept d =
 
 passed_line : (k : ℕ) (s : Setting) (v w : LaneValue) → MayHavePassed v w → IsLine k v.journal w.journal ⊎ (w.journal ≡ v.journal)
 passed_line k s v w (inl same) = inr (ap (λ (x : LaneValue). x.journal) same)
-passed_line k s v w (inr m) = inl (deed_is s v.lane Maintains k tt v.journal w.journal (inr (pass_made v w m.0)))
+passed_line k s v w (inr m) = inl (deed_is s v.lane (Maintains None) k tt v.journal w.journal (inr (pass_made v w m.0)))
 
 -- a lane that isn't there stays out
 none_there : (vs ws : List LaneValue) (lane : ℕ) → length ws ≡ length vs → length vs ≤ lane → plan_answer (slice_get ws lane) ≡ plan_answer (slice_get vs lane)

@@ -1,5 +1,5 @@
 -- One line more keeps what a session keeps.
-use Rattle.std.proofs.Common.{◌≡◌, ◌≢◌, ◌⊎◌, ◌<◌, ◌≤◌, ◌+◌, ℕ, zero, suc, true, false, List, [], ◌∷◌, ◌++◌, Option, None, Some, inl, inr, refl, sym, ap, ◌∙◌, subst, arith, length, length-append, length-set, map, slice_get, set}
+use Rattle.std.proofs.Common.{◌≡◌, ◌≢◌, ◌⊎◌, ◌<◌, ◌≤◌, ◌+◌, ℕ, zero, suc, List, [], ◌∷◌, ◌++◌, Option, None, Some, option_and_then, inl, inr, refl, sym, ap, ◌∙◌, subst, arith, length, length-append, length-set, map, slice_get, set}
 use Rattle.std.proofs.lemmas.List.{length-map}
 use Rattle.std.proofs.lemmas.Option.{slice_get_within}
 use Rattle.carriers.specs.Fates.{planned_with}
@@ -13,28 +13,30 @@ use Rattle.lane_values.specs.LaneValues.{LaneValue, IsLaneValue}
 use Rattle.lane_values.specs.declared.setting.Setting.{Setting}
 use Rattle.lane_lives.specs.Lives.{Deed, Announces, Stops, Starts, Runs, Maintains, lines_of, last_line}
 use Rattle.lane_lives.specs.Serving.{IsServing}
-use Rattle.lane_core.proofs.Served.{serves_run, serves_announced, serves_stopped, serves_started, serves_room, serves_planned, serves_upkept}
+use Rattle.lane_core.proofs.Served.{serves_run, serves_announced, serves_stopped, serves_started, serves_room, serves_planned, serves_upkept, serves_spanned}
 use Rattle.session_cluster.specs.Steps.{IsRoomier}
 use Rattle.session_cluster.specs.Cells.{Cell}
-use Rattle.session_cluster.specs.Deeds.{first_told, told_with, told_next, told_of, with_operation, with_state, with_line, deeds_of_lane, planned_next, planned_for}
+use Rattle.session_cluster.specs.Deeds.{first_told, told_with, told_next, told_of, with_state, with_line, deeds_of_lane, planned_next, planned_for}
 use Rattle.session_cluster.specs.Keeping.{IsKept}
 use Rattle.session_cluster.specs.Lanes.{lane_of_id}
 use Rattle.lane_lives.specs.Upkeep.{MayBeUpkept}
-use Rattle.session_cluster.specs.Spans.{spans_of}
-use Rattle.session_cluster.specs.Steps.{with_room, without_room, after_state, after_stop, after_start, EachLane, IsOperatedIn, IsDoneInEach, IsPublished, IsStateTold, IsPlannedIn, MayHavePassed, MayHaveAllPassed, HasSpans, IsMaintained, IsAfter}
+use Rattle.session_cluster.specs.Spans.{spans_of, span_in}
+use Rattle.session_cluster.specs.Steps.{with_room, without_room, after_state, after_stop, after_start, IsOperatedIn, IsDoneInEach, IsPublished, IsStateTold, IsPlannedIn, MayHavePassed, MayHaveAllPassed, HasSpans, IsMaintained, IsAfter}
 use Rattle.session_cluster.specs.declared.asked.Asked.{Asked}
 use Rattle.session_cluster.specs.declared.asked.Asked.TheVariants as command
-use Rattle.session_cluster.proofs.DeedLists.{told_push, deeds_push, planned_push, with_own, with_other, plan_own, plan_other, lines_low}
+use Rattle.session_cluster.specs.declared.spans.LineSpans.{LineSpans}
+use Rattle.lane_lives.specs.declared.spans.UpkeepSpan.{UpkeepSpan}
+use Rattle.session_cluster.proofs.DeedLists.{told_push, deeds_push, deeds_same, planned_push, with_own, with_other, plan_own, plan_other, lines_low}
 use Rattle.session_cluster.proofs.Elements.{element_set, element_map, element_seen}
-use Rattle.session_cluster.proofs.SpanLists.{spans_other}
+use Rattle.session_cluster.proofs.SpanLists.{spans_other, spans_own}
 
 count_next : (cs : List Asked) (c : Asked) (k : ℕ) → k ≡ length cs + 1 → k ≡ length (cs ++ c ∷ [])
 count_next cs c k is = omega (arith, is, length-append cs (c ∷ []))
 
 -- each lane serves the lines so far and this one more
-abbrev ServesNext : Setting → (ℕ → List Fate) → List Asked → Asked → ℕ → List LaneValue → Type 0
-ServesNext s plans cs c k vs = (lane : ℕ) (v : LaneValue) → slice_get vs lane ≡ Some v
-    → IsServing s (planned_next lane v.takes_plans c (planned_for lane v.takes_plans (plans lane) cs)) lane (with_line s lane (told_of s cs) k c (deeds_of_lane s lane cs)) v
+abbrev ServesNext : Setting → (ℕ → List Fate) → List Asked → Asked → ℕ → List LineSpans → List LineSpans → List LaneValue → Type 0
+ServesNext s plans cs c k us ws vs = (lane : ℕ) (v : LaneValue) → slice_get vs lane ≡ Some v
+    → IsServing s (planned_next lane v.takes_plans c (planned_for lane v.takes_plans (plans lane) cs)) lane (with_line s ws lane (told_of s cs) k c (deeds_of_lane s us lane cs)) v
 
 -- another line has the spans that it had
 abbrev pub LeavesSpans : ℕ → Cell → Cell → Type 0
@@ -43,27 +45,33 @@ LeavesSpans k old new = (line : ℕ) → k ≢ line → spans_of line new.upkeep
 same_spans : (k : ℕ) (old new : Cell) → new.upkeeps ≡ old.upkeeps → LeavesSpans k old new
 same_spans k old new same line other = ap (spans_of line) same
 
+-- the deeds with one line more
+deeds_next : (s : Setting) (cs : List Asked) (c : Asked) (old new : Cell) (k : ℕ) → k ≡ length cs + 1 → LeavesSpans k old new → (lane : ℕ)
+    → deeds_of_lane s new.upkeeps lane (cs ++ c ∷ []) ≡ with_line s new.upkeeps lane (told_of s cs) k c (deeds_of_lane s old.upkeeps lane cs)
+deeds_next s cs c old new k is spans lane =
+    deeds_push s new.upkeeps lane k cs c is ∙ ap (λ ds. with_line s new.upkeeps lane (told_of s cs) k c ds) (deeds_same s old.upkeeps new.upkeeps k lane cs (omega (arith, is)) spans)
+
 kept_next : (s : Setting) (plans : ℕ → List Fate) (cs : List Asked) (c : Asked) (old new : Cell) (k : ℕ) → IsKept s plans cs old → k ≡ length cs + 1
-    → new.bits ≡ old.bits → new.told ≡ told_next c old.told → new.dealt ≡ k → length new.lanes ≡ length old.lanes → ServesNext s plans cs c k new.lanes → LeavesSpans k old new → IsKept s plans (cs ++ c ∷ []) new
+    → new.bits ≡ old.bits → new.told ≡ told_next c old.told → new.dealt ≡ k → length new.lanes ≡ length old.lanes → ServesNext s plans cs c k old.upkeeps new.upkeeps new.lanes → LeavesSpans k old new → IsKept s plans (cs ++ c ∷ []) new
 kept_next s plans cs c old new k kept is bits told dealt lanes serving spans = record {
   bits = bits ∙ kept.bits;
   told = told ∙ ap (told_next c) kept.told ∙ sym (told_push (first_told s) cs c);
   dealt = dealt ∙ count_next cs c k is;
   lanes = lanes ∙ kept.lanes;
   serving = λ lane v at.
-      subst (λ p. IsServing s p lane (deeds_of_lane s lane (cs ++ c ∷ [])) v) (sym (planned_push lane v.takes_plans (plans lane) cs c))
-      (subst (λ ds. IsServing s (planned_next lane v.takes_plans c (planned_for lane v.takes_plans (plans lane) cs)) lane ds v) (sym (deeds_push s lane k cs c is)) (serving lane v at));
+      subst (λ p. IsServing s p lane (deeds_of_lane s new.upkeeps lane (cs ++ c ∷ [])) v) (sym (planned_push lane v.takes_plans (plans lane) cs c))
+      (subst (λ ds. IsServing s (planned_next lane v.takes_plans c (planned_for lane v.takes_plans (plans lane) cs)) lane ds v) (sym (deeds_next s cs c old new k is spans lane)) (serving lane v at));
   unkept = λ line later. spans line (λ e. absurd (omega (arith, e, later, dealt))) ∙ kept.unkept line (omega (arith, later, dealt, is, kept.dealt));
 }
 
 -- ---- a line that does nothing in the lanes
 
 serves_same : (s : Setting) (plans : ℕ → List Fate) (cs : List Asked) (old new : Cell) (k : ℕ) → IsKept s plans cs old → new ≡ record old { dealt = k }
-    → (lane : ℕ) (v : LaneValue) → slice_get new.lanes lane ≡ Some v → IsServing s (planned_for lane v.takes_plans (plans lane) cs) lane (deeds_of_lane s lane cs) v
+    → (lane : ℕ) (v : LaneValue) → slice_get new.lanes lane ≡ Some v → IsServing s (planned_for lane v.takes_plans (plans lane) cs) lane (deeds_of_lane s old.upkeeps lane cs) v
 serves_same s plans cs old new k kept now lane v at = kept.serving lane v (subst (λ (x : Cell). slice_get x.lanes lane ≡ Some v) now at)
 
 kept_plain : (s : Setting) (plans : ℕ → List Fate) (cs : List Asked) (c : Asked) (old new : Cell) (k : ℕ) → IsKept s plans cs old → k ≡ length cs + 1 → ((told : Told) → told_next c told ≡ told)
-    → ServesNext s plans cs c k new.lanes → new ≡ record old { dealt = k } → IsKept s plans (cs ++ c ∷ []) new
+    → ServesNext s plans cs c k old.upkeeps new.upkeeps new.lanes → new ≡ record old { dealt = k } → IsKept s plans (cs ++ c ∷ []) new
 kept_plain s plans cs c old new k kept is none serving now =
     kept_next s plans cs c old new k kept is (ap (λ (x : Cell). x.bits) now) (ap (λ (x : Cell). x.told) now ∙ sym (none old.told)) (ap (λ (x : Cell). x.dealt) now) (ap (λ (x : Cell). length x.lanes) now) serving (same_spans k old new (ap (λ (x : Cell). x.upkeeps) now))
 
@@ -71,25 +79,25 @@ kept_plain s plans cs c old new k kept is none serving now =
 
 -- the lane of the operation serves it
 served : (s : Setting) (plans : ℕ → List Fate) (cs : List Asked) (op : Operation) (via : Option ℕ) (old new : Cell) (k at : ℕ) (x : Outcome) → IsKept s plans cs old → k ≡ length cs + 1 → (d : IsOperatedIn at k op via old new x)
-    → IsServing s (planned_for at (d.after).takes_plans (plans at) cs) at (Runs (record { number = k; operation = op; via = via }) ∷ deeds_of_lane s at cs) d.after
+    → IsServing s (planned_for at (d.after).takes_plans (plans at) cs) at (Runs (record { number = k; operation = op; via = via }) ∷ deeds_of_lane s old.upkeeps at cs) d.after
 served s plans cs op via old new k at x kept is d =
-    let low : last_line (lines_of (deeds_of_lane s at cs)) ≤ length cs = lines_low s at cs in
-    subst (λ t. IsServing s (planned_for at t (plans at) cs) at (Runs (record { number = k; operation = op; via = via }) ∷ deeds_of_lane s at cs) d.after) (sym (ap (λ (v : LaneValue). v.takes_plans) (d.ran).after))
-    (serves_run s (planned_for at (d.before).takes_plans (plans at) cs) at (deeds_of_lane s at cs) d.before d.after (record { number = k; operation = op; via = via }) x (kept.serving at d.before d.there) (omega (arith, is, low)) d.ran)
+    let low : last_line (lines_of (deeds_of_lane s old.upkeeps at cs)) ≤ length cs = lines_low s old.upkeeps at cs in
+    subst (λ t. IsServing s (planned_for at t (plans at) cs) at (Runs (record { number = k; operation = op; via = via }) ∷ deeds_of_lane s old.upkeeps at cs) d.after) (sym (ap (λ (v : LaneValue). v.takes_plans) (d.ran).after))
+    (serves_run s (planned_for at (d.before).takes_plans (plans at) cs) at (deeds_of_lane s old.upkeeps at cs) d.before d.after (record { number = k; operation = op; via = via }) x (kept.serving at d.before d.there) (omega (arith, is, low)) d.ran)
 
 serves_operation : (s : Setting) (plans : ℕ → List Fate) (cs : List Asked) (op : Operation) (via : Option ℕ) (old new : Cell) (k : ℕ) (x : Outcome) → IsKept s plans cs old → k ≡ length cs + 1
-    → (d : IsOperatedIn (lane_of_id s.bits op.id) k op via old new x) → ServesNext s plans cs (command.Feed op via) k (set old.lanes (lane_of_id s.bits op.id) d.after)
+    → (d : IsOperatedIn (lane_of_id s.bits op.id) k op via old new x) → ServesNext s plans cs (command.Feed op via) k old.upkeeps new.upkeeps (set old.lanes (lane_of_id s.bits op.id) d.after)
 serves_operation s plans cs op via old new k x kept is d lane v h =
     let at = lane_of_id s.bits op.id in
     let p = planned_for lane v.takes_plans (plans lane) cs in
     elim (element_set old.lanes at lane d.after v h) [
       | inl here ↦
-          subst (λ ds. IsServing s p lane ds v) (sym (with_own s lane k op via (deeds_of_lane s lane cs) here.0))
-          (subst (λ (w : LaneValue). IsServing s (planned_for lane w.takes_plans (plans lane) cs) lane (Runs (record { number = k; operation = op; via = via }) ∷ deeds_of_lane s lane cs) w) here.1
-          (subst (λ n. IsServing s (planned_for n (d.after).takes_plans (plans n) cs) n (Runs (record { number = k; operation = op; via = via }) ∷ deeds_of_lane s n cs) d.after) here.0
+          subst (λ ds. IsServing s p lane ds v) (sym (with_own s lane k op via (deeds_of_lane s old.upkeeps lane cs) here.0))
+          (subst (λ (w : LaneValue). IsServing s (planned_for lane w.takes_plans (plans lane) cs) lane (Runs (record { number = k; operation = op; via = via }) ∷ deeds_of_lane s old.upkeeps lane cs) w) here.1
+          (subst (λ n. IsServing s (planned_for n (d.after).takes_plans (plans n) cs) n (Runs (record { number = k; operation = op; via = via }) ∷ deeds_of_lane s old.upkeeps n cs) d.after) here.0
           (served s plans cs op via old new k at x kept is d)))
       | inr there ↦
-          subst (λ ds. IsServing s p lane ds v) (sym (with_other s lane k op via (deeds_of_lane s lane cs) there.0)) (kept.serving lane v there.1)
+          subst (λ ds. IsServing s p lane ds v) (sym (with_other s lane k op via (deeds_of_lane s old.upkeeps lane cs) there.0)) (kept.serving lane v there.1)
     ]
 
 kept_operation : (s : Setting) (plans : ℕ → List Fate) (cs : List Asked) (op : Operation) (via : Option ℕ) (old new : Cell) (k : ℕ) (x : Outcome) → IsKept s plans cs old → k ≡ length cs + 1
@@ -105,7 +113,7 @@ kept_operation s plans cs op via old new k x kept is d =
 -- each lane is what f makes of it, f leaves alone whether its carrier takes plans, and what f makes serves these deeds
 serves_each : (s : Setting) (plans : ℕ → List Fate) (cs : List Asked) (old new : Cell) (f : LaneValue → LaneValue) (more : ℕ → List Deed) → IsKept s plans cs old → new.lanes ≡ map f old.lanes
     → ((v : LaneValue) → (f v).takes_plans ≡ v.takes_plans)
-    → ((lane : ℕ) (v : LaneValue) (p : List Fate) → slice_get new.lanes lane ≡ Some (f v) → IsServing s p lane (deeds_of_lane s lane cs) v → IsServing s p lane (more lane) (f v))
+    → ((lane : ℕ) (v : LaneValue) (p : List Fate) → slice_get new.lanes lane ≡ Some (f v) → IsServing s p lane (deeds_of_lane s old.upkeeps lane cs) v → IsServing s p lane (more lane) (f v))
     → (lane : ℕ) (v : LaneValue) → slice_get new.lanes lane ≡ Some v → IsServing s (planned_for lane v.takes_plans (plans lane) cs) lane (more lane) v
 serves_each s plans cs old new f more kept now takes step lane v at =
     let found = element_map f old.lanes lane v (subst (λ vs. slice_get vs lane ≡ Some v) now at) in
@@ -116,19 +124,19 @@ serves_each s plans cs old new f more kept now takes step lane v at =
 
 -- a state was announced
 serves_state : (s : Setting) (plans : ℕ → List Fate) (cs : List Asked) (state : ClusterState) (deaf : ℕ) (old new : Cell) (k : ℕ) → IsKept s plans cs old → IsPublished k state deaf old new
-    → (lane : ℕ) (v : LaneValue) → slice_get new.lanes lane ≡ Some v → IsServing s (planned_for lane v.takes_plans (plans lane) cs) lane (Announces state deaf ∷ deeds_of_lane s lane cs) v
+    → (lane : ℕ) (v : LaneValue) → slice_get new.lanes lane ≡ Some v → IsServing s (planned_for lane v.takes_plans (plans lane) cs) lane (Announces state deaf ∷ deeds_of_lane s old.upkeeps lane cs) v
 serves_state s plans cs state deaf old new k kept d =
-    serves_each s plans cs old new (after_state state deaf) (λ lane. Announces state deaf ∷ deeds_of_lane s lane cs) kept (ap (λ (x : Cell). x.lanes) d.now) (λ v. refl)
-    (λ lane v p at is. serves_announced s p lane (deeds_of_lane s lane cs) v (after_state state deaf v) state deaf is refl (d.holds lane (after_state state deaf v) at))
+    serves_each s plans cs old new (after_state state deaf) (λ lane. Announces state deaf ∷ deeds_of_lane s old.upkeeps lane cs) kept (ap (λ (x : Cell). x.lanes) d.now) (λ v. refl)
+    (λ lane v p at is. serves_announced s p lane (deeds_of_lane s old.upkeeps lane cs) v (after_state state deaf v) state deaf is refl (d.holds lane (after_state state deaf v) at))
 
 -- room was made
 serves_roomy : (s : Setting) (plans : ℕ → List Fate) (cs : List Asked) (old new : Cell) → IsKept s plans cs old → new.lanes ≡ map with_room old.lanes
-    → (lane : ℕ) (v : LaneValue) → slice_get new.lanes lane ≡ Some v → IsServing s (planned_for lane v.takes_plans (plans lane) cs) lane (deeds_of_lane s lane cs) v
+    → (lane : ℕ) (v : LaneValue) → slice_get new.lanes lane ≡ Some v → IsServing s (planned_for lane v.takes_plans (plans lane) cs) lane (deeds_of_lane s old.upkeeps lane cs) v
 serves_roomy s plans cs old new kept now =
-    serves_each s plans cs old new with_room (λ lane. deeds_of_lane s lane cs) kept now (λ v. refl) (λ lane v p at is. serves_room s p lane (deeds_of_lane s lane cs) v (with_room v) is refl)
+    serves_each s plans cs old new with_room (λ lane. deeds_of_lane s old.upkeeps lane cs) kept now (λ v. refl) (λ lane v p at is. serves_room s p lane (deeds_of_lane s old.upkeeps lane cs) v (with_room v) is refl)
 
 serves_told : (s : Setting) (plans : ℕ → List Fate) (cs : List Asked) (o : Option PublishFault) (state : ClusterState) (deaf : ℕ) (old new : Cell) (k : ℕ) → IsKept s plans cs old → IsStateTold k o state deaf old new
-    → (lane : ℕ) (v : LaneValue) → slice_get new.lanes lane ≡ Some v → IsServing s (planned_for lane v.takes_plans (plans lane) cs) lane (with_state o state deaf (deeds_of_lane s lane cs)) v
+    → (lane : ℕ) (v : LaneValue) → slice_get new.lanes lane ≡ Some v → IsServing s (planned_for lane v.takes_plans (plans lane) cs) lane (with_state o state deaf (deeds_of_lane s old.upkeeps lane cs)) v
 serves_told s plans cs None state deaf old new k kept d = serves_state s plans cs state deaf old new k kept d
 serves_told s plans cs (Some why) state deaf old new k kept d = serves_roomy s plans cs old new kept (ap (λ (x : Cell). x.lanes) d)
 
@@ -161,7 +169,7 @@ kept_told : (s : Setting) (plans : ℕ → List Fate) (cs : List Asked) (state :
 kept_told s plans cs state deaf old new k kept is d =
     let told = told_then k (publish_fault old.told state) state deaf old new d in
     kept_next s plans cs (command.State state deaf) old new k kept is told.bits told.told told.dealt told.lanes
-    (λ lane v at. subst (λ t. IsServing s (planned_for lane v.takes_plans (plans lane) cs) lane (with_state (publish_fault t state) state deaf (deeds_of_lane s lane cs)) v) kept.told
+    (λ lane v at. subst (λ t. IsServing s (planned_for lane v.takes_plans (plans lane) cs) lane (with_state (publish_fault t state) state deaf (deeds_of_lane s old.upkeeps lane cs)) v) kept.told
     (serves_told s plans cs (publish_fault old.told state) state deaf old new k kept d lane v at))
     (same_spans k old new told.upkeeps)
 
@@ -169,16 +177,16 @@ kept_stop : (s : Setting) (plans : ℕ → List Fate) (cs : List Asked) (node : 
 kept_stop s plans cs node old new k kept is d =
     kept_next s plans cs (command.Stop node) old new k kept is (ap (λ (x : Cell). x.bits) d.now) (ap (λ (x : Cell). x.told) d.now) (ap (λ (x : Cell). x.dealt) d.now)
     (ap (λ (x : Cell). length x.lanes) d.now ∙ length-map old.lanes (after_stop node))
-    (serves_each s plans cs old new (after_stop node) (λ lane. Stops node ∷ deeds_of_lane s lane cs) kept (ap (λ (x : Cell). x.lanes) d.now) (λ v. refl)
-    (λ lane v p at on. serves_stopped s p lane (deeds_of_lane s lane cs) v (after_stop node v) node on refl (d.holds lane (after_stop node v) at)))
+    (serves_each s plans cs old new (after_stop node) (λ lane. Stops node ∷ deeds_of_lane s old.upkeeps lane cs) kept (ap (λ (x : Cell). x.lanes) d.now) (λ v. refl)
+    (λ lane v p at on. serves_stopped s p lane (deeds_of_lane s old.upkeeps lane cs) v (after_stop node v) node on refl (d.holds lane (after_stop node v) at)))
     (same_spans k old new (ap (λ (x : Cell). x.upkeeps) d.now))
 
 kept_start : (s : Setting) (plans : ℕ → List Fate) (cs : List Asked) (node : ℕ) (old new : Cell) (k : ℕ) → IsKept s plans cs old → k ≡ length cs + 1 → IsDoneInEach k (after_start node) old new → IsKept s plans (cs ++ command.Start node ∷ []) new
 kept_start s plans cs node old new k kept is d =
     kept_next s plans cs (command.Start node) old new k kept is (ap (λ (x : Cell). x.bits) d.now) (ap (λ (x : Cell). x.told) d.now) (ap (λ (x : Cell). x.dealt) d.now)
     (ap (λ (x : Cell). length x.lanes) d.now ∙ length-map old.lanes (after_start node))
-    (serves_each s plans cs old new (after_start node) (λ lane. Starts node ∷ deeds_of_lane s lane cs) kept (ap (λ (x : Cell). x.lanes) d.now) (λ v. refl)
-    (λ lane v p at on. serves_started s p lane (deeds_of_lane s lane cs) v (after_start node v) node on refl (d.holds lane (after_start node v) at)))
+    (serves_each s plans cs old new (after_start node) (λ lane. Starts node ∷ deeds_of_lane s old.upkeeps lane cs) kept (ap (λ (x : Cell). x.lanes) d.now) (λ v. refl)
+    (λ lane v p at on. serves_started s p lane (deeds_of_lane s old.upkeeps lane cs) v (after_start node v) node on refl (d.holds lane (after_start node v) at)))
     (same_spans k old new (ap (λ (x : Cell). x.upkeeps) d.now))
 
 -- ---- a plan of messages
@@ -188,24 +196,24 @@ abbrev pub after_plan : List Fate → LaneValue → LaneValue
 after_plan fates v = record v { planned = planned_with v.takes_plans v.planned fates }
 
 planned_here : (s : Setting) (plans : ℕ → List Fate) (cs : List Asked) (at k : ℕ) (fates : List Fate) (old new : Cell) → IsKept s plans cs old → (d : IsPlannedIn k at fates old new)
-    → IsServing s (planned_with (d.before).takes_plans (planned_for at (d.before).takes_plans (plans at) cs) fates) at (deeds_of_lane s at cs) (after_plan fates d.before)
+    → IsServing s (planned_with (d.before).takes_plans (planned_for at (d.before).takes_plans (plans at) cs) fates) at (deeds_of_lane s old.upkeeps at cs) (after_plan fates d.before)
 planned_here s plans cs at k fates old new kept d =
     let is = kept.serving at d.before d.there in
-    subst (λ p. IsServing s (planned_with (d.before).takes_plans p fates) at (deeds_of_lane s at cs) (after_plan fates d.before)) is.planned_are
-    (serves_planned s (planned_for at (d.before).takes_plans (plans at) cs) at (deeds_of_lane s at cs) d.before (after_plan fates d.before) (planned_with (d.before).takes_plans (d.before).planned fates) is refl)
+    subst (λ p. IsServing s (planned_with (d.before).takes_plans p fates) at (deeds_of_lane s old.upkeeps at cs) (after_plan fates d.before)) is.planned_are
+    (serves_planned s (planned_for at (d.before).takes_plans (plans at) cs) at (deeds_of_lane s old.upkeeps at cs) d.before (after_plan fates d.before) (planned_with (d.before).takes_plans (d.before).planned fates) is refl)
 
 serves_plan : (s : Setting) (plans : ℕ → List Fate) (cs : List Asked) (at k : ℕ) (fates : List Fate) (old new : Cell) → IsKept s plans cs old → (d : IsPlannedIn k at fates old new)
-    → ServesNext s plans cs (command.Net at fates) k (set old.lanes at (after_plan fates d.before))
+    → ServesNext s plans cs (command.Net at fates) k old.upkeeps new.upkeeps (set old.lanes at (after_plan fates d.before))
 serves_plan s plans cs at k fates old new kept d lane v h =
     let p = planned_for lane v.takes_plans (plans lane) cs in
     elim (element_set old.lanes at lane (after_plan fates d.before) v h) [
       | inl here ↦
-          subst (λ q. IsServing s q lane (deeds_of_lane s lane cs) v) (sym (plan_own lane at v.takes_plans fates p here.0))
-          (subst (λ (w : LaneValue). IsServing s (planned_with w.takes_plans (planned_for lane w.takes_plans (plans lane) cs) fates) lane (deeds_of_lane s lane cs) w) here.1
-          (subst (λ n. IsServing s (planned_with (d.before).takes_plans (planned_for n (d.before).takes_plans (plans n) cs) fates) n (deeds_of_lane s n cs) (after_plan fates d.before)) here.0
+          subst (λ q. IsServing s q lane (deeds_of_lane s old.upkeeps lane cs) v) (sym (plan_own lane at v.takes_plans fates p here.0))
+          (subst (λ (w : LaneValue). IsServing s (planned_with w.takes_plans (planned_for lane w.takes_plans (plans lane) cs) fates) lane (deeds_of_lane s old.upkeeps lane cs) w) here.1
+          (subst (λ n. IsServing s (planned_with (d.before).takes_plans (planned_for n (d.before).takes_plans (plans n) cs) fates) n (deeds_of_lane s old.upkeeps n cs) (after_plan fates d.before)) here.0
           (planned_here s plans cs at k fates old new kept d)))
       | inr there ↦
-          subst (λ q. IsServing s q lane (deeds_of_lane s lane cs) v) (sym (plan_other lane at v.takes_plans fates p there.0)) (kept.serving lane v there.1)
+          subst (λ q. IsServing s q lane (deeds_of_lane s old.upkeeps lane cs) v) (sym (plan_other lane at v.takes_plans fates p there.0)) (kept.serving lane v there.1)
     ]
 
 kept_plan : (s : Setting) (plans : ℕ → List Fate) (cs : List Asked) (at k : ℕ) (fates : List Fate) (old new : Cell) → IsKept s plans cs old → k ≡ length cs + 1 → IsPlannedIn k at fates old new
@@ -234,15 +242,58 @@ pub takes_same : (v w : LaneValue) → MayHavePassed v w → w.takes_plans ≡ v
 takes_same v w (inl same) = ap (λ (x : LaneValue). x.takes_plans) same
 takes_same v w (inr m) = ap (λ (x : LaneValue). x.takes_plans) (m.0).after
 
-serves_maintain : (s : Setting) (plans : ℕ → List Fate) (cs : List Asked) (old new : Cell) (k : ℕ) → IsKept s plans cs old → MayHaveAllPassed old.lanes new.lanes → ServesNext s plans cs command.Maintain k new.lanes
-serves_maintain s plans cs old new k kept d lane w at =
-    let was = lane_was old.lanes new.lanes lane w d.count at in
-    let v = was.0 in
-    let may = d.each lane v w was.1 at in
-    let serving = kept.serving lane v was.1 in
-    let legal = passed_legal v w may serving.holds in
-    subst (λ t. IsServing s (planned_for lane t (plans lane) cs) lane (Maintains ∷ deeds_of_lane s lane cs) w) (sym (takes_same v w may))
-    (serves_upkept s (planned_for lane v.takes_plans (plans lane) cs) lane (deeds_of_lane s lane cs) v w serving legal.0 legal.1)
+-- what is noted of the line in a lane, by which the lane serves on
+record IsNotedSo (s : Setting) (p : List Fate) (lane k : ℕ) (deeds : List Deed) (us : List LineSpans) (w : LaneValue) : Type 0 where
+  noted : Option UpkeepSpan
+  is : span_in lane k us ≡ noted
+  serves : IsServing s p lane (Maintains noted ∷ deeds) w
+
+in_list : (xs : List UpkeepSpan) (lane : ℕ) → lane < length xs → (x : UpkeepSpan) × (slice_get xs lane ≡ Some x)
+in_list [] lane h = absurd (omega (arith, h))
+in_list (x ∷ xs) zero h = (x, refl)
+in_list (x ∷ xs) (suc lane) h = in_list xs lane (omega (arith, h))
+
+module _ (s : Setting) (plans : ℕ → List Fate) (cs : List Asked) (old new : Cell) (k : ℕ) (kept : IsKept s plans cs old) (is : k ≡ length cs + 1) (d : IsMaintained k old new) where
+  abbrev at_lane : ℕ → Option (List UpkeepSpan) → Option UpkeepSpan
+  at_lane lane o = option_and_then (λ spans. slice_get spans lane) o
+
+  own_none : spans_of k old.upkeeps ≡ None
+  own_none = kept.unkept k (omega (arith, is, kept.dealt))
+
+  module _ (lane : ℕ) (v w : LaneValue) (was : slice_get old.lanes lane ≡ Some v) (at : slice_get new.lanes lane ≡ Some w) where
+    abbrev deeds : List Deed
+    deeds = deeds_of_lane s old.upkeeps lane cs
+
+    abbrev p : List Fate
+    p = planned_for lane v.takes_plans (plans lane) cs
+
+    may : MayHavePassed v w
+    may = (d.lanes).each lane v w was at
+
+    legal : MayBeUpkept v w × IsLaneValue w
+    legal = passed_legal v w may (kept.serving lane v was).holds
+
+    noted_so : (new.upkeeps ≡ old.upkeeps) ⊎ HasSpans k old new → IsNotedSo s p lane k deeds new.upkeeps w
+    noted_so (inl same) = record {
+      noted = None;
+      is = ap (at_lane lane) (ap (spans_of k) same ∙ own_none);
+      serves = serves_upkept s p lane deeds v w (kept.serving lane v was) legal.0 legal.1;
+    }
+    noted_so (inr h) =
+        let x = in_list h.spans lane (let small = slice_get_within new.lanes lane w at in omega (arith, small, (d.lanes).count, (h.are).count)) in
+        record {
+          noted = Some x.0;
+          is = ap (at_lane lane) (ap (spans_of k) h.noted ∙ spans_own k old.upkeeps (record { line = k; spans = h.spans }) refl own_none) ∙ x.1;
+          serves = serves_spanned s p lane deeds v w x.0 (kept.serving lane v was) ((h.are).each lane v w x.0 was at x.1) legal.1;
+        }
+
+    serves_noted : IsNotedSo s p lane k deeds new.upkeeps w → IsServing s (planned_for lane w.takes_plans (plans lane) cs) lane (Maintains (span_in lane k new.upkeeps) ∷ deeds) w
+    serves_noted n =
+        subst (λ t. IsServing s (planned_for lane t (plans lane) cs) lane (Maintains (span_in lane k new.upkeeps) ∷ deeds) w) (sym (takes_same v w may))
+        (subst (λ noted. IsServing s p lane (Maintains noted ∷ deeds) w) (sym n.is) n.serves)
+
+  serves_maintain : ServesNext s plans cs command.Maintain k old.upkeeps new.upkeeps new.lanes
+  serves_maintain lane w at = let was = lane_was old.lanes new.lanes lane w (d.lanes).count at in serves_noted lane was.0 w was.1 at (noted_so lane was.0 w was.1 at d.spans)
 
 leaves_noted : (k : ℕ) (old new : Cell) → (new.upkeeps ≡ old.upkeeps) ⊎ HasSpans k old new → LeavesSpans k old new
 leaves_noted k old new (inl same) line other = ap (spans_of line) same
@@ -251,7 +302,7 @@ leaves_noted k old new (inr h) line other = ap (spans_of line) h.noted ∙ spans
 kept_maintain : (s : Setting) (plans : ℕ → List Fate) (cs : List Asked) (old new : Cell) (k : ℕ) → IsKept s plans cs old → k ≡ length cs + 1 → IsMaintained k old new → IsKept s plans (cs ++ command.Maintain ∷ []) new
 kept_maintain s plans cs old new k kept is d =
     kept_next s plans cs command.Maintain old new k kept is (ap (λ (x : Cell). x.bits) d.now) (ap (λ (x : Cell). x.told) d.now) (ap (λ (x : Cell). x.dealt) d.now) (d.lanes).count
-    (serves_maintain s plans cs old new k kept d.lanes) (leaves_noted k old new d.spans)
+    (serves_maintain s plans cs old new k kept is d) (leaves_noted k old new d.spans)
 
 -- ---- any line
 
@@ -295,13 +346,13 @@ but_room : (v w : LaneValue) → without_room v ≡ without_room w → v ≡ rec
 but_room v w same = ap (λ (x : LaneValue). record x { has_room = v.has_room }) same
 
 serves_roomier : (s : Setting) (plans : ℕ → List Fate) (cs : List Asked) (old new : Cell) → IsKept s plans cs old → map without_room new.lanes ≡ map without_room old.lanes
-    → (lane : ℕ) (v : LaneValue) → slice_get new.lanes lane ≡ Some v → IsServing s (planned_for lane v.takes_plans (plans lane) cs) lane (deeds_of_lane s lane cs) v
+    → (lane : ℕ) (v : LaneValue) → slice_get new.lanes lane ≡ Some v → IsServing s (planned_for lane v.takes_plans (plans lane) cs) lane (deeds_of_lane s old.upkeeps lane cs) v
 serves_roomier s plans cs old new kept same lane v at =
     let found = element_seen without_room old.lanes new.lanes lane v same at in
     let w = found.0 in
     let is = but_room v w found.1.1 in
-    subst (λ t. IsServing s (planned_for lane t (plans lane) cs) lane (deeds_of_lane s lane cs) v) (sym (ap (λ (x : LaneValue). x.takes_plans) is))
-    (serves_room s (planned_for lane w.takes_plans (plans lane) cs) lane (deeds_of_lane s lane cs) w v (kept.serving lane w found.1.0) is)
+    subst (λ t. IsServing s (planned_for lane t (plans lane) cs) lane (deeds_of_lane s old.upkeeps lane cs) v) (sym (ap (λ (x : LaneValue). x.takes_plans) is))
+    (serves_room s (planned_for lane w.takes_plans (plans lane) cs) lane (deeds_of_lane s old.upkeeps lane cs) w v (kept.serving lane w found.1.0) is)
 
 pub kept_roomier : (s : Setting) (plans : ℕ → List Fate) (cs : List Asked) (old new : Cell) → IsRoomier old new → IsKept s plans cs old → IsKept s plans cs new
 kept_roomier s plans cs old new r kept = record {
@@ -309,6 +360,7 @@ kept_roomier s plans cs old new r kept = record {
   told = ap (λ (x : Cell). x.told) r.rest ∙ kept.told;
   dealt = ap (λ (x : Cell). x.dealt) r.rest ∙ kept.dealt;
   lanes = sym (length-map new.lanes without_room) ∙ ap length r.lanes ∙ length-map old.lanes without_room ∙ kept.lanes;
-  serving = serves_roomier s plans cs old new kept r.lanes;
+  serving = λ lane v at.
+      subst (λ us. IsServing s (planned_for lane v.takes_plans (plans lane) cs) lane (deeds_of_lane s us lane cs) v) (sym (ap (λ (x : Cell). x.upkeeps) r.rest)) (serves_roomier s plans cs old new kept r.lanes lane v at);
   unkept = λ line later. ap (λ (x : Cell). spans_of line x.upkeeps) r.rest ∙ kept.unkept line (subst (λ (x : Cell). x.dealt < line) r.rest later);
 }

@@ -4,7 +4,7 @@ use Rattle.text_scanners.specs.Refusals.{IsRefusedAt}
 use Rattle.cluster_states.specs.StateTexts.{IsStateText}
 use Rattle.cluster_states.specs.declared.cluster_state.ClusterState.{ClusterState}
 use Rattle.doc_types.specs.SchemaCodes.{Types}
-use Rattle.io_ends.specs.declared.sizes.TheConstants.{LONGEST}
+use Rattle.io_ends.specs.Reading.{longest_line}
 use Rattle.op_machine.specs.Plans.{IsOwn}
 use Rattle.operation_keeping.specs.OperationKeeping.{IsPlainGet}
 use Rattle.feed_lines.specs.Meaning.{line_said}
@@ -33,8 +33,8 @@ IsAskedBy (Err why) a = a ≡ asked.Bad why
 
 -- what a line asks for under a schema in a session of 2^bits lanes: a long one is too long, whatever its bytes
 pub record IsAsked (types : Types) (bits : ℕ) (bytes : List ℕ) (a : Asked) : Type 0 where
-  pub long : LONGEST < length bytes → a ≡ asked.TooLong
-  pub short : length bytes ≤ LONGEST → IsAskedBy (line_said types bits bytes) a
+  pub long : longest_line < length bytes → a ≡ asked.TooLong
+  pub short : length bytes ≤ longest_line → IsAskedBy (line_said types bits bytes) a
 
 -- a put's document has the id of its operation, a get has no condition, and each number is in its range
 abbrev pub IsOwnAsked : ℕ → Asked → Type 0

@@ -9,6 +9,8 @@ use Rattle.messages.specs.declared.operation.Operation.{Operation}
 use Rattle.lane_values.specs.declared.setting.Setting.{Setting}
 use Rattle.lane_lives.specs.Lives.{Deed, Announces, Stops, Starts, Runs, Maintains}
 use Rattle.session_cluster.specs.Lanes.{lane_of_id}
+use Rattle.session_cluster.specs.Spans.{span_in}
+use Rattle.session_cluster.specs.declared.spans.LineSpans.{LineSpans}
 use Rattle.session_cluster.specs.declared.asked.Asked.{Asked}
 use Rattle.session_cluster.specs.declared.asked.Asked.TheVariants as command
 
@@ -54,27 +56,27 @@ with_state None state deaf deeds = Announces state deaf ∷ deeds
 with_state (Some why) state deaf deeds = deeds
 
 -- with what this line does there, where these states are told: a state is announced, a node stops or starts and upkeep
--- is made in every lane, and an operation runs in that of its document
-abbrev pub with_line : Setting → ℕ → Told → ℕ → Asked → List Deed → List Deed
-with_line s lane told line command.Blank deeds = deeds
-with_line s lane told line command.TooLong deeds = deeds
-with_line s lane told line (command.Bad why) deeds = deeds
-with_line s lane told line (command.Feed op via) deeds = with_operation s lane line op via deeds
-with_line s lane told line (command.State state deaf) deeds = with_state (publish_fault told state) state deaf deeds
-with_line s lane told line (command.BadState offset) deeds = deeds
-with_line s lane told line (command.Stop node) deeds = Stops node ∷ deeds
-with_line s lane told line (command.Start node) deeds = Starts node ∷ deeds
-with_line s lane told line (command.Net at fates) deeds = deeds
-with_line s lane told line command.Maintain deeds = Maintains ∷ deeds
+-- is made in every lane, as these spans say, and an operation runs in that of its document
+abbrev pub with_line : Setting → List LineSpans → ℕ → Told → ℕ → Asked → List Deed → List Deed
+with_line s us lane told line command.Blank deeds = deeds
+with_line s us lane told line command.TooLong deeds = deeds
+with_line s us lane told line (command.Bad why) deeds = deeds
+with_line s us lane told line (command.Feed op via) deeds = with_operation s lane line op via deeds
+with_line s us lane told line (command.State state deaf) deeds = with_state (publish_fault told state) state deaf deeds
+with_line s us lane told line (command.BadState offset) deeds = deeds
+with_line s us lane told line (command.Stop node) deeds = Stops node ∷ deeds
+with_line s us lane told line (command.Start node) deeds = Starts node ∷ deeds
+with_line s us lane told line (command.Net at fates) deeds = deeds
+with_line s us lane told line command.Maintain deeds = Maintains (span_in lane line us) ∷ deeds
 
 -- with these lines, the oldest first, of which the first has this number
-abbrev pub with_lines : Setting → ℕ → Told → ℕ → List Asked → List Deed → List Deed
-with_lines s lane told line [] deeds = deeds
-with_lines s lane told line (c ∷ cs) deeds = with_lines s lane (told_next c told) (suc line) cs (with_line s lane told line c deeds)
+abbrev pub with_lines : Setting → List LineSpans → ℕ → Told → ℕ → List Asked → List Deed → List Deed
+with_lines s us lane told line [] deeds = deeds
+with_lines s us lane told line (c ∷ cs) deeds = with_lines s us lane (told_next c told) (suc line) cs (with_line s us lane told line c deeds)
 
 -- those of a session's lines
-abbrev pub deeds_of_lane : Setting → ℕ → List Asked → List Deed
-deeds_of_lane s lane cs = with_lines s lane (first_told s) 1 cs []
+abbrev pub deeds_of_lane : Setting → List LineSpans → ℕ → List Asked → List Deed
+deeds_of_lane s us lane cs = with_lines s us lane (first_told s) 1 cs []
 
 -- ---- the fates that are planned for a lane
 

@@ -17,7 +17,7 @@ pub record IsKept (s : Setting) (plans : ℕ → List Fate) (commands : List Ask
   pub dealt : c.dealt ≡ length commands
   pub lanes : length c.lanes ≡ lane_count s
   pub serving : (lane : ℕ) (v : LaneValue) → slice_get c.lanes lane ≡ Some v
-      → IsServing s (planned_for lane v.takes_plans (plans lane) commands) lane (deeds_of_lane s lane commands) v
+      → IsServing s (planned_for lane v.takes_plans (plans lane) commands) lane (deeds_of_lane s c.upkeeps lane commands) v
   -- no line that is still to come has spans of upkeep
   pub unkept : (line : ℕ) → c.dealt < line → spans_of line c.upkeeps ≡ None
 

@@ -1,15 +1,13 @@
 -- The lanes of a cluster.
-use Rattle.std.specs.Prelude.{◌≡◌, ◌<◌, ℕ, true, List, [], length, Some, slice_get, slice_index_or, IsSome}
+use Rattle.std.specs.Prelude.{◌≡◌, ◌<◌, ℕ, true, List, [], length, slice_index_or, IsSome}
 use Rattle.global_ids.specs.Keys.{key_of, lane_of}
 use Rattle.lane_journals.specs.Readers.{began, closed, before_line}
 use Rattle.lane_journals.specs.Meanings.{history}
 use Rattle.lane_journals.specs.KeptJournals.{IsLegal}
 use Rattle.lane_journals.specs.declared.event.LaneEvent.{LaneEvent}
-use Rattle.lane_values.specs.LaneValues.{LaneValue}
 use Rattle.lane_keeping.specs.LaneKeeping.{setting_of}
 use Rattle.lane_values.specs.declared.setting.Setting.{Setting}
 use Rattle.lane_lives.specs.Lives.{told_events}
-use Rattle.lane_lives.specs.Promises.{IsComplete, KeepsWrites}
 use Rattle.lane_lives.specs.Serving.{bucket_in}
 
 abbrev pub Journal : Type 0
@@ -36,12 +34,3 @@ AreInOrder Js = (lane earlier line : ℕ) → earlier < line
 -- the events of states, stops and starts are the same in every lane, in one order
 abbrev pub AreTogether : List Journal → Type 0
 AreTogether Js = (lane other : ℕ) → lane < length Js → other < length Js → told_events (journal_in lane Js) ≡ told_events (journal_in other Js)
-
--- the durability theorem holds in each lane
-abbrev pub AreDurable : Setting → List Journal → Type 0
-AreDurable s Js = (lane : ℕ) → KeepsWrites s.rules.acks (history (journal_in lane Js))
-
--- in each lane a line of which no message was lost came to what nodes answered, a put or a remove without condition to
--- its acknowledgement, but for want of memory
-abbrev pub AreComplete : Setting → List LaneValue → Type 0
-AreComplete s lanes = (lane : ℕ) (v : LaneValue) → slice_get lanes lane ≡ Some v → IsComplete s (bucket_in s lane) v

@@ -1,4 +1,4 @@
-ghost use Rattle.std.specs.Prelude.{◌≡◌, ◌<◌, ℕ, IfOk};
+ghost use Rattle.std.specs.Prelude.{◌<◌, ℕ, IfOk};
 ghost use Rattle.session_cluster.specs.Asking.{IsOfText, IsAskedBy, IsAsked, IsOwnAsked};
 ghost use Rattle.feed_lines.specs.Meaning.{line_said};
 
@@ -93,8 +93,7 @@ fn short_asked(
     }
 }
 
-/// What a line asks for in a session of 2^bits lanes, from its bytes without the line feed. The only error
-/// is want of memory.
+/// What a line asks for in a session of 2^bits lanes, from its bytes without the line feed.
 pub fn asked_of(
     alloc: Global,
     values: &mut ValueReader,

@@ -53,7 +53,7 @@ impl<C: Carrier + Drop> Model for Cluster<C> {
 }
 
 impl<C: Carrier + Drop> Cluster<C> {
-    /// A cluster without lanes; takes no memory.
+    /// A cluster without lanes.
     pub fn empty(alloc: Global) -> Cluster<C>
         ensures { IsTrue (is_empty result) }
     {

@@ -34,7 +34,7 @@ use stamps::Stamp;
 use std::alloc::Global;
 use value_lists::{NoMemory, TryCopy};
 
-/// The lane of a key; takes no memory.
+/// The lane of a key.
 fn lane_at(key: u64, bits: u8) -> u8
     requires some { 1 ≤ bits }
     requires most { bits ≤ 6 }
@@ -199,7 +199,7 @@ impl<C: Carrier + Drop> Cluster<C> {
         Ok(self.tell_roomy(line, state, deaf))
     }
 
-    /// Publishes a state in every lane, unless something stands against it, and gives the answer; takes no memory.
+    /// Publishes a state in every lane, unless something stands against it, and gives the answer.
     fn tell_roomy(&mut self, line: u32, state: &ClusterState, deaf: NodeSet) -> Option<Answer>
         requires { publish_fault self.old.told state.now ≡ None → EachLane (MayAnnounce state.now) self.old.lanes }
         ensures told { IsToldRoomy line (publish_fault self.old.told state.now) state.now deaf self.old self.new }
@@ -232,7 +232,7 @@ impl<C: Carrier + Drop> Cluster<C> {
         Ok(Some(Answer::Stopped { node }))
     }
 
-    /// Stops a node in every lane; takes no memory.
+    /// Stops a node in every lane.
     fn stop_roomy(&mut self, line: u32, node: u8)
         requires roomy { EachLane IsRoomy self.old.lanes }
         requires number { node < 32 }
@@ -255,7 +255,7 @@ impl<C: Carrier + Drop> Cluster<C> {
         Ok(Some(Answer::Started { node }))
     }
 
-    /// Starts a node in every lane; takes no memory.
+    /// Starts a node in every lane.
     fn start_roomy(&mut self, line: u32, node: u8)
         requires roomy { EachLane IsRoomy self.old.lanes }
         requires number { node < 32 }

@@ -2,7 +2,7 @@
 //! or start, which takes none; and they make upkeep.
 
 ghost use Rattle.std.specs.Prelude.{◌≡◌, ◌<◌, [], map, OnOk, OnErr};
-ghost use Rattle.lane_values.specs.LaneValues.{LaneValue, IsLaneValue};
+ghost use Rattle.lane_values.specs.LaneValues.{IsLaneValue};
 ghost use Rattle.session_cluster.specs.Steps.{with_room, without_room, after_state, after_stop, after_start, EachLane, IsRoomy, MayAnnounce, MayMaintain, MayHaveAllPassed, AreSpans};
 
 use carriers::Carrier;

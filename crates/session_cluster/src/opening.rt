@@ -1,6 +1,5 @@
-ghost use Rattle.std.specs.Prelude.{◌≡◌, [], IfOk, OnOk, OnErr, IsTrue};
+ghost use Rattle.std.specs.Prelude.{◌≡◌, [], IfOk, OnOk, OnErr};
 ghost use Rattle.lane_values.specs.Settings.{IsSetting};
-ghost use Rattle.session_cluster.specs.Cells.{is_empty};
 ghost use Rattle.session_cluster.specs.Keeping.{AreOpen, IsKept};
 
 use crate::cluster::Cluster;

@@ -1,2 +1,3 @@
 mod StampOrder
 mod PlaceLaws
+mod TextLaws

@@ -9,6 +9,7 @@
 //! ```text
 //! let first = Stamp { version: 1, count: 1 };
 //! first.is_before(first.next())    // true
+//! Stamp::parse("1:1")              // Some(first); no other text is read as it
 //!
 //! let mut places = StampPlaces::none(alloc);
 //! places.keep(alloc, first, 7)?;

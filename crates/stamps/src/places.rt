@@ -44,7 +44,7 @@ fn place_at(places: &[Option<usize>], count: usize) -> Option<usize>
     }
 }
 
-/// Keeps a place at a count. The only error is want of memory.
+/// Keeps a place at a count.
 fn put_at(places: &mut Vec<Option<usize>>, count: usize, place: usize) -> Result<(), NoMemory>
     ensures ok { OnOk result ((i : ℕ) → get_or places.new.items i None
         ≡ (if count == i then Some place else get_or places.old.items i None)) }
@@ -63,7 +63,7 @@ fn put_at(places: &mut Vec<Option<usize>>, count: usize, place: usize) -> Result
 }
 
 impl StampPlaces {
-    /// No place is kept; takes no memory.
+    /// No place is kept.
     pub fn none(alloc: Global) -> StampPlaces
         ensures { (s : DeclaredStamp) → place_of result s ≡ None }
     {
@@ -72,7 +72,7 @@ impl StampPlaces {
         }
     }
 
-    /// The place that is kept for a stamp; takes no memory.
+    /// The place that is kept for a stamp.
     pub fn get(&self, stamp: Stamp) -> Option<usize>
         ensures { result ≡ place_of self.now stamp }
     {
@@ -83,8 +83,7 @@ impl StampPlaces {
         place_at(&self.versions[at].places, stamp.count as usize)
     }
 
-    /// Where the places of a version lie; it is put behind the others where it isn't there. The only error is want of
-    /// memory.
+    /// Where the places of a version lie; it is put behind the others where it isn't there.
     fn need(&mut self, alloc: Global, version: u32) -> Result<usize, NoMemory>
         ensures at { IfOk result (λ at. at ≡ first_of version self.new.versions.items) }
         ensures there { IfOk result (λ at. at < length self.new.versions.items) }
@@ -100,7 +99,7 @@ impl StampPlaces {
         Ok(at)
     }
 
-    /// Keeps a place for a stamp. The only error is want of memory.
+    /// Keeps a place for a stamp.
     pub fn keep(&mut self, alloc: Global, stamp: Stamp, place: usize) -> Result<(), NoMemory>
         ensures ok { OnOk result ((s : DeclaredStamp) → place_of self.new s
             ≡ place_next stamp place (place_of self.old) s) }

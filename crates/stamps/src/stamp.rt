@@ -1,7 +1,8 @@
-ghost use Rattle.std.specs.Prelude.{◌≡◌, ◌+◌, ◌-◌, ◌^◌, ◌<◌, ◌↔◌, IfOk, IsTrue};
+ghost use Rattle.std.specs.Prelude.{◌≡◌, ◌≢◌, ℕ, ◌+◌, ◌-◌, ◌^◌, ◌<◌, ◌↔◌, nat_lt, slice_index_or, IfOk, IsTrue, MatchOption};
+ghost use Rattle.std.specs.Fmt.{decimal};
 ghost use Rattle.std.specs.String.{string_bytes};
 ghost use Rattle.stamps.specs.Order.{is_before, IsBefore};
-ghost use Rattle.stamps.specs.Printed.{printed};
+ghost use Rattle.stamps.specs.Printed.{printed, IsStamp};
 
 use std::alloc::Global;
 use value_lists::{NoMemory, TryCopy};
@@ -16,7 +17,7 @@ pub struct Stamp {
 }
 
 impl Stamp {
-    /// The next stamp of the same version; takes no memory.
+    /// The next stamp of the same version.
     pub fn next(self) -> Stamp
         requires { self.count < 2 ^ 64 - 1 }
         ensures version { result.version ≡ self.version }
@@ -29,8 +30,7 @@ impl Stamp {
         }
     }
 
-    /// Whether this stamp is the smaller: by version, and for equal versions by count; takes no
-    /// memory.
+    /// Whether this stamp is the smaller: by version, and for equal versions by count.
     pub fn is_before(self, other: Stamp) -> bool
         ensures set { IsTrue result ↔ IsBefore self other }
         ensures test { result ≡ is_before self other }
@@ -42,7 +42,7 @@ impl Stamp {
         }
     }
 
-    /// The stamp as `version:count`, both in decimal. The only error is want of memory.
+    /// The stamp as `version:count`, both in decimal.
     #[tactic(auto, unfolding(crate::specs::Printed::printed))]
     pub fn print(self, alloc: Global) -> Result<String, NoMemory>
         ensures { IfOk result (λ text. string_bytes text ≡ printed self) }
@@ -50,6 +50,51 @@ impl Stamp {
         let version = self.version;
         let count = self.count;
         Ok(format!(in alloc; "{version}:{count}")?)
+    }
+
+    /// The stamp that this text is printed of.
+    pub fn parse(text: &str) -> Option<Stamp>
+        ensures { MatchOption result ((s : Stamp) → IsStamp s → text.now ≢ printed s)
+            (λ s. (text.now ≡ printed s) × IsStamp s) }
+    {
+        let Some((version, count)) = text.split_once(':') else {
+            return None;
+        };
+        let Some(version) = plain_number(version) else {
+            return None;
+        };
+        let Some(count) = plain_number(count) else {
+            return None;
+        };
+        let Ok(version) = u32::try_from(version) else {
+            return None;
+        };
+        Some(Stamp { version, count })
+    }
+}
+
+/// Whether these bytes begin with a digit that is no zero, or with a byte behind those.
+fn begins_past_zero(bytes: &[u8]) -> bool
+    ensures { result ≡ nat_lt 48 (slice_index_or bytes.now 0 0) }
+{
+    match bytes {
+        [first, ..] => *first > b'0',
+        [] => false,
+    }
+}
+
+/// The number of a plain decimal: without a sign, and without a zero in front of other digits.
+fn plain_number(text: &str) -> Option<u64>
+    ensures { MatchOption result ((n : ℕ) → n < 2 ^ 64 → text.now ≢ decimal n)
+        (λ n. (text.now ≡ decimal n) × (n < 2 ^ 64)) }
+{
+    if text == "0" {
+        return Some(0);
+    }
+    if begins_past_zero(text.as_bytes()) {
+        text.parse().ok()
+    } else {
+        None
     }
 }
 

@@ -14,7 +14,7 @@ pub trait Scanner: Sized {
     /// This state is reached by reading these letters.
     ghost reached: { Self → List Self.Letter → Type 0 };
 
-    /// The state after one letter more; none where no text goes on so. Takes no memory.
+    /// The state after one letter more; none where no text goes on so.
     fn step(self, letter: Self::Letter) -> Option<Self>
         ensures steps { IfSome result (λ next. (letters : List Self.Letter) → reached self letters
             → reached next (letters ++ letter ∷ [])) }
@@ -23,7 +23,7 @@ pub trait Scanner: Sized {
         ensures stops { IfNone result ((letters : List Self.Letter) → reached self letters
             → Begins language (letters ++ letter ∷ []) → ⊥) };
 
-    /// What the letters that were read say, where they are a text. Takes no memory.
+    /// What the letters that were read say, where they are a text.
     fn value(self) -> Option<Self::Value>
         ensures read { IfSome result (λ value. (letters : List Self.Letter) → reached self letters
             → language letters value) }

@@ -12,7 +12,7 @@ pub struct Refused {
     pub offset: usize,
 }
 
-/// What the letters say, or where they stop to be the beginning of a text. Takes no memory.
+/// What the letters say, or where they stop to be the beginning of a text.
 pub fn scan<S: Scanner + Drop>(start: S, letters: &[S::Letter]) -> Result<S::Value, Refused>
     requires reached { S.reached start [] }
     requires some { Begins S.language [] }

@@ -2,8 +2,8 @@ use crate::texts::{byte, halves, number, shown, word};
 use bucket_ids::{Bucket, path_of};
 use document_ids::DocId;
 use global_ids::{Gid, lane_of};
+use ideal_nodes::NodeList;
 use ideal_nodes::scores::score;
-use ideal_nodes::{NodeList, ideal_among, owner_among};
 use md5::{Digest, Md5};
 use node_sets::NodeSet;
 use stamps::Stamp;
@@ -195,15 +195,6 @@ pub fn nodes_of(alloc: Global, list: &NodeList) -> Result<Vec<u8>, NoMemory> {
         nodes.push(list.at(index))?;
     }
     Ok(nodes)
-}
-
-/// The ideal order of a set of nodes for a bucket, and who of them would own it as a lane.
-pub fn ideal_order(alloc: Global, asked: &str) -> Result<String, NoMemory> {
-    let (bucket, nodes) = halves(asked);
-    let bucket = bucket_named(bucket);
-    let nodes = NodeSet::of(word(nodes, 0));
-    let order = nodes_of(alloc, &ideal_among(bucket, nodes))?;
-    shown(alloc, &(order, owner_among(bucket, nodes)))
 }
 
 /// The score of a node for a bucket.

@@ -24,18 +24,23 @@ fn state_of(text: &str) -> ClusterState {
     }
 }
 
-/// Whether the distributor of a number is up under a state, and how the storage node of that number is marked.
+/// Whether the distributor of a number is up under a state, how the storage node of that number is marked, and in
+/// which group it lies.
 pub fn marks(alloc: Global, asked: &str) -> Result<String, NoMemory> {
     let (number, text) = halves(asked);
     let state = state_of(text);
     let number = byte(number, 0);
     shown(
         alloc,
-        &(state.distributor_up(number), state.storage(number)),
+        &(
+            state.distributor_up(number),
+            state.storage(number),
+            state.group_of(number),
+        ),
     )
 }
 
-/// A state's version, its nodes that serve, and those that are up.
+/// A state's version, its nodes that serve, those that are up, and how many groups there are.
 pub fn state_sets(alloc: Global, text: &str) -> Result<String, NoMemory> {
     let state = state_of(text);
     shown(
@@ -44,6 +49,7 @@ pub fn state_sets(alloc: Global, text: &str) -> Result<String, NoMemory> {
             state.version(),
             state.serving().bits(),
             state.nodes_up().bits(),
+            state.groups(),
         ),
     )
 }

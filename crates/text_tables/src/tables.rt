@@ -24,7 +24,6 @@ pub enum Table {
     SetHas,
     SetChanges,
     SetPairs,
-    IdealOrders,
     Scores,
     States,
     StatesPrinted,
@@ -51,7 +50,7 @@ pub enum Table {
 }
 
 /// The tables with their files.
-pub const TABLES: [(Table, &str); 42] = [
+pub const TABLES: [(Table, &str); 41] = [
     (Table::Ids, "ids"),
     (Table::IdParts, "id_parts"),
     (Table::Digests, "digests"),
@@ -70,7 +69,6 @@ pub const TABLES: [(Table, &str); 42] = [
     (Table::SetHas, "set_has"),
     (Table::SetChanges, "set_changes"),
     (Table::SetPairs, "set_pairs"),
-    (Table::IdealOrders, "ideal_orders"),
     (Table::Scores, "scores"),
     (Table::States, "states"),
     (Table::StatesPrinted, "states_printed"),
@@ -122,7 +120,6 @@ pub fn answer(
         Table::SetHas => ids::set_has(alloc, asked),
         Table::SetChanges => ids::set_changed(alloc, asked),
         Table::SetPairs => ids::set_pair(alloc, asked),
-        Table::IdealOrders => ids::ideal_order(alloc, asked),
         Table::Scores => ids::ideal_score(alloc, asked),
         Table::States => states::state_fault(alloc, asked),
         Table::StatesPrinted => states::state_printed(alloc, asked),

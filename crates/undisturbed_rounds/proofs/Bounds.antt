@@ -18,12 +18,12 @@ use Rattle.lane_journals.specs.Meanings.{history}
 use Rattle.lane_journals.specs.declared.event.LaneEvent.{LaneEvent}
 use Rattle.lane_journals.specs.declared.event.LaneEvent.TheVariants.{Sent, Delivered, Returned, Decided}
 use Rattle.round_keeping.specs.RoundKeeping.{is_among_first, AreAnswers, KnowsAnswersOf, KnowsAnswers, KnowsRoundOf, KnowsRound}
-use Rattle.round_runs.specs.declared.round_run.RoundRun.{RoundRun}
-use Rattle.round_runs.specs.declared.round_run.RoundEnd.{RoundEnd}
+use Rattle.round_keeping.specs.declared.round_run.RoundRun.{RoundRun}
+use Rattle.round_keeping.specs.declared.round_run.RoundEnd.{RoundEnd}
 use Rattle.lane_carriage.specs.Carrying.{AreCarried}
-use Rattle.round_runs.specs.RoundRuns.{WasRefused, is_read_in, is_apply_in, KnowsRefusals, GoesOn, Begins, IsEnd, IsWholeRun}
-use Rattle.round_runs.proofs.Runs.{carried-decided}
-use Rattle.round_runs.proofs.Staying.{stays-round}
+use Rattle.round_keeping.specs.RoundRuns.{WasRefused, is_read_in, is_apply_in, KnowsRefusals, GoesOn, Begins, IsEnd, IsWholeRun}
+use Rattle.round_keeping.proofs.Runs.{carried-decided}
+use Rattle.round_keeping.proofs.Staying.{stays-round}
 use Rattle.lane_carriage.proofs.Staying.{IsOfMessage}
 use Rattle.undisturbed_rounds.specs.Rounding.{IsUnsent}
 use Rattle.undisturbed_rounds.specs.Running.{NoneWants, IsStarted}

@@ -17,14 +17,14 @@ use Rattle.lane_journals.specs.KeptJournals.{IsLegal}
 use Rattle.lane_journals.specs.Meanings.{history}
 use Rattle.lane_journals.specs.declared.event.LaneEvent.{LaneEvent}
 use Rattle.lane_journals.specs.declared.event.LaneEvent.TheVariants.{Decided}
-use Rattle.node_journals.specs.Spans.{GoBy, NodesGo}
+use Rattle.lane_keeping.specs.Spans.{GoBy, NodesGo}
 use Rattle.lane_carriage.specs.Carriage.{IsCarried, due}
 use Rattle.lane_carriage.specs.Waits.{numbers, IsWaiting}
 use Rattle.lane_carriage.specs.Laws.{OfTaken}
-use Rattle.round_runs.specs.declared.round_run.RoundRun.{RoundRun}
-use Rattle.round_runs.specs.declared.round_run.RoundEnd.{RoundEnd}
+use Rattle.round_keeping.specs.declared.round_run.RoundRun.{RoundRun}
+use Rattle.round_keeping.specs.declared.round_run.RoundEnd.{RoundEnd}
 use Rattle.lane_carriage.specs.Carrying.{AreCarried}
-use Rattle.round_runs.proofs.Runs.{runs-carried}
+use Rattle.round_keeping.proofs.Runs.{runs-carried}
 use Rattle.lane_rest.specs.Rest.{documents}
 use Rattle.pass_model.specs.Scripts.{Script}
 use Rattle.pass_model.specs.Shapes.{IsApart}

@@ -23,8 +23,8 @@ use Rattle.lane_journals.specs.Facts.{AnsweredApply}
 use Rattle.lane_journals.specs.Meanings.{history, content, names, meaning_body, meaning_reply}
 use Rattle.lane_journals.specs.declared.event.LaneEvent.{LaneEvent}
 use Rattle.lane_journals.specs.declared.event.LaneEvent.TheVariants.{Delivered, Returned}
-use Rattle.node_journals.specs.NodeKeeping.{stamp_of}
-use Rattle.node_journals.specs.Replaying.{sending}
+use Rattle.lane_keeping.specs.NodeKeeping.{stamp_of}
+use Rattle.lane_keeping.specs.Replaying.{sending}
 use Rattle.pass_model.specs.Nodes.{Node, apply_once, apply_node, received, counted, once_or_twice, taken_in}
 use Rattle.pieces.specs.Pieces.{apply_at}
 use Rattle.pass_model.specs.Lanes.{is_taken, is_answer, seen_node}

@@ -19,10 +19,10 @@ use Rattle.lane_journals.specs.Readers as readers
 use Rattle.lane_journals.specs.Readers.{Given, sent, first_reply, returned, stopped, answer, version, round_of, running, round_in}
 use Rattle.lane_journals.specs.Meanings.{history, entry_at, meaning_body}
 use Rattle.lane_journals.specs.declared.event.LaneEvent.{LaneEvent}
-use Rattle.node_journals.specs.Flights.{Brings}
-use Rattle.node_journals.specs.Unions.{IsUnion}
-use Rattle.node_journals.specs.Replaying.{sending}
-use Rattle.node_journals.specs.Spans.{GoBy, NodesGo}
+use Rattle.lane_keeping.specs.Flights.{Brings}
+use Rattle.lane_keeping.specs.Unions.{IsUnion}
+use Rattle.lane_keeping.specs.Replaying.{sending}
+use Rattle.lane_keeping.specs.Spans.{GoBy, NodesGo}
 use Rattle.lane_carriage.specs.Carriage.{met, IsDealt, AreDelivered, due, IsCarried}
 use Rattle.lane_carriage.specs.Waits.{numbers, IsWaiting}
 use Rattle.lane_carriage.specs.Laws.{OfTaken}
@@ -31,8 +31,8 @@ use Rattle.pass_model.specs.Lanes.{IsPassBody}
 use Rattle.pass_model.specs.Scripts.{Script}
 use Rattle.round_keeping.specs.RoundKeeping.{origin_in, was_sent, is_apply, is_of, is_among_first}
 use Rattle.lane_carriage.specs.Carrying.{AreCarried}
-use Rattle.round_runs.specs.RoundRuns.{Sends, SendsNext, IsRoundRun, Nothing, Further, WasRefused, is_read_in, is_apply_in}
-use Rattle.round_runs.proofs.Runs.{runs-carried}
+use Rattle.round_keeping.specs.RoundRuns.{Sends, SendsNext, IsRoundRun, Nothing, Further, WasRefused, is_read_in, is_apply_in}
+use Rattle.round_keeping.proofs.Runs.{runs-carried}
 use Rattle.lane_journals.proofs.Basics.{sent-stays, first_reply-stays, returned-stays}
 use Rattle.undisturbed_spans.specs.Undisturbed.{GoesUndisturbed}
 use Rattle.undisturbed_spans.specs.Telling.{IsSaid, IsToldIn, IsFresh, IsAskedOf, IsShownIn}

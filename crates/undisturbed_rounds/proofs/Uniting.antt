@@ -8,8 +8,8 @@ use Rattle.lane_journals.specs.Stamps.{Stamp, Le}
 use Rattle.lane_journals.specs.Buckets.{Id, key_of}
 use Rattle.lane_journals.specs.Events.{Content}
 use Rattle.lane_journals.specs.Readers.{Given, Journal, answer}
-use Rattle.node_journals.specs.NodeKeeping.{stamp_of}
-use Rattle.node_journals.specs.Unions.{IsUnion}
+use Rattle.lane_keeping.specs.NodeKeeping.{stamp_of}
+use Rattle.lane_keeping.specs.Unions.{IsUnion}
 use Rattle.lane_journals.proofs.Order.{Le_none}
 use Rattle.service_layer.specs.Nodes as lane
 use Rattle.lane_rest.specs.Sets.{held_if, newest_below, newest_of}

@@ -16,12 +16,12 @@ use Rattle.lane_journals.specs.Places.{Setting}
 use Rattle.lane_journals.specs.KeptJournals.{IsLegal}
 use Rattle.lane_journals.specs.Meanings.{history}
 use Rattle.lane_journals.specs.declared.event.LaneEvent.{LaneEvent}
-use Rattle.node_journals.specs.Spans.{NodesGo}
+use Rattle.lane_keeping.specs.Spans.{NodesGo}
 use Rattle.lane_carriage.specs.Carriage.{IsCarried}
-use Rattle.round_runs.specs.declared.round_run.RoundRun.{RoundRun}
-use Rattle.round_runs.specs.declared.round_run.RoundEnd.{RoundEnd}
+use Rattle.round_keeping.specs.declared.round_run.RoundRun.{RoundRun}
+use Rattle.round_keeping.specs.declared.round_run.RoundEnd.{RoundEnd}
 use Rattle.lane_carriage.specs.Carrying.{AreCarried}
-use Rattle.round_runs.specs.RoundRuns.{GoesOn, Begins, IsEnd, IsWholeRun}
+use Rattle.round_keeping.specs.RoundRuns.{GoesOn, Begins, IsEnd, IsWholeRun}
 use Rattle.lane_rest.specs.Rest.{documents}
 use Rattle.pass_model.specs.Scripts.{Script}
 use Rattle.pass_model.specs.Shapes.{Over, Inside, shape_of}

@@ -10,7 +10,7 @@ use Rattle.service_layer.specs.Nodes.{Node}
 use Rattle.merge_rounds.specs.Rounds.{RoundState, HaveAllShown, IsOver, pieces_by}
 use Rattle.lane_journals.specs.Events.{Content}
 use Rattle.lane_journals.specs.declared.event.LaneEvent.{LaneEvent}
-use Rattle.node_journals.specs.NodeKeeping.{stamp_of}
+use Rattle.lane_keeping.specs.NodeKeeping.{stamp_of}
 use Rattle.round_keeping.specs.RoundKeeping.{KnowsRoundOf}
 use Rattle.lane_rest.specs.Sets.{newest_of}
 use Rattle.pass_model.specs.Scripts.{Script}

@@ -14,8 +14,8 @@ use Rattle.lane_journals.specs.Readers.{Given, sent, first_reply, returned, answ
 use Rattle.lane_journals.specs.Facts.{AnsweredApply}
 use Rattle.lane_journals.specs.Meanings.{history}
 use Rattle.lane_journals.specs.declared.event.LaneEvent.{LaneEvent}
-use Rattle.node_journals.specs.NodeKeeping.{stamp_of}
-use Rattle.node_journals.specs.Replaying.{sending}
+use Rattle.lane_keeping.specs.NodeKeeping.{stamp_of}
+use Rattle.lane_keeping.specs.Replaying.{sending}
 use Rattle.pass_model.specs.Nodes.{Node, apply_node}
 use Rattle.pass_model.specs.Scripts.{Script}
 use Rattle.round_keeping.specs.RoundKeeping.{was_sent, is_apply, is_of}

@@ -11,12 +11,12 @@ use Rattle.lane_journals.specs.Events.{Content}
 use Rattle.lane_journals.specs.Readers.{version, round_of, running}
 use Rattle.lane_journals.specs.Meanings.{history}
 use Rattle.lane_journals.specs.declared.event.LaneEvent.{LaneEvent}
-use Rattle.node_journals.specs.NodeKeeping.{stamp_of}
-use Rattle.node_journals.specs.Spans.{NodesGo}
+use Rattle.lane_keeping.specs.NodeKeeping.{stamp_of}
+use Rattle.lane_keeping.specs.Spans.{NodesGo}
 use Rattle.lane_rest.specs.Sets.{newest_of}
 use Rattle.pass_model.specs.Scripts.{Script}
 use Rattle.lane_carriage.specs.Carrying.{AreCarried}
-use Rattle.round_runs.specs.RoundRuns.{IsRoundRun, WasRefused, is_read_in, is_apply_in}
+use Rattle.round_keeping.specs.RoundRuns.{IsRoundRun, WasRefused, is_read_in, is_apply_in}
 use Rattle.undisturbed_spans.specs.Undisturbed.{GoesUndisturbed}
 use Rattle.undisturbed_rounds.specs.Rounding.{HasRounded, IsUnsent}
 

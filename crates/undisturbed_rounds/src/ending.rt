@@ -6,8 +6,8 @@ ghost use Rattle.carriers.specs.declared.fate.Fate.{Fate};
 ghost use Rattle.messages.specs.declared.late.Late.{Late};
 ghost use Rattle.service_layer.specs.Nodes.{Node};
 ghost use Rattle.lane_journals.specs.declared.event.LaneEvent.{LaneEvent};
-ghost use Rattle.round_runs.specs.declared.round_run.RoundRun.{RoundRun};
-ghost use Rattle.round_runs.specs.declared.round_run.RoundEnd.{RoundEnd};
+ghost use Rattle.round_keeping.specs.declared.round_run.RoundRun.{RoundRun};
+ghost use Rattle.round_keeping.specs.declared.round_run.RoundEnd.{RoundEnd};
 ghost use Rattle.pass_model.specs.Scripts.{Script};
 ghost use Rattle.undisturbed_rounds.specs.Ending.{IsWholeRound, HasEnded};
 

@@ -9,9 +9,9 @@ use Rattle.lane_journals.specs.Events as plain
 use Rattle.lane_journals.specs.Events.{Content}
 use Rattle.lane_journals.specs.Meanings.{meaning_body, entry_at}
 use Rattle.lane_journals.specs.declared.event.LaneEvent.{LaneEvent}
-use Rattle.node_journals.specs.NodeKeeping.{stamp_of}
-use Rattle.node_journals.specs.Flights.{meant, Brings}
-use Rattle.node_journals.proofs.Stamping.{content-is}
+use Rattle.lane_keeping.specs.NodeKeeping.{stamp_of}
+use Rattle.lane_keeping.specs.Flights.{meant, Brings}
+use Rattle.lane_keeping.proofs.Stamping.{content-is}
 use Rattle.pass_model.specs.Nodes.{Node, apply_once, split_once, join_once, ready_once, activate_once, delete_once, apply_node, split_node, join_node, ready_node, activate_node, delete_node, received}
 use Rattle.pass_model.specs.Lanes.{IsPassBody, after_once, is_taken}
 use Rattle.pass_model.specs.Scripts.{told_body}

@@ -14,7 +14,7 @@ use Rattle.lane_journals.specs.Readers.{or_else, only_if, sent, first_reply, rou
 use Rattle.lane_journals.specs.Meanings.{history, meaning_body, meaning_reply}
 use Rattle.lane_journals.specs.declared.event.LaneEvent.{LaneEvent}
 use Rattle.lane_journals.specs.declared.event.LaneEvent.TheVariants.{Returned}
-use Rattle.node_journals.specs.Replaying.{sending, delivered}
+use Rattle.lane_keeping.specs.Replaying.{sending, delivered}
 use Rattle.pass_model.specs.Lanes.{IsPassBody, IsNoWant, seen_node}
 use Rattle.pass_model.specs.Scripts.{Script, is_telling, tells, came, came_before, is_want, takings, Agrees, told_body}
 

@@ -25,13 +25,13 @@ use Rattle.lane_journals.specs.Events as plain
 use Rattle.lane_journals.specs.Readers.{sent, first_reply, version}
 use Rattle.lane_journals.specs.Meanings.{history, entry_at, names, content, meaning_body, meaning_reply}
 use Rattle.lane_journals.specs.declared.event.LaneEvent.TheVariants.{Delivered, Returned}
-use Rattle.node_journals.specs.NodeKeeping.{stamp_of, AreWritten}
-use Rattle.node_journals.specs.Flights.{meant}
-use Rattle.node_journals.specs.Replaying.{sending}
-use Rattle.node_journals.proofs.Words.{key-is, names-is}
-use Rattle.node_journals.proofs.Stamping.{content-is, shown_in}
+use Rattle.lane_keeping.specs.NodeKeeping.{stamp_of, AreWritten}
+use Rattle.lane_keeping.specs.Flights.{meant}
+use Rattle.lane_keeping.specs.Replaying.{sending}
+use Rattle.lane_keeping.proofs.Words.{key-is, names-is}
+use Rattle.lane_keeping.proofs.Stamping.{content-is, shown_in}
 use Rattle.upkeep_spans.specs.Spans.{later}
-use Rattle.node_journals.specs.Spans.{IsTakenIn, GoBy, NodesGo}
+use Rattle.lane_keeping.specs.Spans.{IsTakenIn, GoBy, NodesGo}
 use Rattle.pass_model.specs.Scripts.{came, tells, is_telling}
 use Rattle.undisturbed_spans.specs.Undisturbed.{IsTakenOnce, IsTakenTwice}
 use Rattle.undisturbed_spans.specs.Telling.{held_in, IsShownIn}

@@ -17,7 +17,7 @@ use Rattle.lane_carriage.specs.Readers.{last_sent, arrivals, receives, fate_of, 
 use Rattle.lane_carriage.specs.Laws.{OfCarried}
 use Rattle.upkeep_spans.specs.Spans.{later}
 use Rattle.pass_model.specs.Scripts.{Script, is_want, takings}
-use Rattle.node_journals.specs.Replaying.{sending}
+use Rattle.lane_keeping.specs.Replaying.{sending}
 use Rattle.undisturbed_spans.specs.Undisturbed.{IsTakenOnce, IsTakenTwice}
 use Rattle.undisturbed_spans.proofs.Taking.{taken}
 use Rattle.undisturbed_spans.specs.Telling.{IsSaid, IsToldIn, IsFresh, IsAskedOf, IsShownIn}

@@ -3,7 +3,7 @@ use Rattle.std.proofs.Common.{◌≡◌, ◌++◌, ℕ, List, [], ◌∷◌, len
 use Rattle.std.proofs.lemmas.List.{append_assoc}
 use Rattle.lane_journals.specs.declared.event.LaneEvent.TheVariants.{Delivered}
 use Rattle.upkeep_spans.specs.Spans.{later}
-use Rattle.node_journals.specs.Spans.{IsTakenIn, GoBy, NodesGo}
+use Rattle.lane_keeping.specs.Spans.{IsTakenIn, GoBy, NodesGo}
 use Rattle.undisturbed_spans.proofs.Takings.{Nodes, Events, one-span}
 
 record Parts (M N J : Events) (old now : Nodes) : Type 0 where

@@ -12,10 +12,10 @@ use Rattle.lane_journals.specs.Readers.{or_else, only_if, sent, first_reply, rou
 use Rattle.lane_journals.specs.Meanings.{history, meaning_body, meaning_reply}
 use Rattle.lane_journals.specs.declared.event.LaneEvent.{LaneEvent}
 use Rattle.lane_journals.specs.declared.event.LaneEvent.TheVariants.{Delivered, Returned}
-use Rattle.node_journals.specs.Flights.{meant}
-use Rattle.node_journals.specs.Replaying.{sending}
+use Rattle.lane_keeping.specs.Flights.{meant}
+use Rattle.lane_keeping.specs.Replaying.{sending}
 use Rattle.upkeep_spans.specs.Spans.{later}
-use Rattle.node_journals.specs.Spans.{IsTakenIn}
+use Rattle.lane_keeping.specs.Spans.{IsTakenIn}
 
 abbrev pub Nodes : Type 0
 Nodes = ℕ → lane.Node

@@ -17,10 +17,10 @@ use Rattle.lane_journals.specs.Readers.{or_else, only_if, sent, first_reply, rou
 use Rattle.lane_journals.specs.Meanings.{history, meaning_body, meaning_reply}
 use Rattle.lane_journals.specs.declared.event.LaneEvent.{LaneEvent}
 use Rattle.lane_journals.specs.declared.event.LaneEvent.TheVariants.{Delivered, Returned}
-use Rattle.node_journals.specs.Flights.{meant}
-use Rattle.node_journals.specs.Replaying.{sending, delivered}
+use Rattle.lane_keeping.specs.Flights.{meant}
+use Rattle.lane_keeping.specs.Replaying.{sending, delivered}
 use Rattle.upkeep_spans.specs.Spans.{later}
-use Rattle.node_journals.specs.Spans.{IsTakenIn, GoBy, NodesGo}
+use Rattle.lane_keeping.specs.Spans.{IsTakenIn, GoBy, NodesGo}
 use Rattle.pass_model.specs.Nodes.{Node, counted, once_or_twice, received}
 use Rattle.pass_model.specs.Lanes.{seen_node, IsPassBody, after_once, is_taken, IsNoWant, is_answer}
 use Rattle.pass_model.specs.Scripts.{Script, came, Agrees, is_want, told_body, told_node}

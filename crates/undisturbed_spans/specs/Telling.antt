@@ -17,11 +17,11 @@ use Rattle.lane_journals.specs.Events.{Content}
 use Rattle.lane_journals.specs.Readers.{sent, first_reply, version, stopped}
 use Rattle.lane_journals.specs.Meanings.{history, entry_at, meaning_reply}
 use Rattle.lane_journals.specs.declared.event.LaneEvent.{LaneEvent}
-use Rattle.node_journals.specs.NodeKeeping.{stamp_of}
-use Rattle.node_journals.specs.Flights.{Brings}
-use Rattle.node_journals.specs.Replaying.{sending}
+use Rattle.lane_keeping.specs.NodeKeeping.{stamp_of}
+use Rattle.lane_keeping.specs.Flights.{Brings}
+use Rattle.lane_keeping.specs.Replaying.{sending}
 use Rattle.lane_carriage.specs.Carriage.{met, IsDealt, AreDelivered, due, IsCarried}
-use Rattle.node_journals.specs.Spans.{NodesGo}
+use Rattle.lane_keeping.specs.Spans.{NodesGo}
 use Rattle.pass_model.specs.Nodes.{Node}
 use Rattle.pass_model.specs.Lanes.{seen_node, IsPassBody, is_taken, is_answer}
 use Rattle.pass_model.specs.Scripts.{Script, came, takings, Agrees, told_node}

@@ -12,7 +12,7 @@ ghost use Rattle.replica_store.specs.Replicas.{IsReplica};
 ghost use Rattle.service_layer.specs.Nodes.{Node, stored};
 ghost use Rattle.service_layer.specs.Takes.{IsInside, Treats};
 ghost use Rattle.lane_journals.specs.Meanings.{history};
-ghost use Rattle.node_journals.specs.Replaying.{sending, delivered};
+ghost use Rattle.lane_keeping.specs.Replaying.{sending, delivered};
 ghost use Rattle.pass_model.specs.Lanes.{IsNoWant, seen_node};
 ghost use Rattle.pass_model.specs.Scripts.{Script, came, Agrees, told_body};
 ghost use Rattle.undisturbed_spans.specs.Undisturbed.{IsUndisturbed, GoesUndisturbed, IsTakenOnce, IsTakenTwice, OfTold};

@@ -10,7 +10,7 @@ ghost use Rattle.lane_journals.specs.declared.event.LaneEvent.{LaneEvent};
 ghost use Rattle.messages.specs.declared.message.Message.{Message};
 ghost use Rattle.service_layer.specs.Nodes.{Node};
 ghost use Rattle.pass_model.specs.Scripts.{Script, Agrees};
-ghost use Rattle.node_journals.specs.Spans.{NodesGo};
+ghost use Rattle.lane_keeping.specs.Spans.{NodesGo};
 ghost use Rattle.undisturbed_spans.specs.Telling.{IsTaken, IsSaid, IsToldIn, IsFresh, IsAskedOf, IsShownIn};
 
 use lane_carriage::laws::{late_messages_fall_due, messages_are_carried};

@@ -83,7 +83,7 @@ fn is_unknown(unknown: Option<u64>, number: u64) -> bool
 }
 
 impl<C: Carrier + Drop> Watching<C> {
-    /// A carrier that watches one that gave no fate yet; takes no memory.
+    /// A carrier that watches one that gave no fate yet.
     pub fn new(alloc: Global, carrier: C) -> Watching<C>
         requires unused { C.given carrier ≡ [] }
         ensures given { result.given ≡ [] }

@@ -5,12 +5,12 @@ use std::alloc::Global;
 
 /// A value that can be copied where there is memory.
 pub trait TryCopy: Sized {
-    /// An equal value. The only error is want of memory.
+    /// An equal value.
     fn copy(&self, alloc: Global) -> Result<Self, NoMemory>
         ensures { IfOk result (λ copy. copy ≡ self.now) };
 }
 
-/// Copies of all items, in order. The only error is want of memory.
+/// Copies of all items, in order.
 pub fn copy_all<T: TryCopy + Drop>(alloc: Global, items: &[T]) -> Result<Vec<T>, NoMemory>
     ensures { IfOk result (λ copies. copies.items ≡ items.now) }
 {

@@ -20,14 +20,14 @@ impl<T: Drop> Model for Listed<T> {
 }
 
 impl<T: Drop> Listed<T> {
-    /// The list of these items; takes no memory.
+    /// The list of these items.
     pub fn of(items: Vec<T>) -> Self
         ensures { result ≡ items.items }
     {
         Listed { items }
     }
 
-    /// The items, in order; takes no memory.
+    /// The items, in order.
     pub fn items(&self) -> &[T]
         ensures { result.now ≡ self.now }
     {

@@ -22,14 +22,14 @@ impl Model for TextValue {
 }
 
 impl TextValue {
-    /// The value of this text; takes no memory.
+    /// The value of this text.
     pub fn of(text: String) -> TextValue
         ensures { result ≡ string_bytes text }
     {
         TextValue { text }
     }
 
-    /// The text; takes no memory.
+    /// The text.
     pub fn text(&self) -> &str
         ensures { result.now ≡ self.now }
     {

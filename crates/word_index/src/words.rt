@@ -44,14 +44,14 @@ impl Words {
     }
 }
 
-/// The tokens of a text; the only error is want of memory.
+/// The tokens of a text.
 pub fn tokens(alloc: Global, text: &str) -> Result<TextList, NoMemory>
     ensures { IfOk result (λ list. list ≡ tokens_of text.now) }
 {
     tokens_of_bytes(alloc, text.as_bytes())
 }
 
-/// The tokens of bytes; the only error is want of memory.
+/// The tokens of bytes.
 pub fn tokens_of_bytes(alloc: Global, bytes: &[u8]) -> Result<TextList, NoMemory>
     ensures { IfOk result (λ list. list ≡ tokens_of bytes.now) }
 {

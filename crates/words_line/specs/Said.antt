@@ -6,7 +6,6 @@ use Rattle.clap.specs.Kinds.{Kinds}
 use Rattle.clap.specs.Walk.{Row, Text, first_of}
 use Rattle.clap.specs.Simple.{matches_of}
 use Rattle.clap.specs.Faults.{fault_of}
-use Rattle.doc_types.specs.declared.schema.TheConstants.{DEFAULT_SCHEMA}
 use Rattle.words_line.specs.Command.{the_command}
 use Rattle.words_line.specs.declared.options.Generate.{Generate}
 use Rattle.words_line.specs.declared.options.Options.{Options}
@@ -19,6 +18,10 @@ given rows name = first_of name rows
 -- the same, or the default's text
 abbrev pub said : List Row → Text → Text → Text
 said rows name default = unwrap_or (given rows name) default
+
+-- the schema of a session that names none
+abbrev pub default_schema : Text
+default_schema = codes "{\"music\":{\"artist\":\"text\",\"genres\":\"texts\",\"title\":\"text\",\"year\":\"int\"}}"
 
 -- the text is the plain decimal of n, without sign or leading zero, and n is in the range
 pub record IsNumber (least most : ℕ) (text : Text) (n : ℕ) : Type 0 where
@@ -42,7 +45,7 @@ pub record SaysPlain (rows : List Row) (o : Options) : Type 0 where
   pub acks : IsNumber 1 o.redundancy (said rows (codes "acks") (codes "1")) o.acks
   pub searchable : IsNumber 1 o.redundancy (said rows (codes "searchable") (codes "1")) o.searchable
   pub split_at : IsNumber 1 1000000 (said rows (codes "split-at") (codes "64")) o.split_at
-  pub schema : o.schema ≡ said rows (codes "schema") DEFAULT_SCHEMA.now
+  pub schema : o.schema ≡ said rows (codes "schema") default_schema
   pub initial : o.initial ≡ said rows (codes "state") (codes "version:1 distributor:1 storage:1")
   pub generate : o.generate ≡ None
 
@@ -72,7 +75,7 @@ pub record SaysGenerated (rows : List Row) (o : Options) : Type 0 where
   pub acks : o.acks ≡ 2
   pub searchable : o.searchable ≡ 2
   pub split_at : o.split_at ≡ 32
-  pub schema : o.schema ≡ DEFAULT_SCHEMA.now
+  pub schema : o.schema ≡ default_schema
   pub initial : o.initial ≡ codes "version:1 distributor:2 storage:4"
 
 -- what the matches of the command say

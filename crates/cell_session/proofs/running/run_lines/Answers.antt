@@ -24,7 +24,7 @@ loop-number-preserved g c =
     let told = c.in-Ok-answer_line.ensures in
     let grows = seen.advances.grows in
     let same_lines = grows.max_lines ∙ so.1.0 in (
-      so_far_more _ _ _ _ _ _ _ _ _ _ _ _ _ _ _ _ _ so.0 so.1.0 so.1.1 seen.shows seen.stands (sym c.in-Ok-counts_with.ensures) seen.advances.numbered grows.lines told.dealt told.noted told.written,
+      so_far_more _ _ _ _ _ _ _ _ _ _ _ _ _ _ _ _ _ so.0 so.1.0 so.1.1 seen.shows seen.stands (sym c.in-Ok-counts_with.ensures) seen.advances.numbered (omega (arith, seen.advances.numbered, grows.lines, seen.advances.few, same_lines)) grows.lines told.dealt told.noted told.written,
       (same_lines, grows.max_bytes ∙ so.1.1),
       omega (arith, seen.advances.few, same_lines),
       (omega (arith, so.3.0, seen.count), omega (arith, so.3.1, told.count)),
@@ -46,10 +46,10 @@ pub returns-in-Err-Fault-clause-ended : goal.returns-in-Err-Fault-clause-ended
 returns-in-Err-Fault-clause-ended g c =
     let so = c.loop-number.invariant in
     let seen = c.in-Command.ensures in
-    fault_ends _ _ _ _ _ _ _ _ _ _ _ _ _ _ _ _ _ _ so.0 so.1.0 so.1.1 seen.shows seen.stands (sym c.in-Ok-counts_with.ensures) seen.advances.numbered seen.advances.grows.lines seen.advances.little c.in-Err-Fault.field-0-is c.in-Err-Fault.ensures.stopped
+    fault_ends _ _ _ _ _ _ _ _ _ _ _ _ _ _ _ _ _ _ so.0 so.1.0 so.1.1 seen.shows seen.stands (sym c.in-Ok-counts_with.ensures) seen.advances.numbered (omega (arith, seen.advances.numbered, seen.advances.grows.lines, seen.advances.few, seen.advances.grows.max_lines, so.1.0)) seen.advances.grows.lines seen.advances.little c.in-Err-Fault.field-0-is c.in-Err-Fault.ensures.stopped
 
 pub returns-in-Err-Memory-clause-ended : goal.returns-in-Err-Memory-clause-ended
 returns-in-Err-Memory-clause-ended g c =
     let so = c.loop-number.invariant in
     let seen = c.in-Command.ensures in
-    memory_ends _ _ _ _ _ _ _ _ _ _ _ _ _ _ _ _ _ _ so.0 so.1.0 so.1.1 seen.shows seen.stands (sym c.in-Ok-counts_with.ensures) seen.advances.numbered c.in-Err-Memory.field-0-is c.in-Err-Memory.ensures.stopped
+    memory_ends _ _ _ _ _ _ _ _ _ _ _ _ _ _ _ _ _ _ so.0 so.1.0 so.1.1 seen.shows seen.stands (sym c.in-Ok-counts_with.ensures) seen.advances.numbered (omega (arith, seen.advances.numbered, seen.advances.grows.lines, seen.advances.few, seen.advances.grows.max_lines, so.1.0)) c.in-Err-Memory.field-0-is c.in-Err-Memory.ensures.stopped

@@ -1,5 +1,5 @@
 use Rattle.std.proofs.Common.{◌∙◌, [], None, Err, ap}
-use Rattle.cell_session.proofs.Clauses.{legal_durable, legal_complete, ends_in_order, ends_together, ends_fates, ends_limit, chosen_legal, chosen_causes, chosen_heard, chosen_lanes, chosen_dealt, chosen_outcomes, chosen_fates, chosen_upkeeps, chosen_written, empty_legal, empty_in_order, empty_together, empty_fates, empty_ends, usage_written}
+use Rattle.cell_session.proofs.Clauses.{legal_durable, legal_complete, ends_in_order, ends_together, ends_limit, chosen_legal, chosen_lanes, chosen_shown, chosen_lines, chosen_dealt, chosen_written, empty_legal, empty_in_order, empty_together, empty_fates, empty_shown, empty_ends, usage_written}
 use Rattle.cell_session.proofs.running.run_one.Goals as goal
 
 -- ---- the words choose a session
@@ -13,7 +13,8 @@ returns-in-Ok-clause-durability g c s x = legal_durable c.lanes_are_durable.ensu
 pub returns-in-Ok-clause-completeness : goal.returns-in-Ok-clause-completeness
 returns-in-Ok-clause-completeness g c s x =
     let ended = c.run_lines.ensures.ended in
-    legal_complete c.lanes_are_complete.ensures _ s _ _ _ _ _ _ x (chosen_legal _ _ s _ _ _ _ _ _ _ c.in-Ok.ensures.chosen x ended) (ends_fates _ _ _ _ _ _ _ _ _ ended)
+    let lines = chosen_lines (record { refused = c.lines_are_refused_with_cause.ensures; short = c.lines_fall_short_with_cause.ensures; hold = c.hearings_follow_deeds.ensures.hold; hear = c.hearings_follow_deeds.ensures.hear }) _ _ s _ _ _ _ _ _ _ c.in-Ok.ensures.chosen x ended in
+    legal_complete c.lanes_are_complete.ensures _ s _ lines.asked _ x (chosen_legal _ _ s _ _ _ _ _ _ _ c.in-Ok.ensures.chosen x ended) lines.fates
 
 pub returns-in-Ok-clause-lines_in_order : goal.returns-in-Ok-clause-lines_in_order
 returns-in-Ok-clause-lines_in_order g c = ends_in_order _ _ _ _ _ _ _ _ _ c.run_lines.ensures.ended
@@ -21,27 +22,17 @@ returns-in-Ok-clause-lines_in_order g c = ends_in_order _ _ _ _ _ _ _ _ _ c.run_
 pub returns-in-Ok-clause-state_events : goal.returns-in-Ok-clause-state_events
 returns-in-Ok-clause-state_events g c = ends_together _ _ _ _ _ _ _ _ _ c.run_lines.ensures.ended
 
-pub returns-in-Ok-clause-fates : goal.returns-in-Ok-clause-fates
-returns-in-Ok-clause-fates g c s x = chosen_fates _ _ s _ _ _ _ _ _ _ c.in-Ok.ensures.chosen x c.run_lines.ensures.ended
-
 pub returns-in-Ok-clause-lanes : goal.returns-in-Ok-clause-lanes
 returns-in-Ok-clause-lanes g c s x = chosen_lanes _ _ s _ _ _ _ _ _ _ c.in-Ok.ensures.chosen x c.run_lines.ensures.ended
+
+pub returns-in-Ok-clause-shown : goal.returns-in-Ok-clause-shown
+returns-in-Ok-clause-shown g c s x = chosen_shown _ _ s _ _ _ _ _ _ _ c.in-Ok.ensures.chosen x c.run_lines.ensures.ended
 
 pub returns-in-Ok-clause-dealt_with : goal.returns-in-Ok-clause-dealt_with
 returns-in-Ok-clause-dealt_with g c s x = chosen_dealt _ _ s _ _ _ _ _ _ _ c.in-Ok.ensures.chosen x c.run_lines.ensures.ended
 
-pub returns-in-Ok-clause-one_outcome : goal.returns-in-Ok-clause-one_outcome
-returns-in-Ok-clause-one_outcome g c s x = chosen_outcomes _ _ s _ _ _ _ _ _ _ c.in-Ok.ensures.chosen x c.run_lines.ensures.ended
-
-pub returns-in-Ok-clause-hearings : goal.returns-in-Ok-clause-hearings
-returns-in-Ok-clause-hearings g c s x = chosen_heard c.hearings_follow_deeds.ensures.hold c.hearings_follow_deeds.ensures.hear _ _ s _ _ _ _ _ _ _ c.in-Ok.ensures.chosen x c.run_lines.ensures.ended
-
-pub returns-in-Ok-clause-causes : goal.returns-in-Ok-clause-causes
-returns-in-Ok-clause-causes g c s x =
-    chosen_causes c.lines_are_refused_with_cause.ensures c.lines_fall_short_with_cause.ensures _ _ s _ _ _ _ _ _ _ c.in-Ok.ensures.chosen x c.run_lines.ensures.ended
-
-pub returns-in-Ok-clause-upkeeps : goal.returns-in-Ok-clause-upkeeps
-returns-in-Ok-clause-upkeeps g c s x = chosen_upkeeps _ _ s _ _ _ _ _ _ _ c.in-Ok.ensures.chosen x c.run_lines.ensures.ended
+pub returns-in-Ok-clause-lines : goal.returns-in-Ok-clause-lines
+returns-in-Ok-clause-lines g c s x = chosen_lines (record { refused = c.lines_are_refused_with_cause.ensures; short = c.lines_fall_short_with_cause.ensures; hold = c.hearings_follow_deeds.ensures.hold; hear = c.hearings_follow_deeds.ensures.hear }) _ _ s _ _ _ _ _ _ _ c.in-Ok.ensures.chosen x c.run_lines.ensures.ended
 
 pub returns-in-Ok-clause-bytes_written : goal.returns-in-Ok-clause-bytes_written
 returns-in-Ok-clause-bytes_written g c s x = chosen_written _ _ s _ _ _ _ _ _ _ c.in-Ok.ensures.chosen x c.run_lines.ensures.ended
@@ -56,7 +47,7 @@ returns-in-Err-Usage-clause-durability g c s x = legal_durable c.lanes_are_durab
 
 pub returns-in-Err-Usage-clause-completeness : goal.returns-in-Err-Usage-clause-completeness
 returns-in-Err-Usage-clause-completeness g c s x =
-    legal_complete c.lanes_are_complete.ensures _ s s.schema s.setting.bits (λ lane. []) None _ _ x (empty_legal s.setting c.args.cluster.now c.requires) (empty_fates s.schema s.setting.bits (λ lane. []) None c.args.cluster.now c.requires)
+    legal_complete c.lanes_are_complete.ensures _ s (λ lane. []) [] _ x (empty_legal s.setting c.args.cluster.now c.requires) (empty_fates (λ lane. []) c.args.cluster.now c.requires)
 
 pub returns-in-Err-Usage-clause-lines_in_order : goal.returns-in-Err-Usage-clause-lines_in_order
 returns-in-Err-Usage-clause-lines_in_order g c = empty_in_order c.args.cluster.now c.requires
@@ -64,26 +55,17 @@ returns-in-Err-Usage-clause-lines_in_order g c = empty_in_order c.args.cluster.n
 pub returns-in-Err-Usage-clause-state_events : goal.returns-in-Err-Usage-clause-state_events
 returns-in-Err-Usage-clause-state_events g c = empty_together c.args.cluster.now c.requires
 
-pub returns-in-Err-Usage-clause-fates : goal.returns-in-Err-Usage-clause-fates
-returns-in-Err-Usage-clause-fates g c s x = absurd (c.read_choice.ensures.usage (c.in-Err-Usage.is ∙ ap Err c.in-Err-Usage.field-0-is) s x)
-
 pub returns-in-Err-Usage-clause-lanes : goal.returns-in-Err-Usage-clause-lanes
 returns-in-Err-Usage-clause-lanes g c s x = absurd (c.read_choice.ensures.usage (c.in-Err-Usage.is ∙ ap Err c.in-Err-Usage.field-0-is) s x)
+
+pub returns-in-Err-Usage-clause-shown : goal.returns-in-Err-Usage-clause-shown
+returns-in-Err-Usage-clause-shown g c s x = empty_shown s.setting c.args.cluster.now c.requires
 
 pub returns-in-Err-Usage-clause-dealt_with : goal.returns-in-Err-Usage-clause-dealt_with
 returns-in-Err-Usage-clause-dealt_with g c s x = absurd (c.read_choice.ensures.usage (c.in-Err-Usage.is ∙ ap Err c.in-Err-Usage.field-0-is) s x)
 
-pub returns-in-Err-Usage-clause-one_outcome : goal.returns-in-Err-Usage-clause-one_outcome
-returns-in-Err-Usage-clause-one_outcome g c s x = absurd (c.read_choice.ensures.usage (c.in-Err-Usage.is ∙ ap Err c.in-Err-Usage.field-0-is) s x)
-
-pub returns-in-Err-Usage-clause-hearings : goal.returns-in-Err-Usage-clause-hearings
-returns-in-Err-Usage-clause-hearings g c s x = absurd (c.read_choice.ensures.usage (c.in-Err-Usage.is ∙ ap Err c.in-Err-Usage.field-0-is) s x)
-
-pub returns-in-Err-Usage-clause-causes : goal.returns-in-Err-Usage-clause-causes
-returns-in-Err-Usage-clause-causes g c s x = absurd (c.read_choice.ensures.usage (c.in-Err-Usage.is ∙ ap Err c.in-Err-Usage.field-0-is) s x)
-
-pub returns-in-Err-Usage-clause-upkeeps : goal.returns-in-Err-Usage-clause-upkeeps
-returns-in-Err-Usage-clause-upkeeps g c s x = absurd (c.read_choice.ensures.usage (c.in-Err-Usage.is ∙ ap Err c.in-Err-Usage.field-0-is) s x)
+pub returns-in-Err-Usage-clause-lines : goal.returns-in-Err-Usage-clause-lines
+returns-in-Err-Usage-clause-lines g c s x = absurd (c.read_choice.ensures.usage (c.in-Err-Usage.is ∙ ap Err c.in-Err-Usage.field-0-is) s x)
 
 pub returns-in-Err-Usage-clause-bytes_written : goal.returns-in-Err-Usage-clause-bytes_written
 returns-in-Err-Usage-clause-bytes_written g c s x = absurd (c.read_choice.ensures.usage (c.in-Err-Usage.is ∙ ap Err c.in-Err-Usage.field-0-is) s x)
@@ -102,7 +84,7 @@ returns-in-Err-NoMemory-clause-durability g c s x = legal_durable c.lanes_are_du
 
 pub returns-in-Err-NoMemory-clause-completeness : goal.returns-in-Err-NoMemory-clause-completeness
 returns-in-Err-NoMemory-clause-completeness g c s x =
-    legal_complete c.lanes_are_complete.ensures _ s s.schema s.setting.bits (λ lane. []) None _ _ x (empty_legal s.setting c.args.cluster.now c.requires) (empty_fates s.schema s.setting.bits (λ lane. []) None c.args.cluster.now c.requires)
+    legal_complete c.lanes_are_complete.ensures _ s (λ lane. []) [] _ x (empty_legal s.setting c.args.cluster.now c.requires) (empty_fates (λ lane. []) c.args.cluster.now c.requires)
 
 pub returns-in-Err-NoMemory-clause-lines_in_order : goal.returns-in-Err-NoMemory-clause-lines_in_order
 returns-in-Err-NoMemory-clause-lines_in_order g c = empty_in_order c.args.cluster.now c.requires
@@ -110,29 +92,21 @@ returns-in-Err-NoMemory-clause-lines_in_order g c = empty_in_order c.args.cluste
 pub returns-in-Err-NoMemory-clause-state_events : goal.returns-in-Err-NoMemory-clause-state_events
 returns-in-Err-NoMemory-clause-state_events g c = empty_together c.args.cluster.now c.requires
 
-pub returns-in-Err-NoMemory-clause-fates : goal.returns-in-Err-NoMemory-clause-fates
-returns-in-Err-NoMemory-clause-fates g c s x = empty_fates s.schema s.setting.bits _ _ c.args.cluster.now c.requires
+pub returns-in-Err-NoMemory-clause-shown : goal.returns-in-Err-NoMemory-clause-shown
+returns-in-Err-NoMemory-clause-shown g c s x = empty_shown s.setting c.args.cluster.now c.requires
 
 pub returns-in-Err-NoMemory-clause-dealt_with : goal.returns-in-Err-NoMemory-clause-dealt_with
 returns-in-Err-NoMemory-clause-dealt_with g c s x =
     let left = g.S.Source.left c.args.source.now in
     chosen_dealt _ s s _ (λ lane. []) left left c.args.cluster.now None None x x (empty_ends s.setting s.schema (λ lane. []) left left c.args.cluster.now None c.requires)
 
-pub returns-in-Err-NoMemory-clause-one_outcome : goal.returns-in-Err-NoMemory-clause-one_outcome
-returns-in-Err-NoMemory-clause-one_outcome g c s x =
-    chosen_outcomes _ s s _ (λ lane. []) _ None c.args.cluster.now None None x x (empty_ends s.setting s.schema (λ lane. []) _ None c.args.cluster.now None c.requires)
+pub returns-in-Err-NoMemory-clause-lines : goal.returns-in-Err-NoMemory-clause-lines
+returns-in-Err-NoMemory-clause-lines g c s x =
+    chosen_lines (record { refused = c.lines_are_refused_with_cause.ensures; short = c.lines_fall_short_with_cause.ensures; hold = c.hearings_follow_deeds.ensures.hold; hear = c.hearings_follow_deeds.ensures.hear }) _ s s _ _ _ None c.args.cluster.now None None x x (empty_ends s.setting s.schema _ _ None c.args.cluster.now None c.requires)
 
-pub returns-in-Err-NoMemory-clause-hearings : goal.returns-in-Err-NoMemory-clause-hearings
-returns-in-Err-NoMemory-clause-hearings g c s x =
-    chosen_heard c.hearings_follow_deeds.ensures.hold c.hearings_follow_deeds.ensures.hear _ s s _ (λ lane. []) _ None c.args.cluster.now None None x x (empty_ends s.setting s.schema (λ lane. []) _ None c.args.cluster.now None c.requires)
-
-pub returns-in-Err-NoMemory-clause-causes : goal.returns-in-Err-NoMemory-clause-causes
-returns-in-Err-NoMemory-clause-causes g c s x =
-    chosen_causes c.lines_are_refused_with_cause.ensures c.lines_fall_short_with_cause.ensures _ s s _ (λ lane. []) _ None c.args.cluster.now None None x x (empty_ends s.setting s.schema (λ lane. []) _ None c.args.cluster.now None c.requires)
-
-pub returns-in-Err-NoMemory-clause-upkeeps : goal.returns-in-Err-NoMemory-clause-upkeeps
-returns-in-Err-NoMemory-clause-upkeeps g c s x =
-    chosen_upkeeps _ s s _ (λ lane. []) _ None c.args.cluster.now None None x x (empty_ends s.setting s.schema (λ lane. []) _ None c.args.cluster.now None c.requires)
+pub returns-in-Err-NoMemory-clause-lanes : goal.returns-in-Err-NoMemory-clause-lanes
+returns-in-Err-NoMemory-clause-lanes g c s x =
+    chosen_lanes _ s s _ (λ lane. []) None None c.args.cluster.now None None x x (empty_ends s.setting s.schema (λ lane. []) None None c.args.cluster.now None c.requires)
 
 pub returns-in-Err-NoMemory-clause-bytes_written : goal.returns-in-Err-NoMemory-clause-bytes_written
 returns-in-Err-NoMemory-clause-bytes_written g c s x =

@@ -11,8 +11,8 @@ pub returns-then-has-clause-some : goal.returns-then-has-clause-some
 returns-then-has-clause-some c =
     let size = c.len-place-end.ensures in
     let within : c.loop-place.place < length c.args.list.now = omega arith in
-    subst (IsFirstMember c.args.bucket c.args.list.now c.args.members) (sym c.at-node.ensures)
-    (first_at c.args.bucket c.args.list.now c.args.members c.loop-place.place c.requires within c.loop-place.invariant
+    subst (IsFirstMember c.args.bucket c.args.state.now c.args.list.now c.args.members) (sym c.at-node.ensures)
+    (first_at c.args.bucket c.args.state.now c.args.list.now c.args.members c.loop-place.place c.requires within c.loop-place.invariant
     (ap (has_node c.args.members) (sym c.at-node.ensures) ∙ sym c.has.ensures ∙ c.if-has.true))
 
 pub loop-place-preserved : goal.loop-place-preserved

@@ -1,5 +1,6 @@
 use Rattle.std.proofs.Common.{◌<◌, length, sym, subst, arith}
-use Rattle.distributor_part.proofs.PartLaws.{has_at, one_more}
+use Rattle.distributor_part.proofs.PartLaws.{one_more}
+use Rattle.ideal_nodes.proofs.Places.{has_at}
 use Rattle.distributor_part.proofs.targets.first_nodes.Goals as goal
 
 within : (c : goal.After-at) → c.loop-place.place < length c.args.list.now

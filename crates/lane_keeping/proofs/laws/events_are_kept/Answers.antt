@@ -1,5 +1,5 @@
 use Rattle.lane_keeping.proofs.Events.{keeps-quiet, keeps-going, keeps-taken, returned-next, keeps-answered}
-use Rattle.node_journals.specs.Replaying.{delivered}
+use Rattle.lane_keeping.specs.Replaying.{delivered}
 use Rattle.lane_keeping.proofs.laws.events_are_kept.Goals as goal
 
 pub returns-clause-quiet : goal.returns-clause-quiet

@@ -2,9 +2,9 @@ use Rattle.std.proofs.Common.{◌≡◌, ◌∙◌, ℕ, ap, refl, sym, subst}
 use Rattle.bucket_ids.specs.Buckets.{Low, IsIn}
 use Rattle.line_wants.specs.RuleBounds.{AreRules}
 use Rattle.lane_states.specs.declared.lane_state.LaneState.{LaneState}
-use Rattle.round_runs.specs.declared.round_run.RoundRun.{RoundRun}
+use Rattle.round_keeping.specs.declared.round_run.RoundRun.{RoundRun}
 use Rattle.lane_states.specs.LaneStates.{journal_of, part_of, IsResting}
-use Rattle.round_runs.specs.RoundRuns.{IsRunning, IsRunBy, MayBegin}
+use Rattle.round_keeping.specs.RoundRuns.{IsRunning, IsRunBy, MayBegin}
 use Rattle.lane_lines.specs.Readying.{BeganNoRound, OfUnprepared, IsCutOffWith, HasRowFor}
 use Rattle.proof_basics.proofs.Results.{on-err}
 use Rattle.lane_lines.proofs.Entries.{adds-none, adds-on}

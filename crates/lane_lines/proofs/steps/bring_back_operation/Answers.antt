@@ -1,6 +1,6 @@
 use Rattle.std.proofs.Common.{◌∷◌, ◌∙◌, Some, ap}
 use Rattle.std.proofs.lemmas.Result.{on_ok_weaker}
-use Rattle.node_journals.specs.Replaying.{delivered}
+use Rattle.lane_keeping.specs.Replaying.{delivered}
 use Rattle.lane_journals.specs.declared.event.LaneEvent.TheVariants.{Returned}
 use Rattle.lane_states.specs.declared.lane_state.LaneState.{LaneState}
 use Rattle.lane_states.specs.LaneStates.{journal_of}

@@ -1,7 +1,7 @@
 use Rattle.std.proofs.Common.{◌≡◌, ◌+◌, ◌∷◌, ◌∙◌, ap, sym, subst}
 use Rattle.std.proofs.lemmas.Result.{on_ok_weaker}
 use Rattle.bucket_ids.specs.Buckets.{Low}
-use Rattle.node_journals.specs.Replaying.{sending}
+use Rattle.lane_keeping.specs.Replaying.{sending}
 use Rattle.lane_carriage.specs.Waits.{numbers}
 use Rattle.lane_states.specs.declared.lane_state.LaneState.{LaneState}
 use Rattle.lane_states.specs.LaneStates.{journal_of}

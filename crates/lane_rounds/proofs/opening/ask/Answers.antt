@@ -1,7 +1,7 @@
 use Rattle.std.proofs.Common.{◌≡◌, ◌∙◌, ◌+◌, ◌∷◌, ℕ, List, length, ap, refl, sym, subst, arith}
 use Rattle.messages.specs.Waiting.{AreSentBefore}
 use Rattle.messages.specs.declared.late.Late.{Late}
-use Rattle.node_journals.specs.Replaying.{sending}
+use Rattle.lane_keeping.specs.Replaying.{sending}
 use Rattle.lane_states.specs.declared.lane_state.LaneState.{LaneState}
 use Rattle.lane_states.specs.LaneStates.{journal_of}
 use Rattle.lane_states.proofs.Kept.{sent-before}

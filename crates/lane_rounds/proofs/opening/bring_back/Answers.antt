@@ -2,7 +2,7 @@ use Rattle.std.proofs.Common.{rules, ◌≡◌, ◌≤◌, ◌<◌, Some, refl, 
 use Rattle.messages.specs.declared.reply.Reply.{Reply}
 use Rattle.service_layer.specs.Nodes.{Node}
 use Rattle.distributor_part.specs.Parts.{Part}
-use Rattle.node_journals.specs.NodeKeeping.{NodeKeeps}
+use Rattle.lane_keeping.specs.NodeKeeping.{NodeKeeps}
 use Rattle.lane_keeping.specs.LaneKeeping.{node_in, part_in}
 use Rattle.lane_keeping.specs.Asking.{IsTakenBy}
 use Rattle.lane_journals.specs.Meanings.{history}
@@ -12,7 +12,7 @@ use Rattle.lane_states.proofs.LaneSteps.{past-length, has-room, node-at, taken-a
 use Rattle.lane_states.proofs.Places.{part-at}
 use Rattle.lane_rounds.proofs.Settled.{settled-back}
 use Rattle.lane_rounds.proofs.Telling.{heard-after, told-to, heard-at, awaited-at}
-use Rattle.round_runs.proofs.Telling.{taken-told}
+use Rattle.round_keeping.proofs.Telling.{taken-told}
 use Rattle.lane_rounds.proofs.NodeSpans.{go-back}
 use Rattle.lane_states.proofs.Accepting.{accepted-at}
 use Rattle.lane_rounds.proofs.Accepting.{accepted-told}

@@ -1,4 +1,4 @@
-use Rattle.std.proofs.Common.{ℕ, rules, ◌≡◌, ◌∙◌, ◌<◌, Some, length, slice_set, ap, refl, sym, subst}
+use Rattle.std.proofs.Common.{rules, ◌≡◌, ◌∙◌, ◌<◌, Some, length, slice_set, ap, refl, sym, subst}
 use Rattle.messages.specs.declared.decision.Decision.TheVariants.{RoundBegun}
 use Rattle.distributor_part.specs.declared.stage.Stage.TheVariants.{Before, Running}
 use Rattle.distributor_part.specs.Parts.{Part}
@@ -9,13 +9,12 @@ use Rattle.lane_keeping.specs.LaneKeeping.{part_in, PartKeeps}
 use Rattle.lane_keeping.specs.Acting.{IsActing}
 use Rattle.round_keeping.specs.Laws.{IsBegun}
 use Rattle.lane_states.specs.LaneStates.{journal_of}
-use Rattle.round_runs.specs.RoundRuns.{MayBegin, EndsEnough, IsRunBy}
+use Rattle.round_keeping.specs.RoundRuns.{MayBegin, EndsEnough, IsRunBy}
 use Rattle.lane_states.proofs.Kept.{kept_more, kept_still}
 use Rattle.lane_states.proofs.Places.{part-at}
 use Rattle.lane_keeping.proofs.Parts.{part-others}
-use Rattle.round_runs.proofs.RoundEnds.{owning-of, inside-of, owner-as, begun-of, begins-by, run-by, begins-at, both-at, now-at, alike-at}
-use Rattle.round_runs.proofs.Runs.{carried-decided}
-use Rattle.round_runs.specs.declared.round_run.RoundRun.{RoundRun}
+use Rattle.round_keeping.proofs.RoundEnds.{owning-of, inside-of, owner-as, begun-of, begins-by, run-by, begins-at, both-at, now-at, alike-at}
+use Rattle.round_keeping.proofs.Runs.{carried-decided}
 use Rattle.lane_rounds.proofs.Accepting.{accepted-changed}
 use Rattle.lane_rounds.proofs.rounds.begin_round.Goals as goal
 

@@ -9,13 +9,13 @@ use Rattle.lane_keeping.specs.LaneKeeping.{part_in}
 use Rattle.lane_keeping.specs.Acting.{IsActing}
 use Rattle.round_keeping.specs.Laws.{IsBegun}
 use Rattle.lane_states.specs.LaneStates.{journal_of}
-use Rattle.round_runs.specs.declared.round_run.RoundRun.{RoundRun}
-use Rattle.round_runs.specs.RoundRuns.{MayBeginAt, IsRunBy, Begins}
+use Rattle.round_keeping.specs.declared.round_run.RoundRun.{RoundRun}
+use Rattle.round_keeping.specs.RoundRuns.{MayBeginAt, IsRunBy, Begins}
 use Rattle.lane_states.proofs.Kept.{kept_more}
 use Rattle.lane_states.proofs.Places.{part-at}
 use Rattle.lane_keeping.proofs.Parts.{part-others}
-use Rattle.round_runs.proofs.RoundEnds.{owner-place, begun-of, begins-by, run-by, begins-there, both-at, now-at, alike-at}
-use Rattle.round_runs.proofs.Runs.{carried-decided}
+use Rattle.round_keeping.proofs.RoundEnds.{owner-place, begun-of, begins-by, run-by, begins-there, both-at, now-at, alike-at}
+use Rattle.round_keeping.proofs.Runs.{carried-decided}
 use Rattle.lane_rounds.proofs.Accepting.{accepted-changed}
 use Rattle.lane_rounds.proofs.rounds.begin_round_at.Goals as goal
 

@@ -1,12 +1,12 @@
 use Rattle.std.proofs.Common.{rules, ◌≡◌, ◌≤◌, ◌<◌, refl, length, slice_set, subst, arith}
 use Rattle.service_layer.specs.Nodes.{Node}
-use Rattle.node_journals.specs.NodeKeeping.{NodeKeeps}
+use Rattle.lane_keeping.specs.NodeKeeping.{NodeKeeps}
 use Rattle.lane_keeping.specs.LaneKeeping.{node_in}
 use Rattle.lane_keeping.specs.Asking.{IsTakenBy}
 use Rattle.lane_states.specs.LaneStates.{journal_of}
 use Rattle.lane_states.proofs.Kept.{kept_back, kept_runs}
 use Rattle.lane_states.proofs.LaneSteps.{past-length, has-room, node-at, taken-at}
-use Rattle.round_runs.proofs.Running.{no-ask, taken-as, knows-as, runs-back, goes-back, reply-told, reply-left}
+use Rattle.round_keeping.proofs.Running.{no-ask, taken-as, knows-as, runs-back, goes-back, reply-told, reply-left}
 use Rattle.lane_rounds.proofs.Settled.{settled-back}
 use Rattle.lane_rounds.proofs.Shortages.{told-short}
 use Rattle.lane_rounds.proofs.NodeSpans.{go-back}

@@ -1,6 +1,6 @@
 use Rattle.lane_states.specs.LaneStates.{journal_of}
-use Rattle.round_runs.proofs.Running.{goes-round, reply-goes, reply-told, reply-left}
-use Rattle.round_runs.proofs.RoundTelling.{runs-none}
+use Rattle.round_keeping.proofs.Running.{goes-round, reply-goes, reply-told, reply-left}
+use Rattle.round_keeping.proofs.RoundTelling.{runs-none}
 use Rattle.lane_rounds.proofs.rounds.bring_none_round.Goals as goal
 
 pub returns-clause-runs : goal.returns-clause-runs

@@ -1,7 +1,7 @@
 use Rattle.std.proofs.Common.{List, false, refl, sym, ap, subst}
 use Rattle.lane_journals.specs.declared.event.LaneEvent.{LaneEvent}
 use Rattle.lane_states.specs.Growing.{IsSettled}
-use Rattle.round_runs.specs.RoundShortages.{wants_memory}
+use Rattle.round_keeping.specs.RoundShortages.{wants_memory}
 use Rattle.lane_rounds.proofs.Settled.{settled-none}
 use Rattle.lane_rounds.proofs.Shortages.{settled-as, settled-again, had-not, had-still}
 use Rattle.lane_states.proofs.NodeSpans.{on-same, on-then}

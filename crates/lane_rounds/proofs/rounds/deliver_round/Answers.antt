@@ -1,6 +1,6 @@
 use Rattle.lane_keeping.specs.LaneKeeping.{setting_of}
 use Rattle.lane_states.specs.LaneStates.{journal_of}
-use Rattle.round_runs.proofs.Running.{running-delivered}
+use Rattle.round_keeping.proofs.Running.{running-delivered}
 use Rattle.lane_rounds.proofs.rounds.deliver_round.Goals as goal
 
 pub returns-clause-runs : goal.returns-clause-runs

@@ -15,13 +15,13 @@ use Rattle.lane_journals.specs.declared.event.LaneEvent.TheVariants.{Decided}
 use Rattle.lane_keeping.specs.LaneKeeping.{part_in, PartKeeps, setting_of}
 use Rattle.round_keeping.specs.RoundKeeping.{KnowsAnswers, NoRound}
 use Rattle.lane_states.specs.LaneStates.{journal_of}
-use Rattle.round_runs.specs.RoundRuns.{IsRunBy, IsStageOver, EndsJob, EndsRun, KnowsRefusals}
+use Rattle.round_keeping.specs.RoundRuns.{IsRunBy, IsStageOver, EndsJob, EndsRun, KnowsRefusals}
 use Rattle.lane_states.proofs.Kept.{kept_more}
 use Rattle.lane_states.proofs.Places.{part-at}
 use Rattle.lane_keeping.proofs.Parts.{part-own, part-others}
-use Rattle.round_runs.proofs.Refusals.{refusals-decided}
-use Rattle.round_runs.proofs.RoundEnds.{both-at, alike-at, others-then, ended-as, over-owning, over-inside, end-by, none-then, answers-as, same-row}
-use Rattle.round_runs.proofs.Runs.{carried-decided}
+use Rattle.round_keeping.proofs.Refusals.{refusals-decided}
+use Rattle.round_keeping.proofs.RoundEnds.{both-at, alike-at, others-then, ended-as, over-owning, over-inside, end-by, none-then, answers-as, same-row}
+use Rattle.round_keeping.proofs.Runs.{carried-decided}
 use Rattle.lane_states.proofs.Accepting.{accepted-at}
 use Rattle.lane_rounds.proofs.Accepting.{accepted-alike, accepted-ended}
 use Rattle.lane_rounds.proofs.rounds.end_round.Goals as goal

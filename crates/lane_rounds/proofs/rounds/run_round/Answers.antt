@@ -1,13 +1,12 @@
-use Rattle.std.proofs.Common.{◌≡◌, true, ◌∙◌, ℕ, vec_len, ap, sym, subst}
+use Rattle.std.proofs.Common.{◌≡◌, ◌∙◌, ℕ, vec_len, ap, sym, subst}
 use Rattle.bucket_ids.specs.Buckets.{Low, IsIn}
-use Rattle.lane_journals.specs.Buckets.{contains}
 use Rattle.lane_keeping.specs.Asking.{OthersStay}
 use Rattle.lane_states.specs.declared.lane_state.LaneState.{LaneState}
-use Rattle.round_runs.specs.declared.round_run.RoundRun.{RoundRun}
+use Rattle.round_keeping.specs.declared.round_run.RoundRun.{RoundRun}
 use Rattle.lane_states.specs.LaneStates.{journal_of, part_of}
-use Rattle.round_runs.specs.RoundRuns.{IsCutOff, IsRunBy, EndsRun}
-use Rattle.round_runs.proofs.RoundEnds.{run-by-goes, whole-of, cut-of}
-use Rattle.round_runs.proofs.Runs.{runs-carried}
+use Rattle.round_keeping.specs.RoundRuns.{IsCutOff, IsRunBy, EndsRun}
+use Rattle.round_keeping.proofs.RoundEnds.{run-by-goes, whole-of, cut-of}
+use Rattle.round_keeping.proofs.Runs.{runs-carried}
 use Rattle.lane_rounds.proofs.Shortages.{none-ended, once-ended}
 use Rattle.lane_states.proofs.NodeSpans.{on-event, on-then}
 use Rattle.lane_keeping.specs.LaneKeeping.{node_in}

@@ -2,12 +2,12 @@ use Rattle.std.proofs.Common.{◌∙◌, false, ap, refl, sym, subst}
 use Rattle.bucket_ids.specs.Buckets.{Low}
 use Rattle.lane_states.specs.declared.lane_state.LaneState.{LaneState}
 use Rattle.lane_states.specs.LaneStates.{journal_of}
-use Rattle.round_runs.specs.RoundRuns.{IsRunning}
-use Rattle.round_runs.specs.RoundShortages.{wants_memory}
+use Rattle.round_keeping.specs.RoundRuns.{IsRunning}
+use Rattle.round_keeping.specs.RoundShortages.{wants_memory}
 use Rattle.lane_rounds.proofs.Shortages.{not-ended, had-as, settled-as, none-nothing, none-step, once-step, none-idle, once-none}
-use Rattle.round_runs.proofs.Running.{goes-none, goes-on}
-use Rattle.round_runs.proofs.RoundTelling.{cut-as}
-use Rattle.round_runs.proofs.Runs.{runs-nothing, runs-then, runs-of, runs-numbered}
+use Rattle.round_keeping.proofs.Running.{goes-none, goes-on}
+use Rattle.round_keeping.proofs.RoundTelling.{cut-as}
+use Rattle.round_keeping.proofs.Runs.{runs-nothing, runs-then, runs-of, runs-numbered}
 use Rattle.lane_states.proofs.NodeSpans.{on-same, on-then}
 use Rattle.lane_rounds.proofs.rounds.send_all.Goals as goal
 

@@ -1,8 +1,8 @@
 use Rattle.std.proofs.Common.{◌≡◌, None, length}
 use Rattle.lane_states.specs.LaneStates.{journal_of, IsKept, HasRoom, NodesOn}
-use Rattle.round_runs.specs.RoundRuns.{IsRunning, GoesOn, RunsOn, left}
+use Rattle.round_keeping.specs.RoundRuns.{IsRunning, GoesOn, RunsOn, left}
 use Rattle.lane_states.specs.Shortages.{WhereItEnds, NoneIsShort}
-use Rattle.round_runs.specs.RoundShortages.{HadMemory}
+use Rattle.round_keeping.specs.RoundShortages.{HadMemory}
 use Rattle.lane_rounds.proofs.rounds.send_all.Given as goal
 
 -- the round went on, and waits for no reply

@@ -4,17 +4,17 @@ use Rattle.merge_rounds.specs.Rounds.{RoundState}
 use Rattle.messages.specs.Waiting.{AreSentBefore}
 use Rattle.messages.specs.declared.late.Late.{Late}
 use Rattle.lane_journals.specs.declared.event.LaneEvent.{LaneEvent}
-use Rattle.node_journals.specs.Replaying.{sending}
+use Rattle.lane_keeping.specs.Replaying.{sending}
 use Rattle.lane_keeping.specs.LaneKeeping.{setting_of, node_in}
 use Rattle.round_keeping.specs.RoundKeeping.{KnowsRound, IsAwaited}
 use Rattle.lane_states.specs.declared.lane_state.LaneState.{LaneState}
 use Rattle.lane_states.specs.LaneStates.{journal_of}
 use Rattle.lane_states.specs.Growing.{IsSettled}
-use Rattle.round_runs.specs.RoundShortages.{wants_memory}
-use Rattle.round_runs.specs.RoundRuns.{IsRunning}
+use Rattle.round_keeping.specs.RoundShortages.{wants_memory}
+use Rattle.round_keeping.specs.RoundRuns.{IsRunning}
 use Rattle.lane_states.proofs.Going.{IsSentIn, went-by}
-use Rattle.round_runs.proofs.Running.{running-sent, running-all}
-use Rattle.round_runs.proofs.RoundTelling.{next-small, sent-rest}
+use Rattle.round_keeping.proofs.Running.{running-sent, running-all}
+use Rattle.round_keeping.proofs.RoundTelling.{next-small, sent-rest}
 use Rattle.lane_rounds.proofs.LaneRuns.{runs-once}
 use Rattle.lane_states.proofs.NodeSpans.{on-event, on-then}
 use Rattle.lane_rounds.proofs.Settled.{settled-delivered}

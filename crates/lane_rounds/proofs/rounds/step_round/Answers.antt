@@ -5,10 +5,10 @@ use Rattle.merge_rounds.specs.Rounds.{IsNext, after_send}
 use Rattle.lane_journals.specs.declared.event.LaneEvent.{LaneEvent}
 use Rattle.lane_states.specs.declared.lane_state.LaneState.{LaneState}
 use Rattle.lane_states.specs.LaneStates.{journal_of}
-use Rattle.round_runs.specs.RoundRuns.{IsCutOff, IsToSend}
+use Rattle.round_keeping.specs.RoundRuns.{IsCutOff, IsToSend}
 use Rattle.proof_basics.proofs.Results.{on-err}
-use Rattle.round_runs.proofs.RoundTelling.{cut-as, cut-sent, to-send}
-use Rattle.round_runs.proofs.Runs.{runs-nothing, runs-still, runs-from, runs-in}
+use Rattle.round_keeping.proofs.RoundTelling.{cut-as, cut-sent, to-send}
+use Rattle.round_keeping.proofs.Runs.{runs-nothing, runs-still, runs-from, runs-in}
 use Rattle.lane_states.proofs.NodeSpans.{on-same, on-then}
 use Rattle.lane_rounds.proofs.rounds.step_round.Goals as goal
 

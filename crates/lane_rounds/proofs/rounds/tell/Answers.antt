@@ -1,8 +1,8 @@
 use Rattle.std.proofs.Common.{Some, subst}
 use Rattle.messages.specs.declared.reply.Reply.TheVariants as reply
 use Rattle.merge_rounds.specs.Rounds.{RoundState}
-use Rattle.round_runs.specs.RoundRuns.{IsAfterReply}
-use Rattle.round_runs.proofs.RoundTelling.{round-short, round-kept}
+use Rattle.round_keeping.specs.RoundRuns.{IsAfterReply}
+use Rattle.round_keeping.proofs.RoundTelling.{round-short, round-kept}
 use Rattle.lane_rounds.proofs.rounds.tell.Goals as goal
 
 pub returns-in-Ok : goal.returns-in-Ok

@@ -2,11 +2,11 @@ use Rattle.std.proofs.Common.{◌≡◌, ◌∙◌, ◌<◌, ℕ, length, vec_le
 use Rattle.bucket_ids.specs.Buckets.{Low, IsIn}
 use Rattle.distributor_part.specs.Parts.{rows_of}
 use Rattle.lane_states.specs.declared.lane_state.LaneState.{LaneState}
-use Rattle.round_runs.specs.declared.round_run.RoundRun.{RoundRun}
+use Rattle.round_keeping.specs.declared.round_run.RoundRun.{RoundRun}
 use Rattle.lane_states.specs.LaneStates.{journal_of, part_of}
-use Rattle.round_runs.specs.RoundRuns.{IsRunning, IsRunBy, Begins}
+use Rattle.round_keeping.specs.RoundRuns.{IsRunning, IsRunBy, Begins}
 use Rattle.lane_states.specs.Shortages.{NoneIsShort, EndsAtOnce}
-use Rattle.round_runs.specs.RoundShortages.{HadMemory}
+use Rattle.round_keeping.specs.RoundShortages.{HadMemory}
 use Rattle.lane_rounds.proofs.Shortages.{once-still}
 use Rattle.upkeep_spans.specs.Spans.{AreUpkeep}
 use Rattle.lane_upkeep.proofs.Passing.{still-passing-in, still-passes-in, passing-gained}

@@ -1,5 +1,5 @@
 use Rattle.lane_keeping.specs.LaneKeeping.{setting_of, node_in}
-use Rattle.node_journals.specs.Replaying.{IsTaken}
+use Rattle.lane_keeping.specs.Replaying.{IsTaken}
 use Rattle.operation_keeping.proofs.Told.{silent, told-back}
 use Rattle.operation_keeping.proofs.laws.operations_hear.Goals as goal
 

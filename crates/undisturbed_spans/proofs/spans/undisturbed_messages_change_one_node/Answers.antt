@@ -2,7 +2,7 @@ use Rattle.std.proofs.Common.{◌∷◌, true, false, ◌∙◌, refl}
 use Rattle.messages.specs.declared.reply.Reply.TheVariants.{NoMemory}
 use Rattle.lane_journals.specs.Meanings.{history}
 use Rattle.pass_model.specs.Scripts.{came}
-use Rattle.node_journals.specs.Replaying.{sending, delivered}
+use Rattle.lane_keeping.specs.Replaying.{sending, delivered}
 use Rattle.lane_journals.specs.declared.event.LaneEvent.TheVariants.{Returned}
 use Rattle.undisturbed_spans.proofs.Changing.{moved, came-own, came-other, came-again, script-once, script-again, no-want}
 use Rattle.undisturbed_spans.proofs.spans.undisturbed_messages_change_one_node.Goals as goal

@@ -1,4 +1,4 @@
-use Rattle.std.proofs.Common.{◌≡◌, true, Some, IfSome, slice_get, refl, ap, ◌∙◌, subst, arith}
+use Rattle.std.proofs.Common.{◌≡◌, true, Some, IfSome, slice_get, refl, sym, ap, ◌∙◌, subst, arith}
 use Rattle.std.proofs.lemmas.Bool.Decides.{nat_tests}
 use Rattle.bucket_ids.specs.Buckets.{has_key}
 use Rattle.distributor_part.specs.declared.stage.Stage.TheVariants.{Running}
@@ -18,19 +18,20 @@ read : (c : goal.After-result-1) → slice_get c.in-Some.rows.rows c.row_of-at.r
 read c = row_at _ _ _ _ c.row_of-at.ensures.within c.rows.ensures.list c.index-rows-at.is
 
 pub returns : goal.returns
-returns c = subst (λ p. BeginsRound p (begun c) c.args.key c.index-rows-at.result.bucket c.targets_of-receivers.result) c.self.view_is (record {
-  state = c.args.state.now;
-  rows = c.in-Some.rows;
-  opened = record { heard = ap (λ p. p.state) c.self.view_is ∙ c.requires.heard; opened = c.in-Some.is };
-  no_round = ap (λ p. p.stage) c.self.view_is ∙ c.requires.no_round;
-  at = c.row_of-at.result;
-  row = c.index-rows-at.result;
-  is_row = record {
-    found = read c;
-    has = subst (λ o. IfSome o (λ row. has_key row.bucket c.args.key ≡ true)) (read c) c.row_of-at.ensures.found;
-  };
-  few = let test = c.if-has_at_least.ensures in grind (arith, nat_tests);
-  same_bucket = refl;
-  targets = c.targets_of-receivers.ensures;
-  after = refl;
-})
+returns c = subst (λ h. BeginsRound c.args.self.now (record (begun c) { state = h }) c.args.key c.index-rows-at.result.bucket c.targets_of-receivers.result) (sym c.keep_order.ensures)
+    (subst (λ p. BeginsRound p (begun c) c.args.key c.index-rows-at.result.bucket c.targets_of-receivers.result) c.self.view_is (record {
+      state = c.args.state.now;
+      rows = c.in-Some.rows;
+      opened = record { heard = ap (λ p. p.state) c.self.view_is ∙ c.requires.heard; opened = c.in-Some.is };
+      no_round = ap (λ p. p.stage) c.self.view_is ∙ c.requires.no_round;
+      at = c.row_of-at.result;
+      row = c.index-rows-at.result;
+      is_row = record {
+        found = read c;
+        has = subst (λ o. IfSome o (λ row. has_key row.bucket c.args.key ≡ true)) (read c) c.row_of-at.ensures.found;
+      };
+      few = let test = c.if-has_at_least.ensures in grind (arith, nat_tests);
+      same_bucket = refl;
+      targets = c.targets_of-receivers.ensures;
+      after = refl;
+    }))

@@ -1,5 +1,5 @@
 use Rattle.std.proofs.Common.{rules, ◌≡◌, ◌<◌, Some, length}
-use Rattle.lane_core.specs.declared.job.Job.{Job}
+use Rattle.lane_core.specs.declared.work.Job.{Job}
 use Rattle.proof_basics.proofs.Results.{if_ok, on_err}
 use Rattle.lane_lines.proofs.ClosedParts.{part-there}
 use Rattle.lane_core.proofs.Searching.{onward-rested, was-job, has-call, for-new, keeps-searched, comes-searched, went-searched, cut-searched}

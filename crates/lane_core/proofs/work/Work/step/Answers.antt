@@ -1,6 +1,6 @@
 use Rattle.std.proofs.Common.{◌≡◌, Some, sym, ap, ◌∙◌, subst}
-use Rattle.lane_core.specs.declared.job.Job.{Job}
-use Rattle.lane_core.specs.declared.job.Phase.TheVariants.{Prepared}
+use Rattle.lane_core.specs.declared.work.Job.{Job}
+use Rattle.lane_core.specs.declared.work.Phase.TheVariants.{Prepared}
 use Rattle.lane_lines.specs.Steps.{GoesIn, RunsIn}
 use Rattle.lane_core.specs.Advancing.{IsAdvance}
 use Rattle.lane_core.specs.Phases.{ComesTo}

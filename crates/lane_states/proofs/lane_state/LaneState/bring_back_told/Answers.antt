@@ -4,7 +4,7 @@ use Rattle.lane_states.specs.LaneStates.{journal_of}
 use Rattle.lane_states.proofs.Kept.{kept_more}
 use Rattle.lane_states.proofs.Replied.{now-replied}
 use Rattle.lane_states.proofs.Tellings.{row-no-ask, came-back, first-back}
-use Rattle.node_journals.proofs.Going.{go-waits}
+use Rattle.lane_keeping.proofs.Going.{go-waits}
 use Rattle.lane_states.proofs.lane_state.LaneState.bring_back_told.Goals as goal
 
 pub returns-clause-keeps : goal.returns-clause-keeps

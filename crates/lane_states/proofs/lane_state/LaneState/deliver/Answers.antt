@@ -1,6 +1,6 @@
 use Rattle.std.proofs.Common.{rules, ◌≡◌, ◌≤◌, ◌<◌, length, slice_set, subst, arith}
 use Rattle.service_layer.specs.Nodes.{Node}
-use Rattle.node_journals.specs.NodeKeeping.{NodeKeeps}
+use Rattle.lane_keeping.specs.NodeKeeping.{NodeKeeps}
 use Rattle.lane_keeping.specs.LaneKeeping.{node_in}
 use Rattle.lane_states.specs.LaneStates.{journal_of}
 use Rattle.lane_states.proofs.Kept.{kept_taken, kept_runs}

@@ -5,7 +5,7 @@ use Rattle.lane_states.specs.LaneStates.{journal_of}
 use Rattle.lane_states.proofs.Going.{IsSentIn, went-by, went-carried}
 use Rattle.lane_states.proofs.Tellings.{some-late, none-late, first-late}
 use Rattle.lane_states.proofs.NodeSpans.{on-event, on-then}
-use Rattle.node_journals.specs.Replaying.{sending}
+use Rattle.lane_keeping.specs.Replaying.{sending}
 use Rattle.lane_keeping.specs.LaneKeeping.{node_in}
 use Rattle.lane_states.proofs.lane_state.LaneState.send_told.Goals as goal
 

@@ -2,7 +2,7 @@ use Rattle.std.proofs.Common.{sym, ap, ◌∙◌, subst}
 use Rattle.std.proofs.lemmas.List.{with_items_is}
 use Rattle.session_cluster.specs.Cells.{Cell}
 use Rattle.session_cluster.specs.Steps.{EachLane, MayMaintain}
-use Rattle.session_cluster.proofs.Passing.{passed_many, lanes_made, lanes_passed, lanes_spans}
+use Rattle.session_cluster.proofs.Passing.{passed_many, lanes_passed, lanes_spans}
 use Rattle.session_cluster.proofs.cluster.Cluster.maintain_lanes.Goals as goal
 
 pub maintain_all-made-requires-clause-may : goal.maintain_all-made-requires-clause-may

@@ -1,0 +1,29 @@
+-- What the lines of a session asked for and did: one list of lines, of which all else is said.
+use Rattle.std.specs.Prelude.{ℕ, List, Option}
+use Rattle.carriers.specs.declared.fate.Fate.{Fate}
+use Rattle.doc_types.specs.SchemaCodes.{Types}
+use Rattle.lane_values.specs.declared.setting.Setting.{Setting}
+use Rattle.session_cluster.specs.Cells.{Cell}
+use Rattle.session_cluster.specs.declared.asked.Asked.{Asked}
+use Rattle.cell_session.specs.Causes.{HaveCauses}
+use Rattle.cell_session.specs.Ends.{EndsAtLimit}
+use Rattle.cell_session.specs.Hearing.{HaveHeard}
+use Rattle.cell_session.specs.Operations.{WereAsked, HaveOutcomes, HaveFates}
+use Rattle.cell_session.specs.Upkeep.{AreUpkept}
+use Rattle.cell_session.specs.declared.status.Status.{Status}
+
+pub record HaveLines (end : Status) (s : Setting) (types : Types) (plans : ℕ → List Fate) (text : Option (List ℕ)) (c : Cell) : Type 0 where
+  pub asked : List Asked
+  pub were_asked : WereAsked types s.bits text c.dealt asked
+  -- what each of them did in its lane, and that nothing else happened there
+  pub one_outcome : HaveOutcomes s asked c
+  -- who heard the states that they told
+  pub hearings : HaveHeard s asked c
+  -- what became of the messages
+  pub fates : HaveFates plans asked c.lanes
+  -- why they were refused, or got too few answers
+  pub causes : HaveCauses s asked c
+  -- how the upkeep went that they asked for
+  pub upkeeps : AreUpkept end s asked c
+  -- what was reached, where a limit ends the session
+  pub reached : EndsAtLimit end asked

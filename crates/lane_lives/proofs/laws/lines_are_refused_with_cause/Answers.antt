@@ -1,5 +1,0 @@
-use Rattle.lane_lives.proofs.Refusals.{refused_with_cause}
-use Rattle.lane_lives.proofs.laws.lines_are_refused_with_cause.Goals as goal
-
-pub returns : goal.returns
-returns c = refused_with_cause

@@ -1,0 +1,12 @@
+-- Shared: other crates cite these.
+pub mod Answered
+pub mod Before
+-- Of this crate alone.
+mod Newest
+mod CarriedBefore
+mod Later
+mod Completing
+mod Ends
+mod Refusals
+mod Shortfalls
+mod Hearing

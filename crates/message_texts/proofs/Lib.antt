@@ -1,0 +1,8 @@
+mod BucketLaws
+mod PartLaws
+mod FitLaws
+mod OrderLaws
+mod JoinLaws
+mod EntryLaws
+mod BodyLaws
+mod TextLaws

@@ -1,0 +1,25 @@
+//! The text of a message: compact JSON with its keys in rising order, read again as that message alone.
+//!
+//! A contract sees a text as its bytes. `text_of` in `specs/Texts.antt` is the text of a message, `message_in` the message
+//! of a text by a schema, and `Fits` in `specs/Fitting.antt` says which messages a schema allows. A reader decodes what
+//! the JSON says, prints that again, and takes it only where the bytes are the same: so no other order of the keys, no
+//! blank and no further key is read.
+//!
+//! ```text
+//! let text = message_text(alloc, &message)?;     // {"body":"ask","lane":0,"receiver":3,"sender":0,"version":1}
+//! read_message(alloc, &text, &schema)?           // the same message
+//! ```
+#![tactic(auto)]
+
+mod bodies;
+mod entries;
+pub mod fault;
+mod fitting;
+mod listing;
+pub mod message;
+mod parts;
+#[cfg(test)]
+mod tests;
+
+pub use fault::MessageFault;
+pub use message::{message_text, read_message};

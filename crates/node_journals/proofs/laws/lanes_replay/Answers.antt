@@ -1,5 +1,0 @@
-use Rattle.node_journals.proofs.Lanes.{lane-begins, lane-waits, lane-takes}
-use Rattle.node_journals.proofs.laws.lanes_replay.Goals as goal
-
-pub returns : goal.returns
-returns c = record { begins = lane-begins; waits = lane-waits; takes = lane-takes c.runs_are_known.ensures c.keys_locate.ensures.small }

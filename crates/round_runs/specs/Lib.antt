@@ -1,3 +1,0 @@
--- `RoundRuns` says what calls make of a round, `Carrying` what becomes of a message by its fate.
-pub mod RoundRuns
-pub mod RoundShortages
