@@ -41,7 +41,7 @@ impl Model for Heard {
 }
 
 /// Where the row of a bucket stands, if it is one.
-fn place_of(rows: &[Row], bucket: Bucket) -> usize {
+pub fn place_of(rows: &[Row], bucket: Bucket) -> usize {
     let number = number_of(bucket);
     rows.partition_point(|row: &Row| number_of(row.bucket) < number)
 }
@@ -136,5 +136,13 @@ impl Heard {
         self.row_goes(at);
         self.row_comes(place_of(rows, first));
         self.row_comes(place_of(rows, second));
+    }
+    /// The rows of two places were joined; these are the rows now, and this one's is the bucket of both.
+    pub fn rows_join(&mut self, at: usize, other: usize, joined: Bucket, rows: &[Row])
+        ensures { self.new ≡ self.old }
+    {
+        self.row_goes(at.max(other));
+        self.row_goes(at.min(other));
+        self.row_comes(place_of(rows, joined));
     }
 }

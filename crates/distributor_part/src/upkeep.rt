@@ -4,6 +4,7 @@ ghost use Rattle.distributor_part.specs.declared.stage.Stage.TheVariants.{Before
 ghost use Rattle.distributor_part.specs.Parts.{rows_of};
 ghost use Rattle.distributor_part.specs.Upkeep.{AreTargetsAt, BeginsRoundAt, IsToBeActiveAt, LacksCompleteAt, AreToBeReadyAt, SplitsRow, CanJoinAt, JoinsRows, ActivatesAt, AcceptsAt, BeginsDelete, EndsDelete};
 
+use crate::heard::place_of;
 use crate::part::DistributorPart;
 use crate::stage::Stage;
 use crate::targets::{targets_of, to_be_active, to_be_ready};
@@ -128,8 +129,12 @@ impl DistributorPart {
         let Some(rows) = &mut self.rows else {
             unreachable!();
         };
+        let bucket = rows.rows()[at].bucket;
+        let other = place_of(rows.rows(), bucket.sibling());
         match rows.join_rows(at) {
-            Ok(()) => {}
+            Ok(()) => self
+                .heard
+                .rows_join(at, other, bucket.parent(), rows.rows()),
             Err(_) => unreachable!(),
         }
     }
