@@ -1,2 +1,4 @@
 pub mod Tokens
 pub mod Runs
+pub mod Index
+pub mod Kept

@@ -1,0 +1,4 @@
+mod ColumnLaws
+mod ListLaws
+mod NumberLaws
+mod KeptLaws

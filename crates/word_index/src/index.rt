@@ -1,0 +1,67 @@
+ghost use Rattle.std.specs.Prelude.{◌≡◌, OnOk, OnErr};
+ghost use Rattle.std.specs.FinMap as fin;
+ghost use Rattle.local_ids.specs.Rising.{IsRising};
+ghost use Rattle.word_index.specs.Index.{list_of, with_word, without_word};
+
+use crate::lists::{add_in, drop_in, list_in, tidy_in};
+use std::alloc::Global;
+use std::collections::BTreeMap;
+use std::marker::Model;
+use value_lists::NoMemory;
+
+/// Of each word the documents that have it, by local id. Words are compared as bytes.
+#[derive(Drop)]
+pub struct WordIndex {
+    lists: BTreeMap<String, Vec<u32>>,
+}
+
+impl Model for WordIndex {
+    ghost use Rattle.std.specs.FinMap as fin;
+    ghost use Rattle.std.specs.Coded.{coded_ℕ, coded_list};
+    ghost use Rattle.word_index.specs.Index.{Index, IsIndex};
+    ghost use Rattle.word_index.specs.Kept.{index_of};
+
+    ghost Value = { Index };
+
+    ghost coded = { fin.code (coded_list coded_ℕ) (coded_list coded_ℕ) };
+
+    ghost view = { λ w. index_of (λ v. v.items) w.lists };
+
+    ghost invariant = { λ w. IsIndex (index_of (λ v. v.items) w.lists) };
+}
+
+impl WordIndex {
+    /// No words.
+    pub fn new(alloc: Global) -> WordIndex
+        ensures { result ≡ fin.empty }
+    {
+        WordIndex {
+            lists: BTreeMap::new(alloc),
+        }
+    }
+
+    /// A document has a word. Takes the logarithm of the words, a binary search in the word's list, and the move of the
+    /// ids above it by four bytes each. The only error is want of memory.
+    pub fn add(&mut self, alloc: Global, token: &str, local: u32) -> Result<(), NoMemory>
+        ensures ok { OnOk result (self.new ≡ with_word token.now local self.old) }
+        ensures err { OnErr result (self.new ≡ self.old) }
+    {
+        add_in(alloc, &mut self.lists, token, local)
+    }
+
+    /// A document has a word no more. Takes what `add` takes, and no memory.
+    pub fn remove(&mut self, token: &str, local: u32)
+        ensures { self.new ≡ without_word token.now local self.old }
+    {
+        drop_in(&mut self.lists, token, local);
+        tidy_in(&mut self.lists, token);
+    }
+
+    /// The documents that have a word; takes no memory.
+    pub fn list(&self, token: &str) -> &[u32]
+        ensures ids { result.now ≡ list_of token.now self.now }
+        ensures rising { IsRising result.now }
+    {
+        list_in(&self.lists, token)
+    }
+}
