@@ -1,0 +1,4 @@
+-- Shared: other crates cite these.
+pub mod Measures
+-- Of this crate alone.
+mod Sums

@@ -1,0 +1,12 @@
+-- Shared: other crates cite these.
+pub mod RowLaws
+-- Of this crate alone.
+mod Members
+mod RegionLaws
+mod NodeLaws
+mod ViewLaws
+mod ShownLaws
+mod DeedLaws
+mod LaneLaws
+mod RoomLaws
+mod RoomSteps

@@ -1,0 +1,217 @@
+-- How often documents are counted, and keys covered.
+use Rattle.std.proofs.Common.{◌≡◌, ◌⊎◌, inl, inr, ℕ, zero, suc, ◌+◌, ◌<◌, ◌≤◌, ◌^◌, ◌||◌, ◌&&◌, ◌++◌, ◌==◌, Bool, true, false, cond, not, List, [], ◌∷◌, length, None, Some, refl, sym, ap, subst, ◌∙◌, arith}
+use mathlib.Core.Bool.{true≢false}
+use Rattle.std.specs.List.{AllByRecursion}
+use Rattle.std.specs.Str.{bytes_eq}
+use Rattle.std.proofs.lemmas.Bool.Decides.{nat_tests}
+use Rattle.bucket_ids.specs.Buckets.{Low, IsBucket, has_key}
+use Rattle.global_ids.specs.Keys.{key_of}
+use Rattle.lane_views.specs.Rows.{Rows, is_of, has_row}
+use Rattle.lane_views.specs.Views.{NodeView, in_regions, node_at}
+use Rattle.lane_views.specs.Kept.{AreDistinct, AreInside, AreParted, AreNodes, IsOver, AreNodesApart}
+use Rattle.lane_views.proofs.RowLaws.{same_id}
+use Rattle.coverage.specs.Covering.{times}
+use Rattle.coverage.proofs.Measures.{bounded, whole}
+use Rattle.search_laws.specs.Searches.{Seen, serves, places, node_places, times_counted, node_regions, serving_regions, covered, LieIn, NoneHas, AreLanes, SomeNode, SomeSeen, EachNode, EachSeen}
+
+one : Bool → ℕ
+one t = cond t 1 0
+
+-- ---- one node
+
+pub none-there : (id : List ℕ) (rows : Rows) → has_row id rows ≡ false → places id rows ≡ 0
+none-there id [] h = refl
+none-there id (r ∷ rows) h = by_test (is_of id r) h (none-there id rows)
+  where
+    by_test : (t : Bool) → (t || has_row id rows) ≡ false → (has_row id rows ≡ false → places id rows ≡ 0) → cond t 1 0 + places id rows ≡ 0
+    by_test true k ih = absurd (true≢false k)
+    by_test false k ih = omega (arith, ih k)
+
+-- a document stands there once at most, and only in a region
+once-there : (rs : List Low) (id : List ℕ) (rows : Rows) → AreDistinct rows → AreInside rs rows → places id rows ≤ cond (in_regions rs (key_of id)) 1 0
+once-there rs id [] d i = at_least (in_regions rs (key_of id))
+  where
+    at_least : (t : Bool) → 0 ≤ cond t 1 0
+    at_least true = omega arith
+    at_least false = omega arith
+once-there rs id (None ∷ rows) d i = let ih = once-there rs id rows d i in omega arith
+once-there rs id (Some e ∷ rows) d i = by_test (bytes_eq e.id id) refl (once-there rs id rows d.1 i.1)
+  where
+    by_test : (t : Bool) → bytes_eq e.id id ≡ t → places id rows ≤ cond (in_regions rs (key_of id)) 1 0 → cond t 1 0 + places id rows ≤ cond (in_regions rs (key_of id)) 1 0
+    by_test true is ih =
+        let same : e.id ≡ id = same_id e.id id is in
+        let in_region : in_regions rs (key_of id) ≡ true = subst (λ (x : List ℕ). in_regions rs (key_of x) ≡ true) same i.0 in
+        let rest : places id rows ≡ 0 = none-there id rows (subst (λ (x : List ℕ). has_row x rows ≡ false) same d.0) in
+        let all : ◌≡◌ {A = ℕ} (cond (in_regions rs (key_of id)) 1 0) 1 = ap (λ t. cond t 1 0) in_region in
+        omega (arith, rest, all)
+    by_test false is ih = omega (arith, ih)
+
+-- regions without a common key have a key once at most
+pub times-parted : (rs : List Low) → AreParted rs → (key : ℕ) → times rs key ≡ cond (in_regions rs key) 1 0
+times-parted [] p key = refl
+times-parted (r ∷ rs) p key = by_test (has_key r key) refl (times-parted rs p.2 key)
+  where
+    by_test : (t : Bool) → has_key r key ≡ t → times rs key ≡ cond (in_regions rs key) 1 0 → cond t 1 0 + times rs key ≡ cond (t || in_regions rs key) 1 0
+    by_test true e ih = let none : ◌≡◌ {A = ℕ} (cond (in_regions rs key) 1 0) 0 = ap (λ t. cond t 1 0) (p.1 key e) in omega (arith, ih, none)
+    by_test false e ih = omega (arith, ih)
+
+pub times-append : (xs ys : List Low) (key : ℕ) → times (xs ++ ys) key ≡ times xs key + times ys key
+times-append [] ys key = omega arith
+times-append (x ∷ xs) ys key = omega (arith, times-append xs ys key)
+
+-- ---- the nodes of a lane
+
+-- a document is times_counted no more often than its key is covered
+pub nodes-times_counted : (w : ℕ) (id : List ℕ) (ns : List NodeView) → AreNodes ns → node_places w id ns ≤ times (node_regions w ns) (key_of id)
+nodes-times_counted w id [] h = omega arith
+nodes-times_counted w id (n ∷ ns) h = by_test (serves w n) (nodes-times_counted w id ns h.1)
+  where
+    by_test : (t : Bool) → node_places w id ns ≤ times (node_regions w ns) (key_of id) → cond t (places id n.rows) 0 + node_places w id ns ≤ times (cond t n.regions [] ++ node_regions w ns) (key_of id)
+    by_test true ih =
+        let here : places id n.rows ≤ cond (in_regions n.regions (key_of id)) 1 0 = once-there n.regions id n.rows (h.0).distinct (h.0).inside in
+        let parted : times n.regions (key_of id) ≡ cond (in_regions n.regions (key_of id)) 1 0 = times-parted n.regions (h.0).regions (key_of id) in
+        let sum : times (n.regions ++ node_regions w ns) (key_of id) ≡ times n.regions (key_of id) + times (node_regions w ns) (key_of id) = times-append n.regions (node_regions w ns) (key_of id) in
+        omega (arith, ih, here, parted, sum)
+    by_test false ih = omega (arith, ih)
+
+serving-version : (w : ℕ) (n : NodeView) → serves w n ≡ true → n.version ≡ w
+serving-version w n h = by_test (n.version == w) refl h
+  where
+    by_test : (t : Bool) → (n.version == w) ≡ t → (t && not n.stopped) ≡ true → n.version ≡ w
+    by_test true e g = grind (arith, nat_tests)
+    by_test false e g = absurd (true≢false (sym g))
+
+tail-apart : (n : NodeView) (ns : List NodeView) → AreNodesApart (n ∷ ns) → AreNodesApart ns
+tail-apart n ns h w key i j li lj oi oj = let e : suc i ≡ suc j = h w key (suc i) (suc j) (omega arith) (omega arith) oi oj in omega arith
+
+-- where no node of the version is over a key, no region has it
+uncovered : (w key : ℕ) (ns : List NodeView) → AreNodes ns → ((i : ℕ) → i < length ns → IsOver w key (node_at i ns) → ⊥) → times (node_regions w ns) key ≡ 0
+uncovered w key [] h f = refl
+uncovered w key (n ∷ ns) h f = by_test (serves w n) refl (uncovered w key ns h.1 (λ i l o. f (suc i) (omega (arith, l)) o))
+  where
+    none : (t : Bool) → in_regions n.regions key ≡ t → serves w n ≡ true → t ≡ false
+    none true e s = absurd (f zero (omega arith) (serving-version w n s, e))
+    none false e s = refl
+
+    by_test : (t : Bool) → serves w n ≡ t → times (node_regions w ns) key ≡ 0 → times (cond t n.regions [] ++ node_regions w ns) key ≡ 0
+    by_test true s ih =
+        let no_key : ◌≡◌ {A = ℕ} (cond (in_regions n.regions key) 1 0) 0 = ap (λ t. cond t 1 0) (none (in_regions n.regions key) refl s) in
+        omega (arith, ih, no_key, times-parted n.regions (h.0).regions key, times-append n.regions (node_regions w ns) key)
+    by_test false s ih = ih
+
+-- the nodes of one version cover a key once at most
+nodes-once : (w key : ℕ) (ns : List NodeView) → AreNodes ns → AreNodesApart ns → times (node_regions w ns) key ≤ 1
+nodes-once w key [] h a = omega arith
+nodes-once w key (n ∷ ns) h a = by_test (serves w n) refl (nodes-once w key ns h.1 (tail-apart n ns a))
+  where
+    split : times (n.regions ++ node_regions w ns) key ≡ times n.regions key + times (node_regions w ns) key
+    split = times-append n.regions (node_regions w ns) key
+
+    by_key : (t : Bool) → in_regions n.regions key ≡ t → serves w n ≡ true → times (node_regions w ns) key ≤ 1 → times (n.regions ++ node_regions w ns) key ≤ 1
+    by_key true e s ih =
+        let rest : times (node_regions w ns) key ≡ 0 = uncovered w key ns h.1 (λ i l o. let same : zero ≡ suc i = a w key zero (suc i) (omega arith) (omega (arith, l)) (serving-version w n s, e) o in absurd (omega arith)) in
+        let here : ◌≡◌ {A = ℕ} (cond (in_regions n.regions key) 1 0) 1 = ap (λ t. cond t 1 0) e in
+        omega (arith, split, rest, here, times-parted n.regions (h.0).regions key)
+    by_key false e s ih =
+        let here : ◌≡◌ {A = ℕ} (cond (in_regions n.regions key) 1 0) 0 = ap (λ t. cond t 1 0) e in
+        omega (arith, split, ih, here, times-parted n.regions (h.0).regions key)
+
+    by_test : (t : Bool) → serves w n ≡ t → times (node_regions w ns) key ≤ 1 → times (cond t n.regions [] ++ node_regions w ns) key ≤ 1
+    by_test true s ih = by_key (in_regions n.regions key) refl s ih
+    by_test false s ih = ih
+
+-- only keys of the lane are covered
+outside-lane : (w key : ℕ) (lane : Low) (ns : List NodeView) → AreNodes ns → LieIn lane ns → has_key lane key ≡ false → times (node_regions w ns) key ≡ 0
+outside-lane w key lane [] h i no_lane = refl
+outside-lane w key lane (n ∷ ns) h i no_lane = by_test (serves w n) (outside-lane w key lane ns h.1 i.1 no_lane)
+  where
+    none : (t : Bool) → in_regions n.regions key ≡ t → t ≡ false
+    none true e = absurd (true≢false (sym (i.0 key e) ∙ no_lane))
+    none false e = refl
+
+    by_test : (t : Bool) → times (node_regions w ns) key ≡ 0 → times (cond t n.regions [] ++ node_regions w ns) key ≡ 0
+    by_test true ih =
+        let no_key : ◌≡◌ {A = ℕ} (cond (in_regions n.regions key) 1 0) 0 = ap (λ t. cond t 1 0) (none (in_regions n.regions key) refl) in
+        omega (arith, ih, no_key, times-parted n.regions (h.0).regions key, times-append n.regions (node_regions w ns) key)
+    by_test false ih = ih
+
+-- ---- all lanes
+
+lanes-outside : (w key : ℕ) (ls : List Seen) → AreLanes ls → NoneHas key ls → times (serving_regions w ls) key ≡ 0
+lanes-outside w key [] h o = refl
+lanes-outside w key (l ∷ ls) h o =
+    omega (arith, lanes-outside w key ls h.3 o.1, outside-lane w key l.lane (l.view).nodes (h.0).nodes h.1 o.0, times-append (node_regions w (l.view).nodes) (serving_regions w ls) key)
+
+pub lanes-once : (w key : ℕ) (ls : List Seen) → AreLanes ls → times (serving_regions w ls) key ≤ 1
+lanes-once w key [] h = omega arith
+lanes-once w key (l ∷ ls) h = by_test (lanes-once w key ls h.3) (has_key l.lane key) refl
+  where
+    split : times (node_regions w (l.view).nodes ++ serving_regions w ls) key ≡ times (node_regions w (l.view).nodes) key + times (serving_regions w ls) key
+    split = times-append (node_regions w (l.view).nodes) (serving_regions w ls) key
+
+    by_test : times (serving_regions w ls) key ≤ 1 → (t : Bool) → has_key l.lane key ≡ t → times (serving_regions w (l ∷ ls)) key ≤ 1
+    by_test ih true e = omega (arith, split, nodes-once w key (l.view).nodes (h.0).nodes (h.0).apart, lanes-outside w key ls h.3 (h.2 key e))
+    by_test ih false e = omega (arith, split, outside-lane w key l.lane (l.view).nodes (h.0).nodes h.1 e, ih)
+
+pub lanes-times_counted : (w : ℕ) (id : List ℕ) (ls : List Seen) → AreLanes ls → times_counted w id ls ≤ times (serving_regions w ls) (key_of id)
+lanes-times_counted w id [] h = omega arith
+lanes-times_counted w id (l ∷ ls) h =
+    omega (arith, nodes-times_counted w id (l.view).nodes (h.0).nodes, lanes-times_counted w id ls h.3, times-append (node_regions w (l.view).nodes) (serving_regions w ls) (key_of id))
+
+-- each document is times_counted once at most
+pub times_counted-once : (w : ℕ) (id : List ℕ) (ls : List Seen) → AreLanes ls → times_counted w id ls ≤ 1
+times_counted-once w id ls h = omega (arith, lanes-times_counted w id ls h, lanes-once w (key_of id) ls h)
+
+-- ---- the measures of regions
+
+buckets-append : (xs ys : List Low) → AllByRecursion IsBucket xs → AllByRecursion IsBucket ys → AllByRecursion IsBucket (xs ++ ys)
+buckets-append [] ys a b = b
+buckets-append (x ∷ xs) ys a b = (a.0, buckets-append xs ys a.1 b)
+
+buckets-parted : (rs : List Low) → AreParted rs → AllByRecursion IsBucket rs
+buckets-parted [] p = tt
+buckets-parted (r ∷ rs) p = (p.0, buckets-parted rs p.2)
+
+buckets-nodes : (w : ℕ) (ns : List NodeView) → AreNodes ns → AllByRecursion IsBucket (node_regions w ns)
+buckets-nodes w [] h = tt
+buckets-nodes w (n ∷ ns) h = by_test (buckets-nodes w ns h.1) (serves w n)
+  where
+    by_test : AllByRecursion IsBucket (node_regions w ns) → (t : Bool) → AllByRecursion IsBucket (cond t n.regions [] ++ node_regions w ns)
+    by_test ih true = buckets-append n.regions (node_regions w ns) (buckets-parted n.regions (h.0).regions) ih
+    by_test ih false = ih
+
+buckets-lanes : (w : ℕ) (ls : List Seen) → AreLanes ls → AllByRecursion IsBucket (serving_regions w ls)
+buckets-lanes w [] h = tt
+buckets-lanes w (l ∷ ls) h = buckets-append (node_regions w (l.view).nodes) (serving_regions w ls) (buckets-nodes w (l.view).nodes (h.0).nodes) (buckets-lanes w ls h.3)
+
+pub covered-bounded : (w : ℕ) (ls : List Seen) → AreLanes ls → covered w ls ≤ 2 ^ 58
+covered-bounded w ls h = bounded (serving_regions w ls) (buckets-lanes w ls h) (λ key l. lanes-once w key ls h)
+
+pub all-covered : (w : ℕ) (ls : List Seen) → AreLanes ls → covered w ls ≡ 2 ^ 58 → (key : ℕ) → key < 2 ^ 58 → times (serving_regions w ls) key ≡ 1
+all-covered w ls h full = whole (serving_regions w ls) (buckets-lanes w ls h) (λ key l. lanes-once w key ls h) full
+
+-- ---- who covers a key
+
+covering-node : (w key : ℕ) (P : NodeView → Type 0) (ns : List NodeView) → AreNodes ns → EachNode w P ns → 1 ≤ times (node_regions w ns) key → SomeNode w key P ns
+covering-node w key P [] h f c = absurd (omega arith)
+covering-node w key P (n ∷ ns) h f c = by_tests (serves w n) (in_regions n.regions key) refl refl c (covering-node w key P ns h.1 f.1)
+  where
+    by_tests : (s t : Bool) → serves w n ≡ s → in_regions n.regions key ≡ t → 1 ≤ times (cond s n.regions [] ++ node_regions w ns) key → (1 ≤ times (node_regions w ns) key → SomeNode w key P ns)
+        → ((serves w n ≡ true) × (in_regions n.regions key ≡ true) × P n) ⊎ SomeNode w key P ns
+    by_tests true true s e d ih = inl (s, e, f.0 s)
+    by_tests true false s e d ih =
+        let here : ◌≡◌ {A = ℕ} (cond (in_regions n.regions key) 1 0) 0 = ap (λ t. cond t 1 0) e in
+        inr (ih (omega (arith, d, here, times-parted n.regions (h.0).regions key, times-append n.regions (node_regions w ns) key)))
+    by_tests false t s e d ih = inr (ih d)
+
+covering-lane : (w key : ℕ) (P : NodeView → Type 0) (ls : List Seen) → AreLanes ls → EachSeen w P ls → 1 ≤ times (serving_regions w ls) key → SomeSeen w key P ls
+covering-lane w key P [] h f c = absurd (omega arith)
+covering-lane w key P (l ∷ ls) h f c = by_lane (times (node_regions w (l.view).nodes) key) refl (covering-lane w key P ls h.3 f.1)
+  where
+    by_lane : (k : ℕ) → times (node_regions w (l.view).nodes) key ≡ k → (1 ≤ times (serving_regions w ls) key → SomeSeen w key P ls) → SomeNode w key P (l.view).nodes ⊎ SomeSeen w key P ls
+    by_lane zero e ih = inr (ih (omega (arith, c, times-append (node_regions w (l.view).nodes) (serving_regions w ls) key)))
+    by_lane (suc k) e ih = inl (covering-node w key P (l.view).nodes (h.0).nodes f.0 (omega arith))
+
+-- at full coverage each key lies in a region of a node that serves, and what holds of such nodes holds of it
+pub found-at-full : (w : ℕ) (P : NodeView → Type 0) (ls : List Seen) → AreLanes ls → EachSeen w P ls → covered w ls ≡ 2 ^ 58 → (key : ℕ) → key < 2 ^ 58 → SomeSeen w key P ls
+found-at-full w P ls h f full key low = covering-lane w key P ls h f (omega (arith, all-covered w ls h full key low))
