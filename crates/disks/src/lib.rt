@@ -20,6 +20,8 @@ pub mod keeping;
 mod leaving;
 pub mod memory;
 mod spread;
+#[cfg(test)]
+mod tests;
 
 pub use disk::Disk;
 pub use keeping::keep;

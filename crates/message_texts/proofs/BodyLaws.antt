@@ -1,19 +1,17 @@
 -- Bodies are read again.
-use Rattle.std.proofs.Common.{◌≡◌, ◌∙◌, ◌<◌, ◌^◌, ℕ, List, Option, Some, None, option_map, option_and_then, refl, sym, ap}
-use Rattle.serde_json.specs.Data.{Data, object, put}
+use Rattle.std.proofs.Common.{◌≡◌, ◌∙◌, ◌^◌, ℕ, List, Option, Some, None, option_map, option_and_then, refl, ap}
+use Rattle.serde_json.specs.Data.{Data}
 use Rattle.std.specs.Prelude.{codes}
 use Rattle.bucket_ids.specs.Buckets.{Low, IsBucket}
 use Rattle.bucket_ids.specs.Printed.{printed}
 use Rattle.doc_types.specs.SchemaCodes.{Types}
-use Rattle.documents.specs.declared.entry.Entry.{Entry}
-use Rattle.entry_maps.specs.EntryCodes.{Entries}
 use Rattle.messages.specs.declared.body.Body.{Body}
 use Rattle.messages.specs.declared.body.Body.TheVariants as body
 use Rattle.messages.specs.declared.message.Message.{Message}
 use Rattle.message_texts.specs.Bodies.{some_id, on_bucket, body_in}
-use Rattle.message_texts.specs.Fitting.{Fits, FitsBody}
-use Rattle.message_texts.specs.Parts.{bucket_in, below}
-use Rattle.message_texts.specs.Texts.{message_data, message_by, said_by}
+use Rattle.message_texts.specs.Fitting.{FitsBody}
+use Rattle.message_texts.specs.Parts.{bucket_in}
+use Rattle.message_texts.specs.Texts.{message_data}
 use Rattle.message_texts.proofs.BucketLaws.{printed_bucket}
 use Rattle.message_texts.proofs.EntryLaws.{AreRead, entry_back, map_back}
 use Rattle.message_texts.proofs.PartLaws.{read_id, small_below}

@@ -1,5 +1,5 @@
 -- Texts of buckets.
-use Rattle.std.proofs.Common.{◌≡◌, ◌≢◌, ◌∙◌, ℕ, zero, suc, ◌+◌, ◌*◌, ◌/◌, ◌%◌, ◌^◌, ◌<◌, ◌≤◌, Bool, true, false, cond, ◌&&◌, nat_lt, nat_le, List, [], ◌∷◌, ◌++◌, Option, Some, None, refl, sym, ap, subst, arith}
+use Rattle.std.proofs.Common.{◌≡◌, ◌≢◌, ◌∙◌, ℕ, zero, suc, ◌+◌, ◌*◌, ◌/◌, ◌%◌, ◌^◌, ◌<◌, ◌≤◌, Bool, true, false, cond, ◌&&◌, nat_lt, nat_le, List, Some, None, refl, ap, arith}
 use Rattle.std.specs.Char.{digit_value}
 use Rattle.std.specs.Str.{bytes_eq}
 use Rattle.std.specs.Str.Parse.{digits_value}
@@ -66,10 +66,13 @@ printed_bucket b is =
     ap (λ (a : Low). cond (is_printed (printed b) a) (Some a) None) (by_back b is)
     ∙ ap (λ (t : Bool). cond t (Some b) None) (its_own b is)
 
--- and a text of none is no bucket's
-pub no_bucket : (text : List ℕ) → ((b : Low) → IsBucket b → text ≢ printed b) → bucket_in text ≡ None
-unfolding bucket_in
-no_bucket text none = by (is_printed text (bucket_by text)) refl
+-- what stands in a bucket's text is a bucket
+pub is_bucket : (text : List ℕ) (b : Low) → is_printed text b ≡ true → IsBucket b
+is_bucket text b e =
+    let h = and_parts (nat_le 1 b.bits && (nat_le b.bits 58 && nat_lt b.low (2 ^ b.bits))) (bytes_eq text (printed b)) e in
+    let r = and_parts (nat_le 1 b.bits) (nat_le b.bits 58 && nat_lt b.low (2 ^ b.bits)) h.0 in
+    let s = and_parts (nat_le b.bits 58) (nat_lt b.low (2 ^ b.bits)) r.1 in
+    record { some = least 1 b.bits r.0; most = least b.bits 58 s.0; fits = lower b.low (2 ^ b.bits) s.1 }
   where
     least : (a b : ℕ) → nat_le a b ≡ true → a ≤ b
     least a b e = grind (arith, nat_tests)
@@ -77,11 +80,13 @@ no_bucket text none = by (is_printed text (bucket_by text)) refl
     lower : (a b : ℕ) → nat_lt a b ≡ true → a < b
     lower a b e = grind (arith, nat_tests)
 
+-- and a text of none is no bucket's
+pub no_bucket : (text : List ℕ) → ((b : Low) → IsBucket b → text ≢ printed b) → bucket_in text ≡ None
+unfolding bucket_in
+no_bucket text none = by (is_printed text (bucket_by text)) refl
+  where
     by : (t : Bool) → is_printed text (bucket_by text) ≡ t → cond t (Some (bucket_by text)) None ≡ None
     by false e = refl
     by true e =
         let b = bucket_by text in
-        let h = and_parts (nat_le 1 b.bits && (nat_le b.bits 58 && nat_lt b.low (2 ^ b.bits))) (bytes_eq text (printed b)) e in
-        let r = and_parts (nat_le 1 b.bits) (nat_le b.bits 58 && nat_lt b.low (2 ^ b.bits)) h.0 in
-        let s = and_parts (nat_le b.bits 58) (nat_lt b.low (2 ^ b.bits)) r.1 in
-        absurd (none b (record { some = least 1 b.bits r.0; most = least b.bits 58 s.0; fits = lower b.low (2 ^ b.bits) s.1 }) ((bytes_eq-Decides text (printed b)).0 h.1))
+        absurd (none b (is_bucket text b e) ((bytes_eq-Decides text (printed b)).0 (and_parts (nat_le 1 b.bits && (nat_le b.bits 58 && nat_lt b.low (2 ^ b.bits))) (bytes_eq text (printed b)) e).1))

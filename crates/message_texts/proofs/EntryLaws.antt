@@ -1,15 +1,14 @@
 -- Entries are read again.
-use Rattle.std.proofs.Common.{◌≡◌, ◌≢◌, ◌∙◌, ◌≤◌, ◌+◌, ℕ, max, Bool, true, false, cond, ◌&&◌, ◌||◌, List, [], ◌∷◌, map, Option, Some, None, option_and_then, is_some, Result, Ok, refl, sym, ap, subst, arith}
+use Rattle.std.proofs.Common.{◌≡◌, ◌∙◌, ◌≤◌, ℕ, Bool, true, false, cond, ◌&&◌, List, [], ◌∷◌, map, Option, Some, None, option_and_then, is_some, Ok, refl, sym, ap, subst}
 use mathlib.Core.Bool.{true≢false}
 use Rattle.std.specs.FinMap as fin
 use Rattle.std.specs.FinMap.{get-insert, get-empty, same_map, slice_cmp-IsAntisymmetric, nat_cmp-IsAntisymmetric}
 use Rattle.std.specs.Cmp.{eq_by_cmp_equiv}
 use Rattle.std.specs.Cmp.Lexicographic.{nat_list_cmp_total}
 use Rattle.std.specs.Ordering.{eq_by_cmp}
-use Rattle.serde_json.specs.Data.{Data, Items, Members}
 use Rattle.serde_json.specs.View.{items_of}
 use Rattle.bucket_ids.specs.Buckets.{Low}
-use Rattle.document_ids.specs.Grammar.{Parts, HasParts, IsId}
+use Rattle.document_ids.specs.Grammar.{Parts, HasParts}
 use Rattle.document_ids.specs.Parts.{parts_of, type_of}
 use Rattle.stamps.specs.declared.stamp.Stamp.{Stamp}
 use Rattle.stamps.specs.Printed.{printed, IsStamp, stamp_in}
@@ -25,7 +24,7 @@ use Rattle.entry_maps.specs.Entries.{by_id, in_bucket, is_newer, with_entry}
 use Rattle.json_documents.specs.DocumentFaults.{document_fault}
 use Rattle.json_documents.specs.Json.{fields_in, fields_json}
 use Rattle.message_texts.specs.ByKey.{by_key}
-use Rattle.message_texts.specs.Entries.{fields_data, entry_data, document_fits, if_fits, body_in, entry_by, body_under, entry_in, joined, gathered}
+use Rattle.message_texts.specs.Entries.{fields_data, entry_data, if_fits, body_in, entry_by, body_under, entry_in, joined, gathered}
 use Rattle.message_texts.specs.Fitting.{FitsDocument, FitsIfThere, FitsEntry, FitsAt, FitEntries}
 use Rattle.message_texts.specs.Parts.{id_in}
 use Rattle.message_texts.proofs.PartLaws.{read_id}
@@ -43,6 +42,31 @@ pub record AreRead : Type 0 where
 
 same_contents : (a b : Contents) → a.id ≡ b.id → a.fields ≡ b.fields → a ≡ b
 same_contents a b p q = λ i. record { id = p i; fields = q i }
+
+-- ---- all entries of a map fit
+
+module _ (types : Types) where
+  -- each entry fits, and its key lies in the bucket
+  abbrev pub AllFit : Low → List Entry → Type 0
+  AllFit b [] = Unit {0}
+  AllFit b (e ∷ es) = (FitsEntry types e × (in_bucket b e.id ≡ true)) × AllFit b es
+
+  found_later : (e : Entry) (b : Bool) (o : Option Entry) → (b ≡ true → o ≡ None) → (f : Entry) → o ≡ Some f → cond b (Some e) o ≡ Some f
+  found_later e true o none f is = absurd (true≢false (ap is_some (sym is ∙ none refl)))
+  found_later e false o none f is = is
+
+  id_itself : (a : List ℕ) → eq_by_cmp id_cmp a a ≡ true
+  id_itself a = (eq_by_cmp_equiv nat_list_cmp_total).refl a
+
+  pub all_fit : (b : Low) (es : List Entry) → AreApart es → ((q : List ℕ) (e : Entry) → fin.find id_cmp q (by_id es) ≡ Some e → FitsAt types b q e) → AllFit b es
+  all_fit b [] apart fit = tt
+  all_fit b (e ∷ es) apart fit =
+      let here = fit e.id e (ap (λ (t : Bool). cond t (Some e) (fin.find id_cmp e.id (by_id es))) (id_itself e.id)) in (
+        (here.entry, here.inside),
+        all_fit b es apart.1 (λ q f is. fit q f (found_later e (eq_by_cmp id_cmp q e.id) (fin.find id_cmp q (by_id es)) (λ t. ap (λ (i : List ℕ). fin.find id_cmp i (by_id es)) (one_id q e.id t) ∙ apart.0) f is)),
+      )
+
+-- ---- they are read again
 
 module _ (read : AreRead) (types : Types) where
   -- a document that fits is read again
@@ -88,11 +112,6 @@ module _ (read : AreRead) (types : Types) where
       ∙ ap (or_else (fin.find id_cmp q (by_id es))) (get-insert nat_list_cmp_total m e.id e q)
       ∙ cond_else (eq_by_cmp id_cmp q e.id) e (fin.find id_cmp q (by_id es)) (fin.get m q) (λ t. ap (λ (i : List ℕ). fin.find id_cmp i (by_id es)) (one_id q e.id t) ∙ apart.0)
 
-  -- each entry fits, and its key lies in the bucket
-  abbrev AllFit : Low → List Entry → Type 0
-  AllFit b [] = Unit {0}
-  AllFit b (e ∷ es) = (FitsEntry types e × (in_bucket b e.id ≡ true)) × AllFit b es
-
   -- none of them is in a map
   abbrev AreNew : Entries → List Entry → Type 0
   AreNew m [] = Unit {0}
@@ -119,7 +138,7 @@ module _ (read : AreRead) (types : Types) where
       ap (λ (t : Bool). cond (t && is_newer e (fin.get m e.id)) (Some (with_entry m e)) None) inside
       ∙ ap (λ (t : Bool). cond t (Some (cond t (fin.insert m e.id e) m)) None) newer
 
-  gathers : (b : Low) (es : List Entry) (m : Entries) → AllFit b es → AreNew m es → AreApart es → gathered types b m (items_of (map entry_data es)) ≡ Some (filled m es)
+  gathers : (b : Low) (es : List Entry) (m : Entries) → AllFit types b es → AreNew m es → AreApart es → gathered types b m (items_of (map entry_data es)) ≡ Some (filled m es)
   gathers b [] m fit new apart = refl
   gathers b (e ∷ es) m fit new apart =
       let rest : Entries → Option Entries = λ n. gathered types b n (items_of (map entry_data es)) in
@@ -130,21 +149,6 @@ module _ (read : AreRead) (types : Types) where
   all_new : (es : List Entry) → AreNew fin.empty es
   all_new [] = tt
   all_new (e ∷ es) = (get-empty id_cmp e.id, all_new es)
-
-  found_later : (e : Entry) (b : Bool) (o : Option Entry) → (b ≡ true → o ≡ None) → (f : Entry) → o ≡ Some f → cond b (Some e) o ≡ Some f
-  found_later e true o none f is = absurd (true≢false (ap is_some (sym is ∙ none refl)))
-  found_later e false o none f is = is
-
-  id_itself : (a : List ℕ) → eq_by_cmp id_cmp a a ≡ true
-  id_itself a = (eq_by_cmp_equiv nat_list_cmp_total).refl a
-
-  all_fit : (b : Low) (es : List Entry) → AreApart es → ((q : List ℕ) (e : Entry) → fin.find id_cmp q (by_id es) ≡ Some e → FitsAt types b q e) → AllFit b es
-  all_fit b [] apart fit = tt
-  all_fit b (e ∷ es) apart fit =
-      let here = fit e.id e (ap (λ (t : Bool). cond t (Some e) (fin.find id_cmp e.id (by_id es))) (id_itself e.id)) in (
-        (here.entry, here.inside),
-        all_fit b es apart.1 (λ q f is. fit q f (found_later e (eq_by_cmp id_cmp q e.id) (fin.find id_cmp q (by_id es)) (λ t. ap (λ (i : List ℕ). fin.find id_cmp i (by_id es)) (one_id q e.id t) ∙ apart.0) f is)),
-      )
 
   else_empty : (o : Option Entry) (q : List ℕ) → or_else o (fin.get (fin.empty {X = Entry} {R = id_cmp}) q) ≡ o
   else_empty None q = get-empty id_cmp q
@@ -157,6 +161,6 @@ module _ (read : AreRead) (types : Types) where
       let es = by_key m in
       let apart = apart_by_key m in
       let some : Entries → Option Entries = λ n. Some n in
-      gathers b es fin.empty (all_fit b es apart (λ q e is. fit q e (sym (find_by_key m q own) ∙ is))) (all_new es) apart
+      gathers b es fin.empty (all_fit types b es apart (λ q e is. fit q e (sym (find_by_key m q own) ∙ is))) (all_new es) apart
       ∙ ap some (same_map nat_list_cmp_total (slice_cmp-IsAntisymmetric nat_cmp-IsAntisymmetric) (filled fin.empty es) m (λ q.
       get_filled es fin.empty q apart ∙ else_empty (fin.find id_cmp q (by_id es)) q ∙ find_by_key m q own))

@@ -1,8 +1,11 @@
+mod PrintLaws
 mod BucketLaws
 mod PartLaws
 mod FitLaws
 mod OrderLaws
 mod JoinLaws
 mod EntryLaws
+mod PlainLaws
 mod BodyLaws
 mod TextLaws
+mod ReadLaws

@@ -1,11 +1,9 @@
 -- What is read of ids, stamps and numbers.
-use Rattle.std.proofs.Common.{◌≡◌, ◌≢◌, ◌∙◌, ℕ, ◌<◌, ◌^◌, Bool, true, false, cond, nat_lt, List, Option, Some, None, Result, Ok, Err, refl, sym, ap, subst, arith}
+use Rattle.std.proofs.Common.{◌≡◌, ◌≢◌, ◌∙◌, ℕ, ◌<◌, Bool, true, cond, nat_lt, List, Option, Some, None, Ok, sym, ap, arith}
 use Rattle.std.specs.Option.{MatchOption}
 use Rattle.std.proofs.lemmas.Bool.Decides.{nat_tests}
 use Rattle.document_ids.specs.Grammar.{Parts, HasParts, IsId}
 use Rattle.document_ids.specs.Parts.{parts_of}
-use Rattle.document_ids.specs.declared.fault.IdFault.{IdFault}
-use Rattle.document_ids.specs.declared.fault.IdFault.TheVariants as fault
 use Rattle.stamps.specs.declared.stamp.Stamp.{Stamp}
 use Rattle.stamps.specs.Printed.{printed, IsStamp, stamp_in}
 use Rattle.message_texts.specs.Parts.{id_by, id_in, below}

@@ -1,21 +1,20 @@
 -- The text of a message is read again.
-use Rattle.std.proofs.Common.{◌≡◌, ◌∙◌, ◌≤◌, ◌<◌, ◌+◌, ◌^◌, ℕ, suc, max, Bool, true, false, cond, ◌||◌, List, [], ◌∷◌, map, Option, Some, None, option_and_then, refl, sym, ap, subst, arith}
+use Rattle.std.proofs.Common.{◌≡◌, ◌∙◌, ◌≤◌, ◌<◌, ◌^◌, ℕ, Bool, true, false, cond, ◌||◌, List, [], ◌∷◌, map, Option, Some, None, option_and_then, refl, ap, arith}
 use Rattle.std.specs.FinMap as fin
 use Rattle.std.specs.Prelude.{codes, ℤ, pos, negsuc}
-use Rattle.std.specs.Str.{bytes_eq, is_utf8, IsUtf8}
+use Rattle.std.specs.Str.{bytes_eq, IsUtf8}
 use Rattle.std.proofs.lemmas.Slice.Eq.{bytes_eq-Decides}
 use Rattle.std.proofs.lemmas.Str.{is_utf8-from_IsUtf8}
-use Rattle.serde_json.specs.Data.{Data, string, array, object, Items, Members, depth, items_depth, members_depth}
+use Rattle.serde_json.specs.Data.{Data, string, depth, items_depth, members_depth}
 use Rattle.serde_json.specs.Read.{read, max_depth}
 use Rattle.serde_json.specs.View.{items_of}
 use Rattle.serde_json.specs.Written.{has_float, items_have_float, members_have_float}
-use Rattle.bucket_ids.specs.Buckets.{Low}
 use Rattle.doc_types.specs.SchemaCodes.{Types}
 use Rattle.doc_types.specs.declared.values.FieldValue.{FieldValue}
 use Rattle.doc_types.specs.declared.values.FieldValue.TheVariants.{Int, Text, Ints, Texts}
 use Rattle.documents.specs.Fields.{Contents}
 use Rattle.documents.specs.declared.entry.Entry.{Entry}
-use Rattle.json_documents.specs.Json.{number_json, value_json, members_json, fields_json}
+use Rattle.json_documents.specs.Json.{number_json, value_json, members_json}
 use Rattle.messages.specs.declared.body.Body.{Body}
 use Rattle.messages.specs.declared.body.Body.TheVariants as body
 use Rattle.messages.specs.declared.message.Message.{Message}
@@ -24,9 +23,11 @@ use Rattle.message_texts.specs.ByKey.{by_key}
 use Rattle.message_texts.specs.Entries.{fields_data, entry_data}
 use Rattle.message_texts.specs.Fitting.{Fits}
 use Rattle.message_texts.specs.Parts.{below, number_at}
-use Rattle.message_texts.specs.Texts.{message_data, text_of, message_by, said_by, if_text, value_in, message_in}
+use Rattle.message_texts.specs.Texts.{message_data, text_of, message_by, said_by, if_text, value_in, message_in, IsTextOf}
 use Rattle.message_texts.proofs.EntryLaws.{AreRead}
 use Rattle.message_texts.proofs.BodyLaws.{body_back}
+use Rattle.message_texts.proofs.PlainLaws.{message_plain}
+use Rattle.message_texts.proofs.PrintLaws.{text_back}
 use Rattle.message_texts.proofs.PartLaws.{small_below}
 
 -- ---- how deep it nests
@@ -175,6 +176,12 @@ text_reads are types m text is utf8 said fits =
     ∙ ap (λ (o : Option Data). option_and_then (if_text text) (option_and_then (said_by types) o)) said
     ∙ ap (option_and_then (if_text text)) (said_back are types m fits)
     ∙ ap (λ (t : Bool). cond t (Some m) None) ((bytes_eq-Decides text (text_of m)).1 is)
+
+-- its text is read as that message, by the definitions alone
+pub its_text_reads : AreRead → (types : Types) (m : Message) (text : List ℕ) → IsTextOf types m text → message_in types text ≡ Some m
+unfolding text_of
+its_text_reads are types m text its =
+    text_reads are types m text its.is its.utf8 (ap read its.is ∙ text_back (message_data m) (message_plain types m its.fits) (is_shallow m)) its.fits
 
 -- ---- what a reader finds
 

@@ -1,8 +1,8 @@
 -- Entries in JSON.
-use Rattle.std.specs.Prelude.{◌==◌, ◌&&◌, ◌^◌, ℕ, ℤ, pos, negsuc, Bool, true, false, List, [], ◌∷◌, length, nat_lt, nat_le, codes, is_some, Option, Some, None, option_map, option_and_then, if◌then◌else◌}
+use Rattle.std.specs.Prelude.{◌&&◌, ◌^◌, ℕ, ℤ, pos, negsuc, Bool, true, false, List, length, nat_lt, nat_le, codes, is_some, Option, Some, None, option_and_then, if◌then◌else◌}
 use Rattle.std.specs.FinMap as fin
 use Rattle.std.specs.List.{list_all}
-use Rattle.serde_json.specs.Data.{Data, null, boolean, number, string, array, object, Items, no_items, item, Members, no_members, put}
+use Rattle.serde_json.specs.Data.{Data, null, boolean, number, string, array, object, Items, no_items, item, no_members, put}
 use Rattle.serde_json.specs.Find.{get}
 use Rattle.bucket_ids.specs.Buckets.{Low}
 use Rattle.document_ids.specs.Parts.{type_of}
@@ -39,7 +39,7 @@ entry_data e = object (put (codes "stamp") (string (printed e.stamp)) (put (code
 -- a value that a field of a kind may have
 abbrev pub is_small : ℤ → Bool
 is_small (pos n) = nat_lt n (2 ^ 63)
-is_small (negsuc n) = true
+is_small (negsuc n) = nat_lt n (2 ^ 63)
 
 abbrev pub is_storable : FieldValue → Bool
 is_storable (Int z) = is_small z

@@ -1,11 +1,14 @@
 -- The messages that a schema allows.
-use Rattle.std.specs.Prelude.{◌≡◌, ◌<◌, ◌≤◌, ◌^◌, ℕ, List, true, is_some, Option, Some, None}
+use Rattle.std.specs.Prelude.{◌≡◌, ◌<◌, ◌≤◌, ◌^◌, ℕ, ℤ, pos, negsuc, List, true, is_some, Option, Some, None}
+use Rattle.std.specs.List.{AllByRecursion}
 use Rattle.std.specs.FinMap as fin
 use Rattle.bucket_ids.specs.Buckets.{Low, IsBucket}
 use Rattle.document_ids.specs.Grammar.{IsId}
 use Rattle.document_ids.specs.Parts.{type_of}
 use Rattle.stamps.specs.Printed.{IsStamp}
 use Rattle.doc_types.specs.SchemaCodes.{Types}
+use Rattle.doc_types.specs.declared.values.FieldValue.{FieldValue}
+use Rattle.doc_types.specs.declared.values.FieldValue.TheVariants.{Int, Text, Ints, Texts}
 use Rattle.documents.specs.Fields.{Contents}
 use Rattle.documents.specs.Fitting as documents
 use Rattle.documents.specs.Kinds.{kinds_of}
@@ -17,11 +20,23 @@ use Rattle.messages.specs.declared.body.Body.{Body}
 use Rattle.messages.specs.declared.body.Body.TheVariants as body
 use Rattle.messages.specs.declared.message.Message.{Message}
 
--- the document of an id: its type is there, its fields are that type's, and it isn't too large
+-- a number of 64 bits with its sign
+abbrev pub IsSigned : ℤ → Type 0
+IsSigned (pos n) = n < 2 ^ 63
+IsSigned (negsuc n) = n < 2 ^ 63
+
+abbrev pub HasSigned : FieldValue → Type 0
+HasSigned (Int z) = IsSigned z
+HasSigned (Text t) = Unit {0}
+HasSigned (Ints zs) = AllByRecursion IsSigned zs
+HasSigned (Texts ts) = Unit {0}
+
+-- the document of an id: its type is there, its fields are that type's, with numbers of 64 bits, and it isn't too large
 pub record FitsDocument (types : Types) (id : List ℕ) (d : Contents) : Type 0 where
   pub own : d.id ≡ id
   pub there : is_some (fin.get types (type_of id)) ≡ true
   pub fields : documents.Fits (kinds_of types (type_of id)) (fin.entries d.fields)
+  pub numbers : AllByRecursion (λ e. HasSigned e.1) (fin.entries d.fields)
   pub size : size_of d.fields ≤ largest
 
 -- a remove has no document

@@ -1,6 +1,6 @@
 -- The text of a message, and the message of a text.
-use Rattle.std.specs.Prelude.{◌^◌, ℕ, List, codes, Option, Some, None, option_and_then, if◌then◌else◌}
-use Rattle.std.specs.Str.{bytes_eq, is_utf8}
+use Rattle.std.specs.Prelude.{◌≡◌, ◌^◌, ℕ, List, codes, Option, Some, None, option_and_then, if◌then◌else◌}
+use Rattle.std.specs.Str.{bytes_eq, is_utf8, IsUtf8}
 use Rattle.serde_json.specs.Data.{Data, object, put}
 use Rattle.serde_json.specs.Read.{read}
 use Rattle.serde_json.specs.Written.{compact_text}
@@ -8,6 +8,7 @@ use Rattle.doc_types.specs.SchemaCodes.{Types}
 use Rattle.messages.specs.declared.body.Body.{Body}
 use Rattle.messages.specs.declared.message.Message.{Message}
 use Rattle.message_texts.specs.Bodies.{body_members, body_in}
+use Rattle.message_texts.specs.Fitting.{Fits}
 use Rattle.message_texts.specs.Parts.{num, number_at}
 
 -- a message as a value: its numbers beside the members of its body
@@ -37,3 +38,9 @@ value_in text = if is_utf8 text then read text else None
 -- the message of a text, if it is one that the schema allows
 unfoldable pub message_in : Types → List ℕ → Option Message
 message_in types text = option_and_then (if_text text) (option_and_then (said_by types) (value_in text))
+
+-- a text in UTF-8 is that of a message that the schema allows
+pub record IsTextOf (types : Types) (m : Message) (text : List ℕ) : Type 0 where
+  pub fits : Fits types m
+  pub is : text ≡ text_of m
+  pub utf8 : IsUtf8 text

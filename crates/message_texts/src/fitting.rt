@@ -25,7 +25,7 @@ fn are_small(numbers: &[i64]) -> bool
 fn is_small(number: i64) -> bool
     ensures { result ≡ is_small number }
 {
-    number <= i64::MAX
+    i64::MIN <= number && number <= i64::MAX
 }
 
 /// Whether a field may have a value.

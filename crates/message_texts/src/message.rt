@@ -1,12 +1,14 @@
-ghost use Rattle.std.specs.Prelude.{◌≡◌, ◌^◌, codes, Some, None, IfOk, IfSome, IsErrOf, option_map};
+ghost use Rattle.std.specs.Prelude.{◌≡◌, ◌^◌, codes, Some, None, IfOk, IfSome, IsErrOf, IsUtf8, option_map};
+ghost use Rattle.messages.specs.declared.message.Message.{Message as Said};
 ghost use Rattle.serde_json.specs.View.{view};
 ghost use Rattle.doc_types.specs.SchemaCodes.{Types};
 ghost use Rattle.message_texts.specs.Fitting.{Fits};
 ghost use Rattle.message_texts.specs.Parts.{number_at};
-ghost use Rattle.message_texts.specs.Texts.{message_data, text_of, said_by, value_in, message_in};
+ghost use Rattle.message_texts.specs.Texts.{message_data, text_of, said_by, value_in, message_in, IsTextOf};
 
 use crate::bodies::{body_in, body_members};
 use crate::fault::MessageFault;
+use crate::laws::texts_are_messages;
 use crate::parts;
 use doc_types::Schema;
 use document_ids::laws::ids_are_spelled;
@@ -36,6 +38,7 @@ fn message_value(alloc: Global, message: &Message) -> Result<Value, NoMemory>
 /// The text of a message.
 pub fn message_text(alloc: Global, message: &Message) -> Result<Vec<u8>, NoMemory>
     ensures text { IfOk result (λ text. text.items ≡ text_of message.now) }
+    ensures utf8 { IfOk result (λ text. IsUtf8 text.items) }
     ensures reads { IfOk result (λ text. (types : Types) → Fits types message.now
         → message_in types text.items ≡ Some message.now) }
 {
@@ -112,12 +115,10 @@ fn value_of(alloc: Global, text: &[u8]) -> Result<Option<Value>, NoMemory>
     }
 }
 
-/// The message of a text, by a schema.
+/// The message that a text is read as.
 #[tactic(auto, unfolding(crate::specs::Texts::message_in))]
-pub fn read_message(alloc: Global, text: &[u8], schema: &Schema) -> Result<Message, MessageFault>
+fn message_in(alloc: Global, text: &[u8], schema: &Schema) -> Result<Message, MessageFault>
     ensures message { IfOk result (λ message. message_in schema.now text.now ≡ Some message) }
-    ensures text { IfOk result (λ message. text.now ≡ text_of message) }
-    ensures fits { IfOk result (λ message. Fits schema.now message) }
     ensures none { IsErrOf result MessageFault.BadMessage → message_in schema.now text.now ≡ None }
 {
     let Some(value) = value_of(alloc, text)? else {
@@ -132,4 +133,17 @@ pub fn read_message(alloc: Global, text: &[u8], schema: &Schema) -> Result<Messa
     } else {
         Err(MessageFault::BadMessage)
     }
+}
+
+/// The message of a text, by a schema; a text that is none's is a `BadMessage`.
+pub fn read_message(alloc: Global, text: &[u8], schema: &Schema) -> Result<Message, MessageFault>
+    ensures message { IfOk result (λ message. IsTextOf schema.now message text.now) }
+    ensures reads { IfOk result (λ message. message_in schema.now text.now ≡ Some message) }
+
+    // where the text isn't that of a message that the schema allows
+    ensures bad { IsErrOf result MessageFault.BadMessage → (m : Said) → IsTextOf schema.now m text.now → ⊥ }
+    ensures none { IsErrOf result MessageFault.BadMessage → message_in schema.now text.now ≡ None }
+{
+    texts_are_messages();
+    message_in(alloc, text, schema)
 }

@@ -1,12 +1,12 @@
 -- What a journaled node is, and what a crash may leave of it.
-use Rattle.std.specs.Prelude.{◌≡◌, ◌≢◌, ◌⊎◌, ◌<◌, ◌≤◌, ◌^◌, ℕ, List, [], ◌∷◌, length, take, slice_index, Bool, false, Result, refl}
+use Rattle.std.specs.Prelude.{◌≡◌, ◌≢◌, ◌⊎◌, ◌<◌, ◌≤◌, ◌^◌, ℕ, suc, List, [], ◌∷◌, length, take, drop, slice_index, Bool, false, Some, Result, refl}
 use Rattle.std.specs.Coded.{Coded, code_by, coded×, coded_ℕ, coded_bool}
 use Rattle.disks.specs.Disks.{DiskState, Only}
 use Rattle.service_layer.specs.Nodes.{Node, node_code}
-use Rattle.message_texts.specs.Texts.{message_in}
+use Rattle.message_texts.specs.Texts.{message_in, IsTextOf}
 use Rattle.doc_types.specs.SchemaCodes.{Types, types_code}
 use Rattle.messages.specs.declared.message.Message.{Message}
-use Rattle.node_journal.specs.Files.{journal_in, with_last, Stands}
+use Rattle.node_journal.specs.Files.{text_in, journal_in, with_last, Stands}
 use Rattle.node_journal.specs.Lives.{IsLive}
 
 -- The messages that a file records, or the place of the open gate that has no whole record or no message.
@@ -21,6 +21,12 @@ pub record Records (schema : Types) (max : ℕ) (told : Result (List Message) �
 -- a file within the limit that records the same messages, or one more
 abbrev pub RecordsOrAlso : Types → ℕ → Result (List Message) ℕ → Message → List ℕ → Type 0
 RecordsOrAlso schema max told m file = Records schema max told file ⊎ Records schema max (with_last told (m ∷ [])) file
+
+-- the gate at a place is open, and behind it stands no whole record of a message that the schema allows
+pub record IsDamaged (schema : Types) (file : List ℕ) (at : ℕ) : Type 0 where
+  pub within : at < length file
+  pub gate : slice_index file at ≡ 1
+  pub nothing : (text : List ℕ) (m : Message) → text_in (drop (suc at) file) ≡ Some text → IsTextOf schema m text → ⊥
 
 -- before the gate at `end`, which is closed, stand open records of these messages
 pub record IsAt (schema : Types) (file : List ℕ) (end : ℕ) (ms : List Message) : Type 0 where

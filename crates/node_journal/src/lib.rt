@@ -9,6 +9,7 @@
 //! A contract sees a `JournaledNode` as a `Journaled`: node, disk, schema, limit, the place of the gate behind its records,
 //! and whether it is shut. `Holds` says that it took these messages from the start, in order, and that every crash leaves
 //! a file that records just them; each call says what it makes of that and what a crash at any moment in it may leave.
+//! `damage_is_so` says what stands where a file is called damaged.
 //! `nothing_told_is_lost` (`specs/Histories.antt`) says of every history of openings, takes and crashes that the file
 //! records all messages of which a take told so.
 //!
@@ -25,6 +26,7 @@ pub mod faults;
 mod framing;
 pub mod histories;
 pub mod journaled_node;
+pub mod laws;
 mod records;
 mod replaying;
 #[cfg(test)]

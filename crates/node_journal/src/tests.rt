@@ -426,74 +426,61 @@ fn wanted_of_crash(length: u64, least: u64, greatest: u64, entries: u64) -> Opti
     }
 }
 
-/// The first length at which a crash in a call doesn't give just that; none where there is no such length.
+/// What a crash in a call leaves: a length between the least and the greatest, and so many entries, first where each byte
+/// that it may have changed is 1, then where each is another one.
+type Crash = (u64, (u64, u64), u64, u64);
+
+/// The first length at which a crash doesn't leave just that; none where there is no such length.
 fn first_wrong(
     alloc: Global,
     schema: &Schema,
-    call: u64,
+    disk: &MemoryDisk,
+    crash: &Crash,
     fill: u8,
-    lengths: (u64, u64),
-    entries: u64,
 ) -> Result<Option<u64>, OpenCause> {
-    let played = play(alloc, schema, NO_CALL, LIMIT, &ALL)?;
+    let (call, (least, greatest), ones, others) = *crash;
+    let entries = if fill == 1 { ones } else { others };
     for length in 0..THREE + 2 {
-        let found = after_crash(alloc, schema, played.node.disk(), call, fill, length)?;
-        if found != wanted_of_crash(length, lengths.0, lengths.1, entries) {
+        let found = after_crash(alloc, schema, disk, call, fill, length)?;
+        if found != wanted_of_crash(length, least, greatest, entries) {
             return Ok(Some(length));
         }
     }
     Ok(None)
 }
 
-/// The call, what stands in each byte that it may have changed, the lengths that it may leave, and the entries. A write
-/// and the sync behind it leave the same.
-const CRASHES: &[(u64, u8, (u64, u64), u64)] = &[
-    (0, 0, (0, 1), 0),
-    (0, 1, (0, 1), 0),
-    (1, 1, (0, 1), 0),
-    (2, 0, (1, ONE), 0),
-    (2, 1, (1, ONE), 0),
-    (3, 255, (1, ONE), 0),
-    (4, 0, (ONE, ONE), 0),
-    (4, 1, (ONE, ONE), 1),
-    (4, 97, (ONE, ONE), 0),
-    (5, 0, (ONE, ONE), 0),
-    (5, 1, (ONE, ONE), 1),
-    (5, 255, (ONE, ONE), 0),
-    (6, 0, (ONE, TWO), 1),
-    (6, 1, (ONE, TWO), 1),
-    (6, 97, (ONE, TWO), 1),
-    (6, 255, (ONE, TWO), 1),
-    (7, 0, (ONE, TWO), 1),
-    (7, 1, (ONE, TWO), 1),
-    (7, 2, (ONE, TWO), 1),
-    (7, 255, (ONE, TWO), 1),
-    (8, 0, (TWO, TWO), 1),
-    (8, 1, (TWO, TWO), 2),
-    (8, 2, (TWO, TWO), 1),
-    (8, 255, (TWO, TWO), 1),
-    (9, 0, (TWO, TWO), 1),
-    (9, 1, (TWO, TWO), 2),
-    (9, 97, (TWO, TWO), 1),
-    (9, 255, (TWO, TWO), 1),
-    (10, 1, (TWO, THREE), 2),
-    (11, 1, (TWO, THREE), 2),
-    (12, 1, (THREE, THREE), 3),
-    (13, 1, (THREE, THREE), 3),
-    (13, 0, (THREE, THREE), 2),
-    // There is no such call.
-    (14, 1, (LIMIT, LIMIT), 0),
+/// Each call, and one more, which isn't there. A write and the sync behind it leave the same.
+const CRASHES: &[Crash] = &[
+    (0, (0, 1), 0, 0),
+    (1, (0, 1), 0, 0),
+    (2, (1, ONE), 0, 0),
+    (3, (1, ONE), 0, 0),
+    (4, (ONE, ONE), 1, 0),
+    (5, (ONE, ONE), 1, 0),
+    (6, (ONE, TWO), 1, 1),
+    (7, (ONE, TWO), 1, 1),
+    (8, (TWO, TWO), 2, 1),
+    (9, (TWO, TWO), 2, 1),
+    (10, (TWO, THREE), 2, 2),
+    (11, (TWO, THREE), 2, 2),
+    (12, (THREE, THREE), 3, 2),
+    (13, (THREE, THREE), 3, 2),
+    (14, (LIMIT, LIMIT), 0, 0),
 ];
 
+/// Of each call each byte that may stand where it wrote, and each length.
 #[test]
 fn every_stop_of_three_takes(rt: HostRuntime) -> Result<(), Fail> {
     let alloc = rt.alloc();
     let schema = schema_from_json(alloc, DEFAULT_SCHEMA)?;
-    for (call, fill, lengths, entries) in CRASHES {
-        assert_eq!(rt;
-            first_wrong(alloc, &schema, *call, *fill, *lengths, *entries),
-            Ok(None)
-        );
+    let played = play(alloc, &schema, NO_CALL, LIMIT, &ALL)?;
+    for crash in CRASHES {
+        for fill in 0..=255u8 {
+            assert_eq!(rt;
+                first_wrong(alloc, &schema, played.node.disk(), crash, fill),
+                Ok(None)
+            );
+        }
     }
     Ok(())
 }

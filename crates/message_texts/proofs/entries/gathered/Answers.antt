@@ -1,4 +1,4 @@
-use Rattle.std.proofs.Common.{◌≡◌, ◌∙◌, Option, IfSome, ap, sym, subst}
+use Rattle.std.proofs.Common.{◌∙◌, Option, IfSome, ap, sym, subst}
 use Rattle.documents.specs.declared.entry.Entry.{Entry}
 use Rattle.message_texts.specs.Fitting.{FitsEntry}
 use Rattle.serde_json.specs.View.{items_view}

@@ -1,4 +1,4 @@
-use Rattle.std.proofs.Common.{◌≡◌, ℕ, sym, ◌∙◌, ap}
+use Rattle.std.proofs.Common.{ℕ, sym, ◌∙◌, ap}
 use Rattle.bucket_ids.specs.Buckets.{has_key}
 use Rattle.entry_maps.specs.Entries.{with_entry}
 use Rattle.message_texts.specs.Fitting.{FitEntries}

@@ -1,8 +1,8 @@
-use Rattle.std.proofs.Common.{◌≡◌, ◌∙◌, ◌≤◌, ap, subst, sym, Some, Option}
+use Rattle.std.proofs.Common.{◌∙◌, ◌≤◌, ap, subst, sym, Some, Option}
 use Rattle.serde_json.specs.Data.{Data, depth}
 use Rattle.serde_json.specs.Read.{max_depth}
 use Rattle.serde_json.specs.Written.{has_float, compact_text}
-use Rattle.message_texts.specs.Texts.{message_data, text_of}
+use Rattle.message_texts.specs.Texts.{text_of}
 use Rattle.message_texts.proofs.EntryLaws.{AreRead}
 use Rattle.message_texts.proofs.TextLaws.{is_shallow, has_no_float, text_reads}
 use Rattle.message_texts.proofs.message.message_text.Goals as goal

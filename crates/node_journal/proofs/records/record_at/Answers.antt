@@ -21,10 +21,10 @@ returns-in-Ok-clause-found g c =
     let gate = sym c.in_ok-byte_at.ensures.byte ∙ c.if-branch-ne-OPEN.false in
     let some : text_in (drop (c.args.at + 1) file) ≡ Some c.in-Some.text.items =
     ap (λ (f : List ℕ). text_in (drop (c.args.at + 1) f)) (sym c.byte_at.ensures.rests.seen) ∙ sym c.in_ok-text.ensures.text ∙ ap texts c.in-Some.is in
-    let reads : message_in c.args.schema.now c.in-Some.text.items ≡ Some c.in-Ok.message = ap (message_in c.args.schema.now) (sym c.deref.ensures.value) ∙ c.in-Ok.ensures.message in
+    let reads : message_in c.args.schema.now c.in-Some.text.items ≡ Some c.in-Ok.message = ap (message_in c.args.schema.now) (sym c.deref.ensures.value) ∙ c.in-Ok.ensures.reads in
     let size : c.args.at + 5 + length c.in-Some.text.items ≡ c.args.at + 5 + c.len.result = omega (arith, c.len.ensures, c.in-Some.text.ok.0) in
     subst (λ (k : ℕ). IsBehind c.args.schema.now file c.args.at c.in-Ok.message k) size
-    (found_behind c.args.schema.now file c.in-Some.text.items c.args.at c.in-Ok.message (omega (arith, c.requires.within, c.requires.size)) gate some reads c.in-Ok.ensures.fits)
+    (found_behind c.args.schema.now file c.in-Some.text.items c.args.at c.in-Ok.message (omega (arith, c.requires.within, c.requires.size)) gate some reads c.in-Ok.ensures.message.fits)
 
 pub returns-in-Err-BadMessage-clause-cause : goal.returns-in-Err-BadMessage-clause-cause
 returns-in-Err-BadMessage-clause-cause g c =
