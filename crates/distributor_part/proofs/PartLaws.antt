@@ -1,8 +1,9 @@
 -- Sets of nodes, places of lists, and what holds of every part.
-use Rattle.std.proofs.Common.{◌≡◌, ◌==◌, ◌||◌, ◌↔◌, ◌⊎◌, ℕ, zero, suc, ◌+◌, ◌<◌, ◌≤◌, Bool, true, false, List, [], ◌∷◌, length, map, take, slice_get, get_or, slice_index_or, Option, Some, IfSome, IsSome, inl, inr, refl, sym, ap, ◌∙◌, subst, arith, eqb-true, eq-eqb}
+use Rattle.std.proofs.Common.{◌≡◌, ◌==◌, ◌||◌, ◌↔◌, ◌⊎◌, ℕ, zero, suc, ◌+◌, ◌<◌, ◌≤◌, Bool, true, false, List, [], ◌∷◌, ◌++◌, length, map, take, slice_get, get_or, slice_index_or, Option, Some, None, IfSome, IsSome, inl, inr, refl, sym, ap, ◌∙◌, subst, arith, eqb-true, eq-eqb}
 use Rattle.std.specs.List.{AllByRecursion}
 use Rattle.std.proofs.Math.Numerals.{add-one}
 use Rattle.std.proofs.lemmas.Bool.{cases_lt}
+use Rattle.std.proofs.lemmas.List.{take_more, flat_map_more}
 use Rattle.std.proofs.lemmas.Option.{slice_get-get_or}
 use Rattle.std.proofs.lemmas.Bool.Decides.{nat_tests}
 use Rattle.bucket_ids.specs.Buckets.{Low}
@@ -21,7 +22,8 @@ use Rattle.bucket_db.specs.declared.row.Row.{Row}
 use Rattle.distributor_part.specs.Parts.{AreOfLane, IsPart, StageFits}
 use Rattle.distributor_part.specs.declared.stage.Stage.{Stage}
 use Rattle.distributor_part.specs.declared.stage.Stage.TheVariants.{Before, Running, Over, Ended}
-use Rattle.distributor_part.specs.Steps.{with_marks}
+use Rattle.pieces.specs.declared.piece.Piece.{Piece}
+use Rattle.distributor_part.specs.Steps.{with_marks, buckets_shown, all_shown}
 use Rattle.distributor_part.specs.Targets.{AreSmall}
 
 -- ---- sets of nodes
@@ -128,30 +130,32 @@ fits_marked d at marks (Over place complete missing) f =
 fits_marked d at marks (Ended missing) f = f
 
 -- marks leave a part one
-pub part_marked : (lane : Low) (awaited : Option ℕ) (rows : Option Rows) (d new : Rows) (at marks : ℕ) (stage : Stage)
-    → rows ≡ Some d → IsPart lane awaited rows stage → new ≡ with_marks d at marks → IsPart lane awaited (Some new) stage
-part_marked lane awaited rows d new at marks stage e p m =
-    let q = subst (λ r. IsPart lane awaited r stage) e p in
-    subst (λ n. IsPart lane awaited (Some n) stage) (sym m) (record {
+pub part_marked : {place : Type 0} → (lane : Low) (awaited : Option ℕ) (rows : Option Rows) (d new : Rows) (at marks : ℕ) (stage : Stage)
+    → rows ≡ Some d → IsPart place lane awaited rows stage → new ≡ with_marks d at marks → IsPart place lane awaited (Some new) stage
+part_marked {place = place} lane awaited rows d new at marks stage e p m =
+    let q = subst (λ r. IsPart place lane awaited r stage) e p in
+    subst (λ n. IsPart place lane awaited (Some n) stage) (sym m) (record {
       few = q.few;
       node = q.node;
+      there = q.there;
       of_lane = of_lane_marked lane d at marks q.of_lane;
       fits = fits_marked d at marks stage q.fits;
     })
 
 -- so does the end of a round
-pub part_ended : (lane : Low) (awaited : Option ℕ) (rows : Option Rows) (stage : Stage) (missing : ℕ)
-    → IsPart lane awaited rows stage → IsSome rows → IsPart lane awaited rows (Ended missing)
-part_ended lane awaited rows stage missing p opened =
-    record { few = p.few; node = p.node; of_lane = p.of_lane; fits = opened }
+pub part_ended : {place : Type 0} → (lane : Low) (awaited : Option ℕ) (rows : Option Rows) (stage : Stage) (missing : ℕ)
+    → IsPart place lane awaited rows stage → IsSome rows → IsPart place lane awaited rows (Ended missing)
+part_ended {place = place} lane awaited rows stage missing p opened =
+    record { few = p.few; node = p.node; there = p.there; of_lane = p.of_lane; fits = opened }
 
 -- and so do new rows
-pub part_opened : (lane : Low) (awaited : Option ℕ) (rows : Option Rows) (d : Rows) (stage : Stage) (buckets : List Low)
-    → IsPart lane awaited rows stage → stage ≡ Before → d.lane ≡ lane → d.rows ≡ map new_row buckets
-    → IsPart lane awaited (Some d) stage
-part_opened lane awaited rows d stage buckets p before same unmarked = record {
+pub part_opened : {place other : Type 0} → (lane : Low) (awaited : Option ℕ) (rows : Option Rows) (d : Rows) (stage : Stage) (buckets : List Low)
+    → IsPart place lane awaited rows stage → stage ≡ Before → awaited ≡ None → d.lane ≡ lane → d.rows ≡ map new_row buckets
+    → IsPart other lane awaited (Some d) stage
+part_opened {place = place} {other = other} lane awaited rows d stage buckets p before told same unmarked = record {
   few = p.few;
   node = p.node;
+  there = subst (λ o. IfSome o (λ n. other)) (sym told) tt;
   of_lane = record { same_lane = same; small = subst (AllByRecursion HasSmall) (sym unmarked) (small_new buckets) };
   fits = subst (StageFits (Some d)) (sym before) tt;
 }
@@ -179,3 +183,9 @@ one_more nodes place node here before both within at e known = (
     | inr new ↦ e ∙ ap (λ b. before || b) (eq-eqb node here (new ∙ sym at)) ∙ or_true before
   ],
 )
+
+-- ---- what was shown
+
+-- one answer more
+pub shown_more : (xs : List (List Piece)) (i : ℕ) (ps : List Piece) → i < length xs → ps ≡ get_or xs i ps → all_shown (take (i + 1) xs) ≡ all_shown (take i xs) ++ buckets_shown ps
+shown_more xs i ps within is = ap all_shown (take_more xs i ps within) ∙ sym (flat_map_more buckets_shown [] (take i xs) (get_or xs i ps)) ∙ ap (λ qs. all_shown (take i xs) ++ buckets_shown qs) (sym is)

@@ -69,14 +69,15 @@ small_joined rows at row other joined s e j =
 
 -- ---- what holds of every part
 
-pub part_with : (lane : Low) (awaited : Option ℕ) (rows : Option Rows) (d new : Rows) (stage : Stage) → rows ≡ Some d → IsPart lane awaited rows stage
+pub part_with : {place : Type 0} → (lane : Low) (awaited : Option ℕ) (rows : Option Rows) (d new : Rows) (stage : Stage) → rows ≡ Some d → IsPart place lane awaited rows stage
     → new.lane ≡ d.lane → (AllByRecursion HasSmall d.rows → AllByRecursion HasSmall new.rows) → (StageFits (Some d) stage → StageFits (Some new) stage)
-    → IsPart lane awaited (Some new) stage
-part_with lane awaited rows d new stage e p same small fits =
-    let q = subst (λ r. IsPart lane awaited r stage) e p in
+    → IsPart place lane awaited (Some new) stage
+part_with {place = place} lane awaited rows d new stage e p same small fits =
+    let q = subst (λ r. IsPart place lane awaited r stage) e p in
     record {
       few = q.few;
       node = q.node;
+      there = q.there;
       of_lane = record { same_lane = same ∙ (q.of_lane).same_lane; small = small (q.of_lane).small };
       fits = fits q.fits;
     }
@@ -89,19 +90,19 @@ fits_as_many d new (Over at complete missing) same f = omega arith
 fits_as_many d new (Ended missing) same f = f
 
 -- one row changes
-pub part_changed : (lane : Low) (awaited : Option ℕ) (rows : Option Rows) (d new : Rows) (stage : Stage) (change : Row → Row) (at : ℕ) → rows ≡ Some d
-    → IsPart lane awaited rows stage → new ≡ record d { rows = at_row at change d.rows } → ((r : Row) → HasSmall r → HasSmall (change r))
-    → IsPart lane awaited (Some new) stage
-part_changed lane awaited rows d new stage change at e p is keeps =
+pub part_changed : {place : Type 0} → (lane : Low) (awaited : Option ℕ) (rows : Option Rows) (d new : Rows) (stage : Stage) (change : Row → Row) (at : ℕ) → rows ≡ Some d
+    → IsPart place lane awaited rows stage → new ≡ record d { rows = at_row at change d.rows } → ((r : Row) → HasSmall r → HasSmall (change r))
+    → IsPart place lane awaited (Some new) stage
+part_changed {place = place} lane awaited rows d new stage change at e p is keeps =
     let changed : Rows = record d { rows = at_row at change d.rows } in
-    subst (λ n. IsPart lane awaited (Some n) stage) (sym is) (part_with lane awaited rows d changed stage e p refl (small_changed change at d.rows keeps)
+    subst (λ n. IsPart place lane awaited (Some n) stage) (sym is) (part_with lane awaited rows d changed stage e p refl (small_changed change at d.rows keeps)
     (fits_as_many d changed stage (length_at_row change at d.rows)))
 
 -- rows that come and go where no round is under way
-pub part_without_round : (lane : Low) (awaited : Option ℕ) (rows : Option Rows) (d new : Rows) (stage : Stage) → rows ≡ Some d → stage ≡ Before
-    → IsPart lane awaited rows stage → new.lane ≡ d.lane → (AllByRecursion HasSmall d.rows → AllByRecursion HasSmall new.rows)
-    → IsPart lane awaited (Some new) stage
-part_without_round lane awaited rows d new stage e before p same small =
+pub part_without_round : {place : Type 0} → (lane : Low) (awaited : Option ℕ) (rows : Option Rows) (d new : Rows) (stage : Stage) → rows ≡ Some d → stage ≡ Before
+    → IsPart place lane awaited rows stage → new.lane ≡ d.lane → (AllByRecursion HasSmall d.rows → AllByRecursion HasSmall new.rows)
+    → IsPart place lane awaited (Some new) stage
+part_without_round {place = place} lane awaited rows d new stage e before p same small =
     part_with lane awaited rows d new stage e p same small (λ f. subst (StageFits (Some new)) (sym before) tt)
 
 -- two changes of one row are one
@@ -115,28 +116,28 @@ pub place_inside : (before now : Part) (d : Rows) (at : ℕ) → before ≡ now 
 place_inside before now d at same e h = subst (λ o. at < length (rows_of o)) (sym (ap (λ p. p.rows) same) ∙ e) h
 
 -- each row changes
-pub part_mapped : (lane : Low) (awaited : Option ℕ) (rows : Option Rows) (d new : Rows) (stage : Stage) (change : Row → Row) → rows ≡ Some d
-    → IsPart lane awaited rows stage → new ≡ record d { rows = map change d.rows } → ((r : Row) → HasSmall r → HasSmall (change r))
-    → IsPart lane awaited (Some new) stage
-part_mapped lane awaited rows d new stage change e p is keeps =
+pub part_mapped : {place : Type 0} → (lane : Low) (awaited : Option ℕ) (rows : Option Rows) (d new : Rows) (stage : Stage) (change : Row → Row) → rows ≡ Some d
+    → IsPart place lane awaited rows stage → new ≡ record d { rows = map change d.rows } → ((r : Row) → HasSmall r → HasSmall (change r))
+    → IsPart place lane awaited (Some new) stage
+part_mapped {place = place} lane awaited rows d new stage change e p is keeps =
     let changed : Rows = record d { rows = map change d.rows } in
-    subst (λ n. IsPart lane awaited (Some n) stage) (sym is) (part_with lane awaited rows d changed stage e p refl (small_mapped change d.rows keeps)
+    subst (λ n. IsPart place lane awaited (Some n) stage) (sym is) (part_with lane awaited rows d changed stage e p refl (small_mapped change d.rows keeps)
     (fits_as_many d changed stage (length-map d.rows change)))
 
 -- a row is split
-pub part_split : (lane : Low) (awaited : Option ℕ) (rows : Option Rows) (d new : Rows) (stage : Stage) (at : ℕ) → rows ≡ Some d → stage ≡ Before
-    → IsPart lane awaited rows stage → new ≡ record d { rows = split_at at d.rows } → IsPart lane awaited (Some new) stage
-part_split lane awaited rows d new stage at e before p is =
+pub part_split : {place : Type 0} → (lane : Low) (awaited : Option ℕ) (rows : Option Rows) (d new : Rows) (stage : Stage) (at : ℕ) → rows ≡ Some d → stage ≡ Before
+    → IsPart place lane awaited rows stage → new ≡ record d { rows = split_at at d.rows } → IsPart place lane awaited (Some new) stage
+part_split {place = place} lane awaited rows d new stage at e before p is =
     let changed : Rows = record d { rows = split_at at d.rows } in
-    subst (λ n. IsPart lane awaited (Some n) stage) (sym is) (part_without_round lane awaited rows d changed stage e before p refl (small_split d.rows at))
+    subst (λ n. IsPart place lane awaited (Some n) stage) (sym is) (part_without_round lane awaited rows d changed stage e before p refl (small_split d.rows at))
 
 -- two rows are joined
-pub part_joined : (lane : Low) (awaited : Option ℕ) (rows : Option Rows) (d new : Rows) (stage : Stage) (at : ℕ) (row other joined : Row) → rows ≡ Some d → stage ≡ Before
-    → IsPart lane awaited rows stage → slice_get d.rows at ≡ Some row → IsJoined row other joined → new ≡ record d { rows = with_joined joined d.rows }
-    → IsPart lane awaited (Some new) stage
-part_joined lane awaited rows d new stage at row other joined e before p found j is =
+pub part_joined : {place : Type 0} → (lane : Low) (awaited : Option ℕ) (rows : Option Rows) (d new : Rows) (stage : Stage) (at : ℕ) (row other joined : Row) → rows ≡ Some d → stage ≡ Before
+    → IsPart place lane awaited rows stage → slice_get d.rows at ≡ Some row → IsJoined row other joined → new ≡ record d { rows = with_joined joined d.rows }
+    → IsPart place lane awaited (Some new) stage
+part_joined {place = place} lane awaited rows d new stage at row other joined e before p found j is =
     let changed : Rows = record d { rows = with_joined joined d.rows } in
-    subst (λ n. IsPart lane awaited (Some n) stage) (sym is) (part_without_round lane awaited rows d changed stage e before p refl
+    subst (λ n. IsPart place lane awaited (Some n) stage) (sym is) (part_without_round lane awaited rows d changed stage e before p refl
     (λ s. small_joined d.rows at row other joined s found j))
 
 -- what the two rows that a place may be joined with are

@@ -87,8 +87,10 @@ pub record AreOfLane (lane : Low) (d : Rows) : Type 0 where
   pub same_lane : d.lane ≡ lane
   pub small : AllByRecursion (λ r. IfSome r.active (λ n. n < 32)) d.rows
 
-pub record IsPart (lane : Low) (awaited : Option ℕ) (rows : Option Rows) (stage : Stage) : Type 0 where
+-- while an answer is awaited there is a place for it
+pub record IsPart (place : Type 0) (lane : Low) (awaited : Option ℕ) (rows : Option Rows) (stage : Stage) : Type 0 where
   pub few : lane.bits ≤ 6
   pub node : IfSome awaited (λ n. n < 32)
+  pub there : IfSome awaited (λ n. place)
   pub of_lane : IfSome rows (AreOfLane lane)
   pub fits : StageFits rows stage

@@ -1,5 +1,5 @@
 -- Which step comes next, what it leaves, and what the other calls make of the part.
-use Rattle.std.specs.Prelude.{◌≡◌, ◌⊎◌, ◌==◌, ◌&&◌, ◌||◌, not, ℕ, ◌<◌, ◌≤◌, Bool, true, false, List, [], ◌++◌, map, Option, Some, None, slice_get}
+use Rattle.std.specs.Prelude.{◌≡◌, ◌⊎◌, ◌==◌, ◌&&◌, ◌||◌, not, ℕ, ◌<◌, ◌≤◌, Bool, true, false, List, [], ◌++◌, map, flat_map, Option, Some, None, slice_get}
 use Rattle.std.specs.List.{list_any}
 use Rattle.bucket_ids.specs.Buckets.{Low, has_key}
 use Rattle.node_sets.specs.Members.{has_node, size_of}
@@ -152,17 +152,15 @@ IsStep p key (Decide (RoundEnded bucket complete)) q = EndsRound p q bucket comp
 IsStep p key (Decide _) q = ⊥
 IsStep p key (Finished missing) q = Finishes p q key missing
 
--- the step that takes memory: the state is opened
-pub record IsToOpen (p : Part) : Type 0 where
-  pub state : ClusterState
-  pub unopened : IsUnopened p state
-  pub all : HaveAllAnswered p state
-
 -- ---- answers
 
 -- the buckets of pieces
 abbrev pub buckets_shown : List Piece → List Low
 buckets_shown = map (λ p. p.bucket)
+
+-- of all answers, in their order
+abbrev pub all_shown : List (List Piece) → List Low
+all_shown = flat_map buckets_shown
 
 -- a node's answer to the Ask counts with the buckets that it shows
 pub record TakesAnswer (p q : Part) (node : ℕ) (pieces : List Piece) : Type 0 where
@@ -173,11 +171,6 @@ pub record TakesAnswer (p q : Part) (node : ℕ) (pieces : List Piece) : Type 0 
 abbrev pub IsAfterAnswer : Part → Part → ℕ → Option Reply → Type 0
 IsAfterAnswer p q node (Some (reply.Answer pieces entries)) = TakesAnswer p q node pieces
 IsAfterAnswer p q node _ = q ≡ record p { awaited = None }
-
--- the reply is an answer
-abbrev pub IsAnAnswer : Option Reply → Type 0
-IsAnAnswer (Some (reply.Answer pieces entries)) = Unit {0}
-IsAnAnswer _ = ⊥
 
 -- ---- rounds
 

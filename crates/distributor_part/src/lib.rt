@@ -16,11 +16,11 @@
 //! part.hear(&state);
 //! loop {
 //!     match part.next_step(alloc, Job::Prepare { key })? {
-//!         Step::Send(message) => part.answer(message.receiver, deliver(&message))?,
+//!         Step::Send(message) => part.take_reply(message.receiver, deliver(&message)),
 //!         Step::Open { rows } => ..                              // told to the journal
 //!         Step::Decide(Decision::RoundBegun { bucket, receivers }) => {
 //!             // a `Round` is run, and what came of it is told
-//!             part.round_over(round.holders(), round.union(), &shown)?;
+//!             part.round_over(round.holders(), union, round.shown())?;
 //!         }
 //!         Step::Decide(decision) => ..                           // told to the journal
 //!         Step::Finished { missing } => break,

@@ -1,13 +1,13 @@
-ghost use Rattle.std.specs.Prelude.{◌≡◌, ◌&&◌, not, ℕ, ◌<◌, ◌≤◌, true, false, ◌++◌, ◌∷◌, [], vec_len, vec_capacity, OnOk, OnErr, IfSome, IfNone, IfOk};
+ghost use Rattle.std.specs.Prelude.{◌≡◌, ◌&&◌, not, ℕ, ◌+◌, ◌<◌, ◌≤◌, false, ◌++◌, ◌∷◌, [], vec_len, vec_capacity, OnOk, IfSome, IfNone, IfOk};
 ghost use Rattle.node_sets.specs.Members.{has_node};
 ghost use Rattle.bucket_db.specs.Rows.{buckets_of};
-ghost use Rattle.distributor_part.specs.Steps.{IsLowest, did_show, buckets_shown};
+ghost use Rattle.distributor_part.specs.Steps.{IsLowest, did_show, buckets_shown, all_shown};
 
 use bucket_db::Row;
 use bucket_ids::Bucket;
 use messages::{BucketList, NodePieces};
 use node_sets::NodeSet;
-use pieces::Piece;
+use pieces::{Piece, PieceList};
 use std::alloc::Global;
 use value_lists::{Listed, NoMemory};
 
@@ -43,16 +43,36 @@ fn add_reserved(shown: &mut Vec<Bucket>, bucket: Bucket)
     };
 }
 
-/// Adds the buckets of pieces. After want of memory nothing has changed.
-pub fn add_buckets(shown: &mut Vec<Bucket>, pieces: &[Piece]) -> Result<(), NoMemory>
-    ensures ok { OnOk result (shown.new.items ≡ shown.old.items ++ buckets_shown pieces.now) }
-    ensures err { OnErr result (shown.new.items ≡ shown.old.items) }
+/// Adds the buckets of pieces.
+fn add_buckets(buckets: &mut Vec<Bucket>, pieces: &[Piece]) -> Result<(), NoMemory>
+    ensures { OnOk result (buckets.new.items ≡ buckets.old.items ++ buckets_shown pieces.now) }
 {
-    shown.reserve(pieces.len())?;
+    buckets.reserve(pieces.len())?;
     for piece in pieces {
-        add_reserved(shown, piece.bucket);
+        add_reserved(buckets, piece.bucket);
     }
     Ok(())
+}
+
+/// The buckets of all that was shown, answer by answer.
+pub fn all_buckets(alloc: Global, shown: &[PieceList]) -> Result<Vec<Bucket>, NoMemory>
+    ensures { IfOk result (λ buckets. buckets.items ≡ all_shown shown.now) }
+{
+    let mut buckets = Vec::new(alloc);
+    for pieces in shown {
+        add_buckets(&mut buckets, pieces.items())?;
+    }
+    Ok(buckets)
+}
+
+/// Adds what one more answer showed, for which there is a place.
+pub fn add_shown(shown: &mut Vec<PieceList>, pieces: PieceList)
+    requires { vec_len shown.old + 1 ≤ vec_capacity shown.old }
+    ensures { shown.new.items ≡ shown.old.items ++ pieces ∷ [] }
+{
+    let Ok(()) = shown.push(pieces) else {
+        unreachable!();
+    };
 }
 
 /// The buckets of rows.

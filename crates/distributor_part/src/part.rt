@@ -6,10 +6,10 @@ ghost use Rattle.cluster_states.specs.Publishing.{serves};
 ghost use Rattle.messages.specs.Noting.{message_of};
 ghost use Rattle.bucket_db.specs.Rows.{AreRows, buckets_of};
 ghost use Rattle.distributor_part.specs.Parts.{Part, new_part, version_of, origin_of, rows_of, IsOwning, Prepares, key_in};
-ghost use Rattle.distributor_part.specs.Steps.{IsStep, IsToOpen, IsUnopened, IsOpening, IsAfterAnswer, IsAnAnswer, IsRunning, IsRoundOver, IsClosed, IsRowOf, without_end};
+ghost use Rattle.distributor_part.specs.Steps.{IsStep, IsUnopened, IsOpening, IsAfterAnswer, IsRunning, IsRoundOver, IsClosed, IsRowOf, without_end};
 
 use crate::heard::Heard;
-use crate::opening::{add_buckets, buckets_of, lowest_of, silent, to_ask};
+use crate::opening::{add_shown, all_buckets, buckets_of, lowest_of, silent, to_ask};
 use crate::rules::Rules;
 use crate::stage::Stage;
 use crate::targets::targets_of;
@@ -19,6 +19,7 @@ use cluster_states::ClusterState;
 use entry_maps::EntryMap;
 use messages::{Body, Decision, Job, NodePieces, Origin, Reply, Step};
 use node_sets::NodeSet;
+use pieces::PieceList;
 use std::alloc::Global;
 use std::marker::Model;
 use value_lists::NoMemory;
@@ -31,7 +32,8 @@ pub struct DistributorPart {
     pub(crate) rules: Rules,
     pub(crate) heard: Heard,
     answered: NodeSet,
-    shown: Vec<Bucket>,
+    /// What the nodes showed, answer by answer.
+    shown: Vec<PieceList>,
     asked: NodeSet,
     awaited: Option<u8>,
     pub(crate) rows: Option<BucketDb>,
@@ -39,7 +41,9 @@ pub struct DistributorPart {
 }
 
 impl Model for DistributorPart {
+    ghost use Rattle.std.specs.Prelude.{◌≤◌, ◌+◌, vec_len, vec_capacity};
     ghost use Rattle.distributor_part.specs.Parts.{Part, IsPart};
+    ghost use Rattle.distributor_part.specs.Steps.{all_shown};
 
     ghost Value = { Part };
 
@@ -49,14 +53,14 @@ impl Model for DistributorPart {
       rules = p.rules;
       state = p.heard;
       answered = p.answered;
-      shown = p.shown.items;
+      shown = all_shown p.shown.items;
       asked = p.asked;
       awaited = p.awaited;
       rows = p.rows;
       stage = p.stage;
     } };
 
-    ghost invariant = { λ p. IsPart p.lane p.awaited p.rows p.stage };
+    ghost invariant = { λ p. IsPart (vec_len p.shown + 1 ≤ vec_capacity p.shown) p.lane p.awaited p.rows p.stage };
 }
 
 impl DistributorPart {
@@ -177,8 +181,8 @@ impl DistributorPart {
     }
 
     /// The next step of a job. This distributor owns the lane; the answer to the message before was
-    /// told, and so was that a round is over. The only error is want of memory, and it comes only as the
-    /// state is to be opened.
+    /// told, and so was that a round is over. The reply to a message takes no memory then. The only error is
+    /// want of memory, and it comes only before the state is opened.
     pub fn next_step(&mut self, alloc: Global, job: Job) -> Result<Step, NoMemory>
         requires job { Prepares self.old.lane job }
         requires owner { IsOwning self.old }
@@ -186,7 +190,7 @@ impl DistributorPart {
         requires over { IsRunning self.old.stage → ⊥ }
         ensures step { IfOk result (λ step. IsStep self.old (key_in job) step self.new) }
         ensures err { OnErr result (self.new ≡ self.old) }
-        ensures opening { OnErr result (IsToOpen self.old) }
+        ensures opening { OnErr result (self.old.rows ≡ None) }
     {
         let Job::Prepare { key } = job else {
             unreachable!();
@@ -206,11 +210,10 @@ impl DistributorPart {
         requires told { self.old.awaited ≡ None }
         ensures step { (key : ℕ) → IfOk result (λ step. IsStep self.old key step self.new) }
         ensures err { OnErr result (self.new ≡ self.old) }
-        ensures opening { OnErr result (IsToOpen self.old) }
     {
         let serving = state.serving();
         if let Some(node) = lowest_of(to_ask(serving, self.answered, self.asked)) {
-            return Ok(self.ask(state.version(), node));
+            return self.ask(state.version(), node);
         }
         let missing = serving.difference(self.answered);
         match lowest_of(missing) {
@@ -219,13 +222,18 @@ impl DistributorPart {
         }
     }
 
-    /// The Ask to a node.
-    fn ask(&mut self, version: u32, node: u8) -> Step
+    /// The Ask to a node. There is a place for what it shows then.
+    fn ask(&mut self, version: u32, node: u8) -> Result<Step, NoMemory>
         requires { node < 32 }
-        ensures step { result ≡ Step.Send (message_of (origin_of self.old version) node Body.Ask) }
-        ensures marked { (n : ℕ) → has_node self.new.asked n ≡ (has_node self.old.asked n || n == node) }
-        ensures after { self.new ≡ record self.old { asked = self.new.asked; awaited = Some node } }
+        ensures step { IfOk result (λ step.
+            step ≡ Step.Send (message_of (origin_of self.old version) node Body.Ask)) }
+        ensures marked { OnOk result
+            ((n : ℕ) → has_node self.new.asked n ≡ (has_node self.old.asked n || n == node)) }
+        ensures after { OnOk result
+            (self.new ≡ record self.old { asked = self.new.asked; awaited = Some node }) }
+        ensures err { OnErr result (self.new ≡ self.old) }
     {
+        self.shown.reserve(1)?;
         self.asked = self.asked.with(node);
         self.awaited = Some(node);
         let origin = Origin {
@@ -233,16 +241,18 @@ impl DistributorPart {
             lane: self.lane.low() as u8,
             sender: self.number,
         };
-        Step::Send(origin.message(node, Body::Ask))
+        Ok(Step::Send(origin.message(node, Body::Ask)))
     }
 
     /// Opens the state by the buckets that were shown.
     fn open(&mut self, alloc: Global) -> Result<Step, NoMemory>
-        requires { self.old.stage ≡ Stage.Before }
+        requires no_round { self.old.stage ≡ Stage.Before }
+        requires told { self.old.awaited ≡ None }
         ensures step { IfOk result (λ step. IsOpening self.old self.new step) }
         ensures err { OnErr result (self.new ≡ self.old) }
     {
-        let rows = BucketDb::of_answers(alloc, self.lane, &self.shown)?;
+        let shown = all_buckets(alloc, &self.shown)?;
+        let rows = BucketDb::of_answers(alloc, self.lane, &shown)?;
         let buckets = buckets_of(alloc, rows.rows())?;
         self.heard.make_places(rows.rows().len())?;
         self.shown = Vec::new(alloc);
@@ -325,20 +335,21 @@ impl DistributorPart {
         Step::Finished { missing }
     }
 
-    /// Takes the reply of the node that was sent the last message, or that none came. The only error is
-    /// want of memory, which only an answer takes, and then nothing has changed.
-    pub fn answer(&mut self, node: u8, reply: Option<&Reply>) -> Result<(), NoMemory>
+    /// Takes the reply of the node that was sent the last message, or that none came.
+    pub fn take_reply(&mut self, node: u8, reply: Option<Reply>)
         requires { self.old.awaited ≡ Some node }
-        ensures ok { OnOk result (IsAfterAnswer self.old self.new node (option_copied reply.entry)) }
-        ensures err { OnErr result (self.new ≡ self.old) }
-        ensures free { OnErr result (IsAnAnswer (option_copied reply.entry)) }
+        ensures { IsAfterAnswer self.old self.new node reply }
     {
-        if let Some(Reply::Answer { pieces, .. }) = reply {
-            add_buckets(&mut self.shown, pieces.items())?;
-            self.answered = self.answered.with(node);
+        match reply {
+            Some(Reply::Answer { pieces, .. }) => {
+                add_shown(&mut self.shown, pieces);
+                self.answered = self.answered.with(node);
+                self.awaited = None;
+            }
+            _ => {
+                self.awaited = None;
+            }
         }
-        self.awaited = None;
-        Ok(())
     }
 
     /// The round under way is over: the receivers that answered the Apply, the union, which is absent

@@ -30,15 +30,17 @@ use std::alloc::Global;
 use value_lists::{NoMemory, TryCopy};
 
 /// The phase in which an operation is over, if its machine has an outcome.
-fn ended(alloc: Global, machine: &OpMachine) -> Result<Option<Phase>, NoMemory>
-    ensures { IfOk result (HasEnded machine.now) }
+fn ended(alloc: Global, machine: &mut OpMachine) -> Result<Option<Phase>, NoMemory>
+    ensures ended { IfOk result (HasEnded machine.old) }
+    ensures kept { machine.new ≡ machine.old }
 {
-    let Some(outcome) = machine.outcome() else {
+    let Some(outcome) = machine.outcome(alloc)? else {
         return Ok(None);
     };
+    let told = outcome.copy(alloc)?;
     Ok(Some(Phase::Over {
-        outcome: outcome.copy(alloc)?,
-        told: outcome.copy(alloc)?,
+        outcome,
+        told,
         answered: machine.stored(),
     }))
 }

@@ -15,7 +15,7 @@ use Rattle.messages.specs.declared.reply.Reply.{Reply}
 use Rattle.messages.specs.declared.reply.Reply.TheVariants as reply
 use Rattle.messages.specs.Noting.{noted_reply}
 use Rattle.entry_maps.specs.Stamps.{stamps_of}
-use Rattle.service_layer.specs.Nodes.{Node, new_node, adopt, stored, after_body}
+use Rattle.service_layer.specs.Nodes.{Node, new_node, adopt, stored}
 use Rattle.service_layer.specs.Takes.{Takes, Treats}
 use Rattle.distributor_part.specs.declared.rules.Rules.{Rules}
 use Rattle.distributor_part.specs.declared.stage.Stage.{Stage}
@@ -37,7 +37,7 @@ use Rattle.lane_keeping.specs.NodeKeeping.{NodeKeeps}
 use Rattle.lane_keeping.specs.Flights.{IsInFlight, Brings, IsWhole, meant}
 use Rattle.lane_keeping.specs.Replaying.{sending, delivered}
 use Rattle.lane_keeping.specs.LaneKeeping.{setting_of, IsIdle, node_in, AreShown, KnowsOpening, IsRowOf, row_by, PartKeeps, part_in, Keeps}
-use Rattle.lane_keeping.specs.Asking.{IsAsking, IsAlike, KnowsTheSame, IsPartTold, unkept, IsTakenBy, OthersStay, IsToldTo}
+use Rattle.lane_keeping.specs.Asking.{IsAsking, IsAlike, KnowsTheSame, IsPartTold, IsTakenBy, OthersStay, IsToldTo}
 use Rattle.lane_keeping.specs.Laws.{IsSentNext}
 use Rattle.lane_keeping.proofs.Partitions.{In}
 use Rattle.lane_keeping.proofs.Acting.{HoldsAt}
@@ -71,20 +71,6 @@ told-by p q n (reply.Newer v) h = same-awaited p q h
 told-by p q n reply.NoBucket h = same-awaited p q h
 told-by p q n reply.Differs h = same-awaited p q h
 told-by p q n reply.NoMemory h = same-awaited p q h
-
--- the reply of a node that can't keep its answer to an Ask or a Read is want of memory
-treats-unkept : (x : Body) (old new : Node) (r : Reply) → after_body x old ≡ old → Treats old x new r → Treats old x new (unkept r)
-treats-unkept x old new (reply.Answer ps es) same t = (t.0, t.1.1.1 ∙ same)
-treats-unkept x old new (reply.Newer v) same t = t
-treats-unkept x old new reply.NoBucket same t = t
-treats-unkept x old new reply.Differs same t = t
-treats-unkept x old new reply.NoMemory same t = t
-
-pub takes-unkept : (old new : Node) (m : Message) (r : Reply) (x : Body) → m.body ≡ x → ((n : Node) → after_body x n ≡ n) → Takes old m new r → Takes old m new (unkept r)
-takes-unkept old new m r x is same t = record {
-  too_old = λ less. (ap unkept (t.too_old less).0, (t.too_old less).1);
-  treated = λ le. subst (λ (b : Body). Treats (adopt m.version old) b new (unkept r)) (sym is) (treats-unkept x (adopt m.version old) new r (same (adopt m.version old)) (subst (λ (b : Body). Treats (adopt m.version old) b new r) is (t.treated le)));
-}
 
 -- ---- pieces of an answer
 

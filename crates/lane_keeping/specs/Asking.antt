@@ -68,14 +68,6 @@ IsPartTold p q node reply.NoBucket = KnowsTheSame p q
 IsPartTold p q node reply.Differs = KnowsTheSame p q
 IsPartTold p q node reply.NoMemory = KnowsTheSame p q
 
--- the reply to an Ask whose answer can't be kept for want of memory
-abbrev pub unkept : Reply → Reply
-unkept (reply.Answer pieces entries) = reply.NoMemory
-unkept (reply.Newer v) = reply.Newer v
-unkept reply.NoBucket = reply.NoBucket
-unkept reply.Differs = reply.Differs
-unkept reply.NoMemory = reply.NoMemory
-
 -- ---- what a delivery and a return leave
 
 -- of the nodes just the receiver takes the message

@@ -14,7 +14,6 @@ ghost use Rattle.messages.specs.declared.body.Body.TheVariants as body;
 ghost use Rattle.messages.specs.declared.decision.Decision.TheVariants.{RoundEnded};
 ghost use Rattle.messages.specs.declared.outcome.Outcome.TheVariants.{Acked};
 ghost use Rattle.service_layer.specs.Nodes.{Node};
-ghost use Rattle.service_layer.specs.Takes.{Takes};
 ghost use Rattle.distributor_part.specs.declared.rules.Rules.{Rules};
 ghost use Rattle.distributor_part.specs.declared.stage.Stage.{Stage};
 ghost use Rattle.distributor_part.specs.Parts.{Part, new_part};
@@ -33,7 +32,7 @@ ghost use Rattle.lane_keeping.specs.Flights.{IsInFlight, Brings, IsWhole};
 ghost use Rattle.lane_keeping.specs.Replaying.{sending, delivered};
 ghost use Rattle.lane_keeping.specs.LaneKeeping.{setting_of, IsIdle, KnowsOpening, part_in, Keeps};
 ghost use Rattle.lane_keeping.specs.Acting.{IsActing, IsKnownRow, IsNoHearing};
-ghost use Rattle.lane_keeping.specs.Asking.{IsAsking, IsJustSent, KnowsTheSame, IsPartTold, unkept, IsTakenBy, OthersStay, IsToldTo};
+ghost use Rattle.lane_keeping.specs.Asking.{IsAsking, IsJustSent, KnowsTheSame, IsPartTold, IsTakenBy, OthersStay, IsToldTo};
 ghost use Rattle.lane_keeping.specs.Laws.{OfKept, IsQuietEvent, IsNoAsk, IsKeptNext, IsSentNext};
 
 use crate::node_laws::{messages_fly, nodes_replay, nodes_wait};
@@ -136,7 +135,7 @@ pub fn asks_are_kept()
     events_are_kept();
 }
 
-/// What a part is told by `answer` is the reply, and nothing where none came; and a part that knows the same as
+/// What a part is told by `take_reply` is the reply, and nothing where none came; and a part that knows the same as
 /// before leaves the lane as it is, whom it asked and how far its round is set aside.
 pub fn parts_are_told()
     ensures told { (p q : Part) (n : ℕ) (r : Reply) → IsAfterAnswer p q n (Some r) → IsPartTold p q n r }
@@ -148,14 +147,6 @@ pub fn parts_are_told()
         (asked : ℕ) (awaited : Option ℕ) (stage : Stage) → part_in lane rules after d
         ≡ record (part_in lane rules parts d) { asked = asked; awaited = awaited; stage = stage }
         → OthersStay lane rules parts after d → Keeps lane rules J newest last nodes after) }
-{}
-
-/// A node's answer to an Ask or to a Read may be exchanged for NoMemory: it changes nothing but the version.
-pub fn nodes_refuse_for_memory()
-    ensures asks { (x y : Node) (m : Message) (r : Reply) → m.body ≡ body.Ask
-        → Takes x m y r → Takes x m y (unkept r) }
-    ensures reads { (x y : Node) (m : Message) (r : Reply) (b : Low) → m.body ≡ body.Read b None
-        → Takes x m y r → Takes x m y (unkept r) }
 {}
 
 /// A lane keeps its journal when the owner's part opens its state: the rows are the coarsest partition of

@@ -105,14 +105,14 @@ fn write_wanted(
 }
 
 /// Delivers the message of an operation, the key of whose document is known, notes that its reply is returned,
-/// and tells the machine. The only error is want of memory, and then the machine isn't told.
+/// and tells the machine.
 fn bring_back_operation(
     lane: &mut LaneState,
     machine: &mut OpMachine,
     number: u64,
     key: u64,
     message: &Message,
-) -> Result<(), NoMemory>
+)
     requires keeps { IsKept lane.old }
     requires just { IsJustSent (journal_of lane.old) number message.now }
     requires receives { Receives lane.old message.now.receiver }
@@ -123,8 +123,8 @@ fn bring_back_operation(
     ensures keeps { IsKept lane.new }
     ensures dealt { IsDealt fate.Deliver number (journal_of lane.old) (journal_of lane.new) }
     ensures flight { IsInFlight (journal_of lane.new) number message.now }
-    ensures stands { OnOk result (HearsIn lane.old lane.new number message.now machine.old machine.new) }
-    ensures told { OnOk result (IsStandingTold message.now machine.old machine.new) }
+    ensures stands { HearsIn lane.old lane.new number message.now machine.old machine.new }
+    ensures told { IsStandingTold message.now machine.old machine.new }
     ensures after { lane.new ≡ record lane.old { journal = lane.new.journal; nodes = lane.new.nodes } }
     ensures nodes { vec_len lane.new.nodes ≡ vec_len lane.old.nodes }
     ensures len { vec_len lane.new.journal ≡ vec_len lane.old.journal + 2 }
@@ -135,35 +135,29 @@ fn bring_back_operation(
     operations_hear();
     let reply = lane.deliver(number, Some(key), message);
     push_within(&mut lane.journal, LaneEvent::Returned { number });
-    machine.answer(lane.alloc, message.receiver, Some(&reply))
+    machine.take_reply(message.receiver, Some(reply));
 }
 
 /// Tells the machine that no reply to its message comes.
-fn bring_none_operation(
-    lane: &LaneState,
-    machine: &mut OpMachine,
-    message: &Message,
-) -> Result<(), NoMemory>
+fn bring_none_operation(lane: &LaneState, machine: &mut OpMachine, message: &Message)
     requires keeps { IsKept lane.now }
     requires next { next_at machine.old ≡ Asks message.now }
-    ensures stands { OnOk result
-        ((number : ℕ) → HearsIn lane.now lane.now number message.now machine.old machine.new) }
-    ensures told { OnOk result (IsStandingTold message.now machine.old machine.new) }
+    ensures stands { (number : ℕ) → HearsIn lane.now lane.now number message.now machine.old machine.new }
+    ensures told { IsStandingTold message.now machine.old machine.new }
 {
     operations_hear();
-    machine.answer(lane.alloc, message.receiver, None)
+    machine.take_reply(message.receiver, None);
 }
 
 /// Deals with the message of an operation that was just sent, by its fate; the machine is told the reply, or
-/// that none comes. There is room for its events, and a place for a late message. The only error is want of
-/// memory, and then the machine isn't told.
+/// that none comes. There is room for its events, and a place for a late message.
 fn deal_operation(
     lane: &mut LaneState,
     machine: &mut OpMachine,
     fate: Fate,
     key: u64,
     message: Message,
-) -> Result<(), NoMemory>
+)
     requires keeps { IsKept lane.old }
     requires just { IsJustSent (journal_of lane.old) lane.old.last message }
     requires receives { IsPrompt fate → Receives lane.old message.receiver }
@@ -176,8 +170,8 @@ fn deal_operation(
     ensures keeps { IsKept lane.new }
     ensures dealt { IsDealt fate lane.old.last (journal_of lane.old) (journal_of lane.new) }
     ensures late { lane.new.late.late ≡ kept_by fate lane.old.last message lane.old.late.late }
-    ensures stands { OnOk result (HearsIn lane.old lane.new lane.old.last message machine.old machine.new) }
-    ensures told { OnOk result (IsStandingTold message machine.old machine.new) }
+    ensures stands { HearsIn lane.old lane.new lane.old.last message machine.old machine.new }
+    ensures told { IsStandingTold message machine.old machine.new }
     ensures after { lane.new ≡ record lane.old {
       journal = lane.new.journal;
       nodes = lane.new.nodes;
@@ -194,23 +188,21 @@ fn deal_operation(
         Fate::LoseRequest => bring_none_operation(lane, machine, &message),
         Fate::LoseReply => {
             lane.deliver(number, Some(key), &message);
-            bring_none_operation(lane, machine, &message)
+            bring_none_operation(lane, machine, &message);
         }
         Fate::Twice => {
-            let told = bring_back_operation(lane, machine, number, key, &message);
+            bring_back_operation(lane, machine, number, key, &message);
             lane.deliver(number, Some(key), &message);
-            told
         }
         Fate::Late(later) => {
-            let told = bring_none_operation(lane, machine, &message);
+            bring_none_operation(lane, machine, &message);
             lane.keep_late(later, message);
-            told
         }
     }
 }
 
 /// Sends the message that comes next, for which there is room, and deals with it by its fate; the late
-/// messages that are due then are delivered. The only error is want of memory, and then the machine isn't told.
+/// messages that are due then are delivered.
 fn send_operation<C: Carrier>(
     lane: &mut LaneState,
     machine: &mut OpMachine,
@@ -218,7 +210,7 @@ fn send_operation<C: Carrier>(
     message: Message,
     carrier: &mut C,
     body: NotedBody,
-) -> Result<(), NoMemory>
+)
     requires keeps { IsKept lane.old }
     requires carried { IsCarriedBy lane.old (C.given carrier.old) }
     requires key { IsKeyOf message.body key }
@@ -236,8 +228,8 @@ fn send_operation<C: Carrier>(
     ensures quiet { IsUneventful (journal_of lane.old) (journal_of lane.new) }
     ensures entries { AddsNoEntry (journal_of lane.old) (journal_of lane.new) }
     ensures runs { SendsIn lane.old lane.new message machine.old }
-    ensures stands { OnOk result (SentIn lane.old lane.new message machine.old machine.new) }
-    ensures told { OnOk result (IsStandingTold message machine.old machine.new) }
+    ensures stands { SentIn lane.old lane.new message machine.old machine.new }
+    ensures told { IsStandingTold message machine.old machine.new }
     ensures after { lane.new ≡ record lane.old {
       journal = lane.new.journal;
       last = lane.new.last;
@@ -250,9 +242,8 @@ fn send_operation<C: Carrier>(
     lane.send_message(&message, body);
     let fate = carrier.fate(lane.last);
     let met = lane.met(message.receiver, fate);
-    let told = deal_operation(lane, machine, met, key, message);
+    deal_operation(lane, machine, met, key, message);
     lane.deliver_due();
-    told
 }
 
 /// Sends the next message of an operation that is prepared, if one is left, and deals with it; the entry of
@@ -300,6 +291,6 @@ pub fn send_next<C: Carrier>(
     let ready = write_wanted(lane, places, line, *written, &message)?;
     *written = ready;
     lane.room_for_message(message.receiver)?;
-    send_operation(lane, machine, key, message, carrier, body)?;
+    send_operation(lane, machine, key, message, carrier, body);
     Ok(true)
 }

@@ -8,6 +8,7 @@ use Rattle.carriers.specs.declared.fate.Fate.TheVariants as fate
 use Rattle.messages.specs.declared.decision.Decision.{Decision}
 use Rattle.messages.specs.declared.message.Message.{Message}
 use Rattle.messages.specs.declared.noted.NotedReply.{NotedReply}
+use Rattle.messages.specs.Noting.{noted_reply}
 use Rattle.messages.specs.declared.noted.NotedReply.TheVariants as noted
 use Rattle.messages.specs.declared.reply.Reply.{Reply}
 use Rattle.messages.specs.declared.late.Late.{Late}
@@ -191,11 +192,11 @@ in-a-phase true true = refl
 in-a-phase true false = refl
 in-a-phase false r = refl
 
-pub told-short : (x y : RoundRun) (node : ℕ) (given : Reply) (n : NotedReply) → HadMemory x → IsRunToldBy x y node given n → wants_memory y ≡ is_short n
-told-short x y node given n h told =
+pub told-short : (x y : RoundRun) (node : ℕ) (w : Reply) → HadMemory x → IsRunToldBy x y node w → wants_memory y ≡ is_short (noted_reply w)
+told-short x y node w h told =
     let t = eqb (x.round).applies 0 in
-    let r = is_refusal n in
+    let r = is_refusal (noted_reply w) in
     ap wants_memory told.run_is
     ∙ ap (λ (a : Bool). (a || (t && r)) || (x.unapplied || (not t && r))) h.read
     ∙ ap (λ (b : Bool). (false || (t && r)) || (b || (not t && r))) h.applied
-    ∙ in-a-phase t r ∙ refused n
+    ∙ in-a-phase t r ∙ refused (noted_reply w)

@@ -1,29 +1,15 @@
 -- What a part is told, and what of it stays.
-use Rattle.std.proofs.Common.{◌≡◌, ◌<◌, ℕ, List, Option, Some, None, inl, inr, length, slice_set, refl, sym, ap, subst, ◌∙◌}
+use Rattle.std.proofs.Common.{◌≡◌, ◌<◌, ℕ, List, Option, Some, None, length, slice_set, sym, ap, subst, ◌∙◌}
 use Rattle.bucket_ids.specs.Buckets.{Low}
 use Rattle.messages.specs.declared.reply.Reply.{Reply}
 use Rattle.messages.specs.declared.reply.Reply.TheVariants as reply
-use Rattle.messages.specs.declared.noted.NotedReply.{NotedReply}
-use Rattle.messages.specs.declared.noted.NotedReply.TheVariants as noted
-use Rattle.messages.specs.Noting.{noted_reply}
 use Rattle.distributor_part.specs.declared.rules.Rules.{Rules}
 use Rattle.distributor_part.specs.Parts.{Part}
-use Rattle.distributor_part.specs.Steps.{IsAfterAnswer, IsAnAnswer}
+use Rattle.distributor_part.specs.Steps.{IsAfterAnswer}
 use Rattle.lane_keeping.specs.LaneKeeping.{part_in}
 use Rattle.lane_keeping.specs.Asking.{KnowsTheSame, IsPartTold, IsToldTo}
-use Rattle.lane_states.specs.Growing.{IsToldBy, HasHeard}
+use Rattle.lane_states.specs.Growing.{HasHeard}
 use Rattle.lane_keeping.proofs.Parts.{part-own, part-others}
-
--- an answer that can't be kept is told as want of memory
-pub told-short : (p q : Part) (node : ℕ) (given : Reply) (n : NotedReply) → IsAnAnswer (Some given) → IsAfterAnswer p q node (Some reply.NoMemory) → n ≡ noted.NoMemory → IsToldBy p q node given n
-told-short p q node (reply.Answer ps es) n a after is = record { reply = reply.NoMemory; is = inr refl; after = after; noted_is = is }
-told-short p q node (reply.Newer v) n a after is = absurd a
-told-short p q node reply.NoBucket n a after is = absurd a
-told-short p q node reply.Differs n a after is = absurd a
-told-short p q node reply.NoMemory n a after is = absurd a
-
-pub told-kept : (p q : Part) (node : ℕ) (given : Reply) (n : NotedReply) → IsAfterAnswer p q node (Some given) → n ≡ noted_reply given → IsToldBy p q node given n
-told-kept p q node given n after is = record { reply = given; is = inl refl; after = after; noted_is = is }
 
 heard-none : (p q : Part) → q ≡ record p { awaited = None } → HasHeard p q
 heard-none p q e = record {

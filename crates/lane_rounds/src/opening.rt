@@ -1,17 +1,13 @@
 ghost use Rattle.std.specs.Prelude.{◌≡◌, ◌≤◌, ℕ, ◌<◌, ◌+◌, ◌||◌, true, false, None, Some, OnOk, OnErr, IfOk, length, vec_len, vec_capacity};
-ghost use Rattle.messages.specs.Noting.{noted_reply};
-ghost use Rattle.messages.specs.declared.reply.Reply.TheVariants as reply;
-ghost use Rattle.messages.specs.declared.noted.NotedReply.TheVariants as noted;
 ghost use Rattle.carriers.specs.declared.fate.Fate.TheVariants as fate;
 ghost use Rattle.messages.specs.Waiting.{AreSentBefore};
 ghost use Rattle.lane_carriage.specs.Carriage.{IsDealt};
 ghost use Rattle.lane_carriage.specs.Readers.{IsPrompt};
 ghost use Rattle.lane_carriage.specs.Waits.{kept_by};
-ghost use Rattle.distributor_part.specs.Steps.{IsAfterAnswer};
 ghost use Rattle.lane_keeping.specs.Flights.{IsInFlight};
 ghost use Rattle.lane_keeping.specs.Asking.{IsJustSent, OthersStay};
 ghost use Rattle.lane_states.specs.LaneStates.{journal_of, IsKept, HasRoom, Receives, part_of, Asks, IsCarriedBy, IsResting, Stays, Went, NodesOn};
-ghost use Rattle.lane_states.specs.Growing.{IsToldBy, HasHeard, is_short, IsSettled};
+ghost use Rattle.lane_states.specs.Growing.{HasHeard, is_short, IsSettled};
 ghost use Rattle.lane_rounds.specs.Openings.{IsOpening, IsNext, AsksOn, StopsAsking, EndsAsking, StopsAfter, GivesUp, EndsOpening, StopsOpening};
 ghost use Rattle.bucket_ids.specs.Buckets.{Low, IsIn};
 ghost use Rattle.lane_journals.specs.Readers.{running};
@@ -20,18 +16,14 @@ ghost use Rattle.lane_journals.specs.Meanings.{history};
 ghost use Rattle.lane_states.specs.Shortages.{WhereItEnds, NoneIsShort, EndsAtOnce};
 
 use carriers::{Carrier, Fate};
-use distributor_part::DistributorPart;
 use lane_carriage::laws::late_messages_wait;
 use lane_journals::LaneEvent;
-use lane_keeping::laws::{
-    asks_are_kept, nodes_refuse_for_memory, openings_are_kept, parts_are_told,
-};
+use lane_keeping::laws::{asks_are_kept, openings_are_kept, parts_are_told};
 use lane_keeping::node_laws::{messages_fly, nodes_hold};
 use lane_states::at_shortage::AtShortage;
 use lane_states::lane_state::{LaneState, push_within};
-use messages::{Job, Message, NotedReply, Reply, Step};
+use messages::{Job, Message, NotedReply, Step};
 use node_sets::NodeSet;
-use service_layer::Taken;
 use value_lists::NoMemory;
 
 /// The next step of a distributor that opens its state.
@@ -65,41 +57,6 @@ pub struct OpeningEnd {
     pub short: bool,
 }
 
-/// Tells a part that the node wants memory; takes none.
-fn tell_short(part: &mut DistributorPart, node: u8) -> NotedReply
-    requires { part.old.awaited ≡ Some node }
-    ensures told { IsAfterAnswer part.old part.new node (Some reply.NoMemory) }
-    ensures noted { result ≡ noted.NoMemory }
-{
-    let Ok(()) = part.answer(node, Some(&Reply::NoMemory)) else {
-        unreachable!();
-    };
-    NotedReply::NoMemory
-}
-
-/// Tells a part that no reply comes.
-fn tell_none(part: &mut DistributorPart, node: u8)
-    requires { part.old.awaited ≡ Some node }
-    ensures { IsAfterAnswer part.old part.new node None }
-{
-    let Ok(()) = part.answer(node, None) else {
-        unreachable!();
-    };
-}
-
-/// Tells a part the reply of a node, and gives what is to be noted: the reply, or that the node wants memory
-/// where the part can't keep its answer.
-fn tell(part: &mut DistributorPart, node: u8, taken: Taken) -> NotedReply
-    requires awaited { part.old.awaited ≡ Some node }
-    requires noted { taken.noted ≡ noted_reply taken.reply }
-    ensures { IsToldBy part.old part.new node taken.reply result }
-{
-    match part.answer(node, Some(&taken.reply)) {
-        Ok(()) => taken.noted,
-        Err(_) => tell_short(part, node),
-    }
-}
-
 fn either(one: bool, other: bool) -> bool
     ensures { result ≡ (one || other) }
 {
@@ -116,8 +73,7 @@ fn is_short(reply: &NotedReply) -> bool
     }
 }
 
-/// Delivers the Ask of a distributor, which is told the reply, and notes that it is returned; takes no
-/// memory but for the answer.
+/// Delivers the Ask of a distributor, which is told the reply, and notes that it is returned; takes no memory.
 fn bring_back(lane: &mut LaneState, distributor: u8, number: u64, message: &Message) -> bool
     requires keeps { IsKept lane.old }
     requires just { IsJustSent (journal_of lane.old) number message.now }
@@ -142,16 +98,21 @@ fn bring_back(lane: &mut LaneState, distributor: u8, number: u64, message: &Mess
     ensures capacity { vec_capacity lane.old.journal ≤ vec_capacity lane.new.journal }
 {
     asks_are_kept();
-    nodes_refuse_for_memory();
     parts_are_told();
     messages_fly();
     nodes_hold();
     let taken = lane.nodes[usize::from(message.receiver)].take(message);
-    let part = &mut lane.parts[usize::from(distributor)];
-    let reply = tell(part, message.receiver, taken);
-    let short = is_short(&reply);
-    push_within(&mut lane.journal, LaneEvent::Delivered { number, reply });
+    let short = is_short(&taken.noted);
+    push_within(
+        &mut lane.journal,
+        LaneEvent::Delivered {
+            number,
+            reply: taken.noted,
+        },
+    );
     push_within(&mut lane.journal, LaneEvent::Returned { number });
+    let part = &mut lane.parts[usize::from(distributor)];
+    part.take_reply(message.receiver, Some(taken.reply));
     short
 }
 
@@ -167,7 +128,7 @@ fn bring_none(lane: &mut LaneState, distributor: u8, node: u8)
     ensures parts { vec_len lane.new.parts ≡ vec_len lane.old.parts }
 {
     parts_are_told();
-    tell_none(&mut lane.parts[usize::from(distributor)], node);
+    lane.parts[usize::from(distributor)].take_reply(node, None);
 }
 
 /// Deals with an Ask that was just sent, by its fate; the distributor is told the reply, or that none comes.

@@ -2,8 +2,6 @@ ghost use Rattle.std.specs.Prelude.{◌≡◌, ◌≤◌, ◌<◌, ◌+◌, ◌�
 ghost use Rattle.bucket_ids.specs.Buckets.{Low, IsIn};
 ghost use Rattle.node_sets.specs.Members.{has_node};
 ghost use Rattle.messages.specs.Noting.{noted_body, noted_reply};
-ghost use Rattle.messages.specs.declared.reply.Reply.TheVariants as reply;
-ghost use Rattle.messages.specs.declared.noted.NotedReply.TheVariants as noted;
 ghost use Rattle.carriers.specs.declared.fate.Fate.{Fate};
 ghost use Rattle.carriers.specs.declared.fate.Fate.TheVariants as fate;
 ghost use Rattle.distributor_part.specs.declared.stage.Stage.TheVariants as stage;
@@ -23,7 +21,7 @@ ghost use Rattle.lane_keeping.specs.Replaying.{sending};
 ghost use Rattle.lane_keeping.specs.Asking.{OthersStay};
 ghost use Rattle.round_keeping.specs.RoundKeeping.{IsAwaited};
 ghost use Rattle.lane_states.specs.LaneStates.{journal_of, IsKept, HasRoom, Receives, part_of, IsCarriedBy, NodesOn};
-ghost use Rattle.round_keeping.specs.RoundRuns.{IsAfterReply, IsRoundToldBy, is_refusal, NoneRuns, IsRunning, IsToSend, IsCutOff, GoesOn, IsRunToldBy, left, IsRunBy, MayBegin, MayBeginAt, LowIsThere, IsNewRun, EndsEnough, Begins, RunsOn, EndsWith, IsStageOver, IsToldOver, EndsJob, EndsRun, are_missing, is_short, IsEnd, IsWholeRun, IsCutShort};
+ghost use Rattle.round_keeping.specs.RoundRuns.{IsAfterReply, is_refusal, NoneRuns, IsRunning, IsToSend, IsCutOff, GoesOn, IsRunToldBy, left, IsRunBy, MayBegin, MayBeginAt, LowIsThere, IsNewRun, EndsEnough, Begins, RunsOn, EndsWith, IsStageOver, IsToldOver, EndsJob, EndsRun, are_missing, is_short, IsEnd, IsWholeRun, IsCutShort};
 ghost use Rattle.lane_states.specs.Growing.{IsSettled};
 ghost use Rattle.lane_states.specs.Shortages.{WhereItEnds, NoneIsShort, EndsAtOnce};
 ghost use Rattle.round_keeping.specs.RoundShortages.{wants_memory, HadMemory};
@@ -35,9 +33,7 @@ use cluster_states::ClusterState;
 use distributor_part::DistributorPart;
 use lane_carriage::laws::late_messages_wait;
 use lane_journals::LaneEvent;
-use lane_keeping::laws::{
-    events_are_kept, marks_are_kept, nodes_refuse_for_memory, owners_act, parts_are_told,
-};
+use lane_keeping::laws::{events_are_kept, marks_are_kept, owners_act, parts_are_told};
 use lane_keeping::node_laws::{messages_fly, nodes_hold};
 use lane_states::at_shortage::AtShortage;
 use lane_states::lane_state::{LaneState, push_within};
@@ -46,7 +42,6 @@ use messages::{Decision, Job, Message, NotedBody, NotedReply, Origin, Reply, Ste
 use node_sets::NodeSet;
 use round_keeping::laws::{rounds_begin, rounds_end, rounds_hear, rounds_send};
 use round_keeping::{RoundEnd, RoundRun};
-use service_layer::Taken;
 use std::alloc::Global;
 use value_lists::NoMemory;
 
@@ -55,44 +50,6 @@ use value_lists::NoMemory;
 pub struct RoundPlan {
     pub bucket: Bucket,
     pub receivers: NodeSet,
-}
-
-/// Tells a round that the node wants memory; takes none.
-fn tell_short(alloc: Global, round: &mut Round, node: u8) -> NotedReply
-    requires awaited { round.old.awaited ≡ Some node }
-    requires small { node < 32 }
-    ensures told { IsAfterReply round.old round.new node (Some reply.NoMemory) }
-    ensures noted { result ≡ noted.NoMemory }
-{
-    let Ok(()) = round.answer(alloc, node, Some(&Reply::NoMemory)) else {
-        unreachable!();
-    };
-    NotedReply::NoMemory
-}
-
-/// Tells a round that no reply comes.
-fn tell_none(alloc: Global, round: &mut Round, node: u8)
-    requires awaited { round.old.awaited ≡ Some node }
-    requires small { node < 32 }
-    ensures { IsAfterReply round.old round.new node None }
-{
-    let Ok(()) = round.answer(alloc, node, None) else {
-        unreachable!();
-    };
-}
-
-/// Tells a round the reply of a node, and gives what is to be noted: the reply, or that the node wants memory
-/// where the round can't keep its answer.
-fn tell(alloc: Global, round: &mut Round, node: u8, taken: Taken) -> NotedReply
-    requires awaited { round.old.awaited ≡ Some node }
-    requires small { node < 32 }
-    requires noted { taken.noted ≡ noted_reply taken.reply }
-    ensures { IsRoundToldBy round.old round.new node taken.reply result }
-{
-    match round.answer(alloc, node, Some(&taken.reply)) {
-        Ok(()) => taken.noted,
-        Err(_) => tell_short(alloc, round, node),
-    }
 }
 
 /// Whether a node replied that it wants memory.
@@ -112,19 +69,26 @@ fn raised(flag: bool, phase: bool, refused: bool) -> bool
     flag || (phase && refused)
 }
 
-/// Tells a round the reply of a node, gives what is to be noted, and keeps in mind that the node wants memory.
-fn tell_run(alloc: Global, run: &mut RoundRun, node: u8, taken: Taken) -> NotedReply
+/// Tells a round the reply of a node, or that none comes.
+fn tell(round: &mut Round, node: u8, reply: Option<Reply>)
+    requires awaited { round.old.awaited ≡ Some node }
+    requires small { node < 32 }
+    ensures { IsAfterReply round.old round.new node reply }
+{
+    round.take_reply(node, reply);
+}
+
+/// Tells a round the reply of a node, and keeps in mind that the node wants memory.
+fn tell_run(run: &mut RoundRun, node: u8, reply: Reply, refused: bool)
     requires awaited { run.old.round.awaited ≡ Some node }
     requires small { node < 32 }
-    requires noted { taken.noted ≡ noted_reply taken.reply }
-    ensures { IsRunToldBy run.old run.new node taken.reply result }
+    requires refused { refused ≡ is_refusal (noted_reply reply) }
+    ensures { IsRunToldBy run.old run.new node reply }
 {
     let reading = run.round.is_reading();
-    let reply = tell(alloc, &mut run.round, node, taken);
-    let refused = is_refusal(&reply);
+    tell(&mut run.round, node, Some(reply));
     run.unread = raised(run.unread, reading, refused);
     run.unapplied = raised(run.unapplied, !reading, refused);
-    reply
 }
 
 /// Whether a node has wanted memory for a round so far.
@@ -235,7 +199,7 @@ fn end_of(run: &RoundRun, row: Row) -> RoundEnd
     ensures missing { (n : ℕ) → has_node result.missing n ≡ are_missing run.now.round result.whole n }
     ensures short { result.short ≡ is_short run.now result.whole }
 {
-    if run.round.union().is_some() {
+    if run.round.is_whole() {
         RoundEnd {
             row,
             whole: true,
@@ -254,8 +218,8 @@ fn end_of(run: &RoundRun, row: Row) -> RoundEnd
 
 // ---- one message
 
-/// Delivers the message of a round that is waited for, tells the round the reply, and notes that it is
-/// returned; takes no memory but for the answer.
+/// Delivers the message of a round that is waited for, notes that the reply is returned, and tells the round; takes no
+/// memory.
 fn bring_back_round(lane: &mut LaneState, run: &mut RoundRun, number: u64, message: &Message)
     requires keeps { IsKept lane.old }
     requires runs { IsRunning lane.old.lane (journal_of lane.old) run.old }
@@ -279,14 +243,20 @@ fn bring_back_round(lane: &mut LaneState, run: &mut RoundRun, number: u64, messa
     ensures capacity { vec_capacity lane.old.journal ≤ vec_capacity lane.new.journal }
 {
     events_are_kept();
-    nodes_refuse_for_memory();
     messages_fly();
     nodes_hold();
     rounds_hear();
     let taken = lane.nodes[usize::from(message.receiver)].take(message);
-    let reply = tell_run(lane.alloc, run, message.receiver, taken);
-    push_within(&mut lane.journal, LaneEvent::Delivered { number, reply });
+    let refused = is_refusal(&taken.noted);
+    push_within(
+        &mut lane.journal,
+        LaneEvent::Delivered {
+            number,
+            reply: taken.noted,
+        },
+    );
     push_within(&mut lane.journal, LaneEvent::Returned { number });
+    tell_run(run, message.receiver, taken.reply, refused);
 }
 
 /// Tells a round that no reply to its message comes.
@@ -302,7 +272,7 @@ fn bring_none_round(lane: &LaneState, run: &mut RoundRun, node: u8)
     ensures minds { run.new ≡ record run.old { round = run.new.round } }
 {
     rounds_hear();
-    tell_none(lane.alloc, &mut run.round, node);
+    tell(&mut run.round, node, None);
 }
 
 /// Delivers a message while a round is under way, and its reply is lost.
@@ -380,7 +350,7 @@ fn deal_round(lane: &mut LaneState, run: &mut RoundRun, fate: Fate, message: Mes
 }
 
 /// Sends the next message of a round, for which there is room, and deals with it and with the late ones that
-/// fall due; takes no memory but for an answer.
+/// fall due; takes no memory.
 fn send_round<C: Carrier>(
     lane: &mut LaneState,
     carrier: &mut C,

@@ -1,30 +1,16 @@
 -- By which events a journal grows, and what becomes of a message.
-use Rattle.std.specs.Prelude.{◌≡◌, ◌⊎◌, ◌↔◌, ◌≤◌, ℕ, zero, suc, Bool, true, false, IsSome, List, [], ◌∷◌, Option, None, Some, nat_lt, if◌then◌else◌}
-use Rattle.node_sets.specs.Members.{has_node}
-use Rattle.cluster_states.specs.declared.cluster_state.ClusterState.{ClusterState}
-use Rattle.messages.specs.declared.reply.Reply.{Reply}
+use Rattle.std.specs.Prelude.{◌≡◌, ◌↔◌, ◌≤◌, ℕ, Bool, true, false, IsSome, List, ◌∷◌, None, Some}
 use Rattle.messages.specs.declared.noted.NotedReply.{NotedReply}
-use Rattle.messages.specs.Noting.{noted_reply}
 use Rattle.distributor_part.specs.Parts.{Part}
-use Rattle.distributor_part.specs.Steps.{IsAfterAnswer}
 use Rattle.messages.specs.declared.late.Late.{Late}
 use Rattle.lane_carriage.specs.Carriage.{IsGivenOut, is_cut_off}
-use Rattle.lane_keeping.specs.Asking.{unkept}
 use Rattle.messages.specs.declared.noted.NotedReply.TheVariants as noted
 use Rattle.lane_journals.specs.Events as plain
-use Rattle.lane_journals.specs.Readers.{Journal, held, stopped, first_reply, returned}
+use Rattle.lane_journals.specs.Readers.{Journal, stopped, first_reply, returned}
 use Rattle.lane_journals.specs.Meanings.{history}
 use Rattle.lane_journals.specs.declared.event.LaneEvent.{LaneEvent}
-use Rattle.lane_journals.specs.declared.event.LaneEvent.TheVariants.{Published, Heard, Stopped, Started}
 
 -- ---- messages
-
--- the part is told the node's reply, or that the node wants memory, where an answer can't be kept; and this is noted
-pub record IsToldBy (p q : Part) (node : ℕ) (given : Reply) (noted : NotedReply) : Type 0 where
-  pub reply : Reply
-  pub is : (reply ≡ given) ⊎ (reply ≡ unkept given)
-  pub after : IsAfterAnswer p q node (Some reply)
-  pub noted_is : noted ≡ noted_reply reply
 
 abbrev pub is_short : NotedReply → Bool
 is_short noted.NoMemory = true

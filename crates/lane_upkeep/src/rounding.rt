@@ -121,23 +121,24 @@ fn exact_of(alloc: Global, round: &Round) -> Result<Vec<Exact>, NoMemory>
 }
 
 /// How many documents the union of a round has, if there is one.
-fn union_size(round: &Round) -> Option<u64>
-    ensures some { IfSome result (λ documents. documents ≡ documents_of round.now.union) }
-    ensures whole { IfSome result (λ documents. HaveAllShown round.now.readers round.now.shown) }
-    ensures none { IfNone result (HaveAllShown round.now.readers round.now.shown → ⊥) }
+fn union_size(round: &mut Round) -> Result<Option<u64>, NoMemory>
+    ensures some { IfOk result (λ size. IfSome size (λ documents. documents ≡ documents_of round.old.union)) }
+    ensures whole { IfOk result (λ size. IfSome size (λ documents. HaveAllShown round.old.readers round.old.shown)) }
+    ensures none { IfOk result (λ size. IfNone size (HaveAllShown round.old.readers round.old.shown → ⊥)) }
+    ensures kept { round.new ≡ round.old }
 {
-    match round.union() {
-        Some(union) => Some(union.documents()),
-        None => None,
+    if !round.is_whole() {
+        return Ok(None);
     }
+    Ok(Some(round.documents()?))
 }
 
 /// What a round told of its row.
-fn note_of(alloc: Global, round: &Round) -> Result<RowNote, NoMemory>
-    ensures { IfOk result (IsNoteOf round.now) }
+fn note_of(alloc: Global, round: &mut Round) -> Result<RowNote, NoMemory>
+    ensures { IfOk result (IsNoteOf round.old) }
 {
     let exact = exact_of(alloc, round)?;
-    let documents = union_size(round);
+    let documents = union_size(round)?;
     Ok(RowNote {
         bucket: round.row(),
         whole: documents.is_some(),
@@ -216,6 +217,6 @@ pub fn run_round_at<C: Carrier>(
 {
     undisturbed_rounds_end();
     targets_are_of_the_list();
-    let run = run_at(lane, carrier, owner, at)?;
-    note_of(lane.alloc, &run.round)
+    let mut run = run_at(lane, carrier, owner, at)?;
+    note_of(lane.alloc, &mut run.round)
 }

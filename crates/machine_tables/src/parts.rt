@@ -7,7 +7,7 @@ use cluster_states::ClusterState;
 use distributor_part::{DistributorPart, Rules, Stage};
 use entry_maps::EntryMap;
 use ideal_nodes::owner;
-use messages::{Job, Message, NodePieces, Reply, Step};
+use messages::{Job, Message, NodePieces, Step};
 use node_sets::NodeSet;
 use pieces::PieceList;
 use std::alloc::Global;
@@ -73,7 +73,8 @@ fn next(alloc: Global, part: &mut DistributorPart, key: &str) -> Option<String> 
 fn reply(alloc: Global, part: &mut DistributorPart, words: &[&str]) -> Option<()> {
     let (verb, rest) = words.split_first()?;
     let reply = read_arrived(alloc, verb, rest)?;
-    part.answer(part.awaited()?, reply.as_ref()).ok()
+    part.take_reply(part.awaited()?, reply);
+    Some(())
 }
 
 /// Tells that a round is over; node 1 answered its Read.

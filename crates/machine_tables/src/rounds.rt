@@ -30,21 +30,22 @@ fn told(alloc: Global, message: &Message) -> Option<String> {
 }
 
 /// Tells a round the reply to the message that it sent.
-fn tell(alloc: Global, round: &mut Round, node: u8, reply: Option<&Reply>) -> Option<()> {
+fn tell(round: &mut Round, node: u8, reply: Option<Reply>) -> Option<()> {
     if node >= 32 || round.awaited() != Some(node) {
         return None;
     }
-    round.answer(alloc, node, reply).ok()
+    round.take_reply(node, reply);
+    Some(())
 }
 
 /// Sends the next message and tells its reply, and says whom it asked and what.
-fn step(alloc: Global, round: &mut Round, reply: Option<&Reply>) -> Option<String> {
+fn step(alloc: Global, round: &mut Round, reply: Option<Reply>) -> Option<String> {
     if round.awaited().is_some() {
         return None;
     }
     match round.send(alloc).ok()? {
         Some(message) => {
-            tell(alloc, round, message.receiver, reply)?;
+            tell(round, message.receiver, reply)?;
             told(alloc, &message)
         }
         None => String::from_str(alloc, "end").ok(),
@@ -52,20 +53,19 @@ fn step(alloc: Global, round: &mut Round, reply: Option<&Reply>) -> Option<Strin
 }
 
 /// How many entries the union has, or 0.
-fn union_len(round: &Round) -> u64 {
-    match round.union() {
-        Some(union) => union.entries(),
-        None => 0,
+fn union_len(round: &mut Round) -> Option<u64> {
+    if round.is_whole() {
+        round.entries().ok()
+    } else {
+        Some(0)
     }
 }
 
 /// Who has the union, whose answers had entries, how many pieces node 3 showed, and how many entries the union has.
-fn found(alloc: Global, round: &Round) -> Option<String> {
+fn found(alloc: Global, round: &mut Round) -> Option<String> {
+    let entries = union_len(round)?;
     let (holders, givers) = (round.holders().bits(), round.givers().bits());
-    shown(
-        alloc,
-        &(holders, givers, round.pieces_of(3).len(), union_len(round)),
-    )
+    shown(alloc, &(holders, givers, round.pieces_of(3).len(), entries))
 }
 
 impl Rounds {
@@ -84,14 +84,14 @@ impl Rounds {
     /// What the round sends that gets a reply.
     fn reply(&mut self, alloc: Global, verb: &str, rest: &[&str]) -> Option<String> {
         let reply = read_arrived(alloc, verb, rest)?;
-        step(alloc, &mut self.round, reply.as_ref())
+        step(alloc, &mut self.round, reply)
     }
 
     /// What comes of a line.
     pub fn say(&mut self, alloc: Global, verb: &str, rest: &[&str]) -> Option<String> {
         match verb {
             "begin" => done(alloc, self.begin(alloc, word(rest, 0), word(rest, 1))),
-            "found" => found(alloc, &self.round),
+            "found" => found(alloc, &mut self.round),
             verb => self.reply(alloc, verb, rest),
         }
     }

@@ -209,12 +209,12 @@ fn told(alloc: Global, message: &Message) -> Option<String> {
 }
 
 /// The next message, before which there is no outcome and whose reply is told.
-fn sent(alloc: Global, machine: &mut OpMachine, reply: Option<&Reply>) -> Option<Message> {
-    if machine.outcome().is_some() {
+fn sent(alloc: Global, machine: &mut OpMachine, reply: Option<Reply>) -> Option<Message> {
+    if machine.outcome(alloc).ok()?.is_some() {
         return None;
     }
     let message = machine.send(alloc).ok()??;
-    machine.answer(alloc, message.receiver, reply).ok()?;
+    machine.take_reply(message.receiver, reply);
     Some(message)
 }
 
@@ -228,7 +228,7 @@ fn is_own(message: &Message) -> bool {
 /// What is sent that gets a reply.
 fn step(alloc: Global, machine: &mut OpMachine, word: &str) -> Option<String> {
     let reply = read_answer(alloc, word)?;
-    let message = sent(alloc, machine, reply.as_ref())?;
+    let message = sent(alloc, machine, reply)?;
     if is_own(&message) {
         told(alloc, &message)
     } else {
@@ -241,7 +241,7 @@ fn ending(alloc: Global, machine: &mut OpMachine) -> Option<String> {
     if machine.send(alloc).ok()?.is_some() {
         return None;
     }
-    shown(alloc, machine.outcome()?)
+    shown(alloc, &machine.outcome(alloc).ok()??)
 }
 
 /// What is sent where these are the replies, and how it ends.

@@ -1,5 +1,5 @@
 -- A round: which message comes next, and what an answer makes of it.
-use Rattle.std.specs.Prelude.{◌≡◌, ◌⊎◌, ◌==◌, ◌||◌, ◌&&◌, ℕ, ◌+◌, ◌<◌, ◌≤◌, Bool, true, false, nat_lt, List, [], ◌∷◌, ◌++◌, Option, None, Some, if◌then◌else◌}
+use Rattle.std.specs.Prelude.{◌≡◌, ◌⊎◌, ◌==◌, ◌||◌, ◌&&◌, ℕ, ◌+◌, ◌<◌, ◌≤◌, Bool, true, false, nat_lt, List, [], ◌∷◌, ◌++◌, Option, None, Some, IsSome, if◌then◌else◌}
 use Rattle.std.specs.List.{list_any}
 use Rattle.std.specs.FinMap as fin
 use Rattle.bucket_ids.specs.Buckets.{Low}
@@ -119,6 +119,11 @@ abbrev pub union_after : Entries → Option Reply → Entries
 union_after union (Some (reply.Answer pieces entries)) = joined union entries
 union_after union _ = union
 
+-- the same by the entries that were shown, if any were
+abbrev pub union_with : Entries → Option Entries → Entries
+union_with union None = union
+union_with union (Some entries) = joined union entries
+
 -- the round once the reply to a Read is told
 abbrev pub after_read : RoundState → ℕ → Option Reply → RoundState
 after_read r node reply =
@@ -128,3 +133,10 @@ after_read r node reply =
 pub record IsAfterApply (r s : RoundState) (node : ℕ) (reply : Option Reply) : Type 0 where
   pub holders : (n : ℕ) → has_node s.holders n ≡ (has_node r.holders n || (is_answer reply && n == node))
   pub rest : s ≡ record r { awaited = None; holders = s.holders }
+
+-- ---- what holds of every round
+
+-- while an answer is awaited all that was shown before is in the union, and there is a place for what a Read shows
+pub record IsRound (awaited : Option ℕ) (applies : ℕ) (heard : Option Entries) (shown places : ℕ) : Type 0 where
+  pub united : IsSome awaited → heard ≡ None
+  pub place : IsSome awaited → applies ≡ 0 → shown + 1 ≤ places

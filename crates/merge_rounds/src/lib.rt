@@ -10,7 +10,7 @@
 //! let mut round = Round::new(alloc, origin, row, readers, receivers);
 //! while let Some(message) = round.send(alloc)? {
 //!     let reply = deliver(&message);                     // or None, where none came
-//!     round.answer(alloc, message.receiver, reply)?;
+//!     round.take_reply(message.receiver, reply);
 //! }
 //! round.holders()                                        // who has the union
 //! ```

@@ -1,8 +1,9 @@
-ghost use Rattle.std.specs.Prelude.{◌≡◌, ◌==◌, ◌||◌, ◌&&◌, not, ℕ, ◌+◌, ◌<◌, true, Some, None, IfOk, OnOk, OnErr, IfSome, IfNone};
-ghost use Rattle.std.specs.Option.{option_copied};
+ghost use Rattle.std.specs.Prelude.{◌≡◌, ◌==◌, ◌||◌, ◌&&◌, not, ℕ, ◌+◌, ◌<◌, Some, None, IsTrue, IsFalse, IfOk, OnOk, OnErr};
+ghost use Rattle.std.specs.FinMap as fin;
+ghost use Rattle.entry_maps.specs.Entries.{documents_of};
 ghost use Rattle.node_sets.specs.Members.{has_node};
 ghost use Rattle.messages.specs.Noting.{message_of};
-ghost use Rattle.merge_rounds.specs.Rounds.{RoundState, new_round, IsNext, after_send, after_read, IsAfterApply, HaveAllShown, did_show, did_give, pieces_by, is_answer};
+ghost use Rattle.merge_rounds.specs.Rounds.{RoundState, new_round, IsNext, after_send, after_read, IsAfterApply, HaveAllShown, did_show, did_give, pieces_by};
 
 use crate::order::next_of;
 use crate::shown;
@@ -27,12 +28,15 @@ pub struct Round {
     awaited: Option<u8>,
     shown: Vec<NodePieces>,
     union: EntryMap,
+    /// What the answer that was told last showed, until it is in the union.
+    heard: Option<EntryMap>,
     holders: NodeSet,
 }
 
 impl Model for Round {
     ghost use Rattle.merge_rounds.specs.RoundCodes.{round_code};
-    ghost use Rattle.merge_rounds.specs.Rounds.{RoundState};
+    ghost use Rattle.std.specs.Prelude.{vec_len, vec_capacity};
+    ghost use Rattle.merge_rounds.specs.Rounds.{RoundState, union_with, IsRound};
 
     ghost Value = { RoundState };
 
@@ -47,9 +51,11 @@ impl Model for Round {
       applies = r.applies;
       awaited = r.awaited;
       shown = r.shown.items;
-      union = r.union;
+      union = union_with r.union r.heard;
       holders = r.holders;
     } };
+
+    ghost invariant = { λ r. IsRound r.awaited r.applies r.heard (vec_len r.shown) (vec_capacity r.shown) };
 }
 
 impl Round {
@@ -73,13 +79,14 @@ impl Round {
             awaited: None,
             shown: Vec::new(alloc),
             union: EntryMap::new(alloc),
+            heard: None,
             holders: NodeSet::of(0),
         }
     }
 
     /// The next message: a Read of the row to each reader in rising number, then, where all have answered,
     /// an Apply of the union to each receiver in rising number; `None` where nothing is left to send.
-    /// The answer to the message before was told.
+    /// The answer to the message before was told. Then the reply takes no memory.
     pub fn send(&mut self, alloc: Global) -> Result<Option<Message>, NoMemory>
         requires { self.old.awaited ≡ None }
         ensures message { IfOk result (λ sent. IsNext self.old sent) }
@@ -87,7 +94,7 @@ impl Round {
         ensures err { OnErr result (self.new ≡ self.old) }
     {
         if let Some(node) = next_of(self.readers, self.reads) {
-            return Ok(Some(self.read_of(node)));
+            return Ok(Some(self.read_of(node)?));
         }
         if !shown::have_all(self.readers, &self.shown) {
             return Ok(None);
@@ -98,30 +105,38 @@ impl Round {
         }
     }
 
-    /// The Read to a node.
-    fn read_of(&mut self, node: u8) -> Message
-        requires { self.old.reads < 32 }
-        ensures message { result ≡ message_of self.old.origin node (Body.Read self.old.row None) }
-        ensures state { self.new ≡ record self.old { reads = self.old.reads + 1; awaited = Some node } }
+    /// The Read to a node. There is a place for what it shows then.
+    fn read_of(&mut self, node: u8) -> Result<Message, NoMemory>
+        requires told { self.old.awaited ≡ None }
+        requires turn { self.old.reads < 32 }
+        ensures message { IfOk result (λ sent.
+            sent ≡ message_of self.old.origin node (Body.Read self.old.row None)) }
+        ensures state { OnOk result
+            (self.new ≡ record self.old { reads = self.old.reads + 1; awaited = Some node }) }
+        ensures err { OnErr result (self.new ≡ self.old) }
     {
+        shown::unite(&mut self.union, &mut self.heard)?;
+        self.shown.reserve(1)?;
         self.reads += 1;
         self.awaited = Some(node);
         let body = Body::Read {
             bucket: self.row,
             only: None,
         };
-        self.origin.message(node, body)
+        Ok(self.origin.message(node, body))
     }
 
     /// The Apply to a node.
     fn apply_to(&mut self, alloc: Global, node: u8) -> Result<Message, NoMemory>
-        requires { self.old.applies < 32 }
+        requires told { self.old.awaited ≡ None }
+        requires turn { self.old.applies < 32 }
         ensures message { IfOk result (λ sent.
             sent ≡ message_of self.old.origin node (Body.Apply self.old.row self.old.union)) }
         ensures state { OnOk result
             (self.new ≡ record self.old { applies = self.old.applies + 1; awaited = Some node }) }
         ensures err { OnErr result (self.new ≡ self.old) }
     {
+        shown::unite(&mut self.union, &mut self.heard)?;
         let body = Body::Apply {
             bucket: self.row,
             entries: self.union.copy(alloc)?,
@@ -131,26 +146,19 @@ impl Round {
         Ok(self.origin.message(node, body))
     }
 
-    /// Takes the reply to the message that was sent last, or that none came; only `Answer` counts. The
-    /// only error is want of memory, which only an answer to a Read takes.
-    pub fn answer(&mut self, alloc: Global, node: u8, reply: Option<&Reply>) -> Result<(), NoMemory>
+    /// Takes the reply to the message that was sent last, or that none came; only `Answer` counts.
+    pub fn take_reply(&mut self, node: u8, reply: Option<Reply>)
         requires asked { self.old.awaited ≡ Some node }
         requires node { node < 32 }
-        ensures read { self.old.applies ≡ 0
-            → OnOk result (self.new ≡ after_read self.old node (option_copied reply.entry)) }
-        ensures apply { 0 < self.old.applies
-            → OnOk result (IsAfterApply self.old self.new node (option_copied reply.entry)) }
-        ensures err { OnErr result (self.new ≡ self.old) }
-        ensures free { OnErr result (is_answer (option_copied reply.entry) ≡ true) }
-        ensures free_applies { OnErr result (self.old.applies ≡ 0) }
+        ensures read { self.old.applies ≡ 0 → self.new ≡ after_read self.old node reply }
+        ensures apply { 0 < self.old.applies → IsAfterApply self.old self.new node reply }
     {
         if self.applies > 0 {
-            self.take_apply(node, shown::is_answer(reply));
-            return Ok(());
+            self.take_apply(node, shown::is_answer(reply.as_ref()));
+            return;
         }
-        shown::take_reply(alloc, &mut self.shown, &mut self.union, node, reply)?;
+        self.heard = shown::take_reply(&mut self.shown, node, reply);
         self.awaited = None;
-        Ok(())
     }
 
     /// Takes whether a node answered the Apply.
@@ -171,17 +179,30 @@ impl Round {
         self.awaited
     }
 
-    /// The union of the answers; none exactly while a reader hasn't answered.
-    pub fn union(&self) -> Option<&EntryMap>
-        ensures some { IfSome result (λ union. union.now ≡ self.now.union) }
-        ensures whole { IfSome result (λ union. HaveAllShown self.now.readers self.now.shown) }
-        ensures none { IfNone result (HaveAllShown self.now.readers self.now.shown → ⊥) }
+    /// Whether each reader has answered the Read.
+    pub fn is_whole(&self) -> bool
+        ensures yes { IsTrue result → HaveAllShown self.now.readers self.now.shown }
+        ensures no { IsFalse result → HaveAllShown self.now.readers self.now.shown → ⊥ }
     {
-        if shown::have_all(self.readers, &self.shown) {
-            Some(&self.union)
-        } else {
-            None
-        }
+        shown::have_all(self.readers, &self.shown)
+    }
+
+    /// How many documents the union of the answers so far has. The only error is want of memory; nothing changes.
+    pub fn documents(&mut self) -> Result<u64, NoMemory>
+        ensures documents { IfOk result (λ documents. documents ≡ documents_of self.old.union) }
+        ensures kept { self.new ≡ self.old }
+    {
+        shown::unite(&mut self.union, &mut self.heard)?;
+        Ok(self.union.documents())
+    }
+
+    /// The same of its entries, removes among them.
+    pub fn entries(&mut self) -> Result<u64, NoMemory>
+        ensures entries { IfOk result (λ entries. entries ≡ fin.len self.old.union) }
+        ensures kept { self.new ≡ self.old }
+    {
+        shown::unite(&mut self.union, &mut self.heard)?;
+        Ok(self.union.entries())
     }
 
     /// What the answers to the Reads showed, in their order.

@@ -1,15 +1,14 @@
-ghost use Rattle.std.specs.Prelude.{◌≡◌, ◌&&◌, not, ℕ, ◌<◌, true, IsTrue, IsFalse, OnOk, OnErr, [], ◌∷◌, ◌++◌};
+ghost use Rattle.std.specs.Prelude.{◌≡◌, ◌&&◌, not, ℕ, ◌+◌, ◌<◌, ◌≤◌, None, IsTrue, IsFalse, OnOk, OnErr, [], ◌∷◌, ◌++◌, vec_len, vec_capacity};
 ghost use Rattle.std.specs.Option.{option_copied};
 ghost use Rattle.node_sets.specs.Members.{has_node};
-ghost use Rattle.merge_rounds.specs.Rounds.{did_show, did_give, HaveAllShown, pieces_by, shown_by, shown_after, union_after, is_answer};
-ghost use Rattle.entry_maps.specs.Joins.{joined};
+ghost use Rattle.merge_rounds.specs.Rounds.{did_show, did_give, HaveAllShown, pieces_by, shown_after, union_after, union_with, is_answer};
+ghost use Rattle.entry_maps.specs.EntryCodes.{Entries};
 
 use entry_maps::{EntryMap, join};
 use messages::{NodePieces, Reply};
 use node_sets::NodeSet;
 use pieces::{Piece, PieceList};
-use std::alloc::Global;
-use value_lists::{NoMemory, TryCopy};
+use value_lists::NoMemory;
 
 /// Whether a node's answer is among those shown.
 fn did_show(node: u8, shown: &[NodePieces]) -> bool
@@ -83,58 +82,53 @@ pub fn pieces_by(node: u8, shown: &[NodePieces]) -> &[Piece]
     &[]
 }
 
-/// Takes what a node's answer showed.
-fn take(
-    alloc: Global,
-    shown: &mut Vec<NodePieces>,
-    union: &mut EntryMap,
-    node: u8,
-    pieces: &PieceList,
-    entries: &EntryMap,
-) -> Result<(), NoMemory>
-    ensures shown { OnOk result
-        (shown.new.items ≡ shown.old.items ++ shown_by node pieces.now entries.now ∷ []) }
-    ensures union { OnOk result (union.new ≡ joined union.old entries.now) }
-    ensures shown_stays { OnErr result (shown.new.items ≡ shown.old.items) }
-    ensures union_stays { OnErr result (union.new ≡ union.old) }
+/// Adds what a node's answer showed, for which there is a place.
+fn add(shown: &mut Vec<NodePieces>, node: u8, pieces: PieceList, entries: bool)
+    requires { vec_len shown.old + 1 ≤ vec_capacity shown.old }
+    ensures { shown.new.items
+        ≡ shown.old.items ++ record { node = node; pieces = pieces; entries = entries } ∷ [] }
 {
-    let seen = NodePieces {
+    let Ok(()) = shown.push(NodePieces {
         node,
-        pieces: pieces.copy(alloc)?,
-        entries: entries.entries() > 0,
-    };
-    shown.reserve(1)?;
-    join(union, entries)?;
-    let Ok(()) = shown.push(seen) else {
+        pieces,
+        entries,
+    }) else {
         unreachable!();
     };
-    Ok(())
 }
 
-/// Takes a node's reply to a Read; one that is no answer shows nothing. The only error is want of memory,
-/// which only an answer takes.
-pub fn take_reply(
-    alloc: Global,
-    shown: &mut Vec<NodePieces>,
-    union: &mut EntryMap,
-    node: u8,
-    reply: Option<&Reply>,
-) -> Result<(), NoMemory>
-    ensures shown { OnOk result
-        (shown.new.items ≡ shown_after shown.old.items node (option_copied reply.entry)) }
-    ensures union { OnOk result (union.new ≡ union_after union.old (option_copied reply.entry)) }
-    ensures shown_stays { OnErr result (shown.new.items ≡ shown.old.items) }
-    ensures union_stays { OnErr result (union.new ≡ union.old) }
-    ensures free { OnErr result (is_answer (option_copied reply.entry) ≡ true) }
+/// Takes a node's reply to a Read, and gives the entries that it showed; one that is no answer shows nothing. There is
+/// a place for what it shows.
+pub fn take_reply(shown: &mut Vec<NodePieces>, node: u8, reply: Option<Reply>) -> Option<EntryMap>
+    requires { vec_len shown.old + 1 ≤ vec_capacity shown.old }
+    ensures shown { shown.new.items ≡ shown_after shown.old.items node reply }
+    ensures entries { (union : Entries) → union_with union result ≡ union_after union reply }
 {
     match reply {
-        Some(Reply::Answer { pieces, entries }) => take(alloc, shown, union, node, pieces, entries),
-        Some(Reply::Newer { .. }) => Ok(()),
-        Some(Reply::NoBucket) => Ok(()),
-        Some(Reply::Differs) => Ok(()),
-        Some(Reply::NoMemory) => Ok(()),
-        None => Ok(()),
+        Some(Reply::Answer { pieces, entries }) => {
+            add(shown, node, pieces, entries.entries() > 0);
+            Some(entries)
+        }
+        Some(Reply::Newer { .. }) => None,
+        Some(Reply::NoBucket) => None,
+        Some(Reply::Differs) => None,
+        Some(Reply::NoMemory) => None,
+        None => None,
     }
+}
+
+/// Joins the entries that were shown last, if there are any, into the union.
+pub fn unite(union: &mut EntryMap, heard: &mut Option<EntryMap>) -> Result<(), NoMemory>
+    ensures union { OnOk result (union.new ≡ union_with union.old heard.old) }
+    ensures heard { OnOk result (heard.new ≡ None) }
+    ensures union_stays { OnErr result (union.new ≡ union.old) }
+    ensures heard_stays { OnErr result (heard.new ≡ heard.old) }
+{
+    if let Some(entries) = heard {
+        join(union, entries)?;
+        *heard = None;
+    }
+    Ok(())
 }
 
 /// Whether a reply, if any came, is an answer.

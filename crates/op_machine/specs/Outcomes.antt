@@ -13,6 +13,7 @@ use Rattle.messages.specs.declared.outcome.Outcome.{Outcome}
 use Rattle.messages.specs.declared.outcome.Outcome.TheVariants.{Acked, TooFew, NoMemory}
 use Rattle.op_machine.specs.declared.plan.Plan.{Plan}
 use Rattle.op_machine.specs.declared.tally.Tally.{Tally}
+use Rattle.op_machine.specs.declared.tally.Heard.{Heard}
 use Rattle.op_machine.specs.declared.verdict.Verdict.{Verdict}
 use Rattle.op_machine.specs.declared.verdict.Verdict.TheVariants.{Ends, Writes}
 use Rattle.op_machine.specs.Nodes.{first_node, count_nodes}
@@ -28,6 +29,13 @@ pub record Answers : Type 0 where
 
 abbrev pub answers_of : Tally → Answers
 answers_of t = record { told = λ n. has_node t.told n; answered = λ n. has_node t.answered n; short = t.short; seen = t.seen }
+
+-- what was heard, with the entry that was seen
+abbrev pub tally_of : Heard → Option Entry → Tally
+tally_of h seen = record { told = h.told; answered = h.answered; short = h.short; seen = seen }
+
+abbrev pub heard_of : Heard → Answers
+heard_of h = answers_of (tally_of h None)
 
 -- ---- recipients
 
@@ -79,6 +87,11 @@ read_verdict p a = if has_enough p a then judged p.operation p.stamp a.seen else
 
 abbrev pub verdict : Plan → Answers → Verdict
 verdict p reads = if looks p.operation then read_verdict p reads else judged p.operation p.stamp None
+
+-- the outcome that follows, if all was told
+abbrev pub verdict_outcome : Verdict → Plan → Answers → Option Outcome
+verdict_outcome (Ends x) p stores = Some x
+verdict_outcome (Writes e) p stores = stored_outcome (first_node (waits p stores)) p stores e.stamp
 
 -- ---- what comes next
 

@@ -1,17 +1,19 @@
 -- Where an operation stands: its plan and what was told.
-use Rattle.std.specs.Prelude.{◌≡◌, ℕ, Option, None, Some}
+use Rattle.std.specs.Prelude.{◌≡◌, ℕ, List, Option, None, Some}
+use Rattle.std.specs.FinMap as fin
+use Rattle.entry_maps.specs.EntryCodes.{Entries}
 use Rattle.global_ids.specs.Keys.{key_of}
 use Rattle.documents.specs.declared.entry.Entry.{Entry}
 use Rattle.messages.specs.declared.message.Message.{Message}
 use Rattle.messages.specs.declared.reply.Reply.{Reply}
 use Rattle.op_machine.specs.declared.plan.Plan.{Plan}
 use Rattle.op_machine.specs.declared.machine.Standing.{Standing}
-use Rattle.op_machine.specs.declared.settling.Settled.{Settled}
+use Rattle.op_machine.specs.declared.tally.Heard.{Heard}
 use Rattle.op_machine.specs.declared.verdict.Verdict.{Verdict}
 use Rattle.op_machine.specs.declared.verdict.Verdict.TheVariants.{Ends, Writes}
-use Rattle.op_machine.specs.Outcomes.{Answers, answers_of, reader, verdict, Next, Asks, Finishes, next_of, outcome_in}
+use Rattle.op_machine.specs.Outcomes.{Answers, answers_of, tally_of, reader, verdict, Next, Asks, Finishes, next_of}
 use Rattle.op_machine.specs.Plans.{IsPlan}
-use Rattle.op_machine.specs.Telling.{IsTold, IsNobody}
+use Rattle.op_machine.specs.Telling.{IsCounted, IsTold, IsNobody}
 
 -- what comes next
 abbrev pub next_at : Standing → Next
@@ -36,18 +38,17 @@ abbrev pub MayAnswer : Standing → Option Message → Type 0
 MayAnswer s None = Unit {0}
 MayAnswer s (Some m) = IsAsked s m.receiver
 
--- the reply is told of the Reads while one of them is to be answered, and else of the Stores
+-- the reply is told of the Reads while one of them is to be answered, and else of the Stores, which show nothing
 abbrev pub IsAnsweredBy : Option ℕ → ℕ → Option Reply → Standing → Standing → Type 0
 IsAnsweredBy (Some n) node reply old new = IsTold old.plan.operation.id node reply old.reads new.reads × (new.stores ≡ old.stores)
-IsAnsweredBy None node reply old new = (new.reads ≡ old.reads) × IsTold old.plan.operation.id node reply old.stores new.stores
+IsAnsweredBy None node reply old new = (new.reads ≡ old.reads) × IsCounted node reply old.stores new.stores
 
 pub record IsAnswered (node : ℕ) (reply : Option Reply) (old new : Standing) : Type 0 where
   pub plan : new.plan ≡ old.plan
   pub told : IsAnsweredBy (reader old.plan (answers_of old.reads)) node reply old new
 
--- ---- what the machine keeps beside
+-- ---- the entry that is to be stored, once the Reads are over
 
--- the entry that is to be stored, once the Reads are over
 abbrev pub entry_in : Verdict → Option Entry
 entry_in (Ends x) = None
 entry_in (Writes e) = Some e
@@ -59,17 +60,27 @@ due_by None p reads = entry_in (verdict p reads)
 abbrev pub due_entry : Plan → Answers → Option Entry
 due_entry p reads = due_by (reader p reads) p reads
 
--- a known entry is that one
-abbrev pub IsDue : Plan → Answers → Option Entry → Type 0
-IsDue p reads None = Unit {0}
-IsDue p reads (Some e) = due_entry p reads ≡ Some e
+-- ---- what the machine keeps
 
-pub record IsSettled (p : Plan) (reads stores : Answers) (t : Settled) : Type 0 where
-  pub entry : t.entry ≡ due_entry p reads
-  pub ended : t.outcome ≡ outcome_in (next_of p reads stores)
+-- the entry of a document that was shown
+abbrev pub seen_in : List ℕ → Option Entries → Option Entry
+seen_in id None = None
+seen_in id (Some shown) = fin.get shown id
 
-pub record IsMachine (key : ℕ) (s : Standing) (t : Settled) : Type 0 where
+abbrev pub standing_of : Plan → Heard → Option Entries → Heard → Standing
+standing_of p reads shown stores = record { plan = p; reads = tally_of reads (seen_in p.operation.id shown); stores = tally_of stores None }
+
+-- what the operation comes to, where that is known
+abbrev pub IsKnown : Plan → Answers → Option Verdict → Type 0
+IsKnown p reads None = Unit {0}
+IsKnown p reads (Some v) = verdict p reads ≡ v
+
+-- it is known only once the Reads are over
+abbrev pub IsJudged : Standing → Option Verdict → Type 0
+IsJudged s None = Unit {0}
+IsJudged s (Some v) = (reader s.plan (answers_of s.reads) ≡ None) × (verdict s.plan (answers_of s.reads) ≡ v)
+
+pub record IsMachine (key : ℕ) (s : Standing) (v : Option Verdict) : Type 0 where
   pub key_is : key ≡ key_of s.plan.operation.id
   pub plan : IsPlan s.plan
-  pub entry : IsDue s.plan (answers_of s.reads) t.entry
-  pub ended : t.outcome ≡ outcome_in (next_at s)
+  pub judged : IsJudged s v

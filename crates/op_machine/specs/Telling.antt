@@ -38,11 +38,15 @@ entry_shown id None = None
 abbrev pub IsWith : ℕ → Bool → ℕ → ℕ → Type 0
 IsWith node test old new = (n : ℕ) → has_node new n ≡ (has_node old n || (test && n == node))
 
--- the tally once a node's reply is told, or that none came
-pub record IsTold (id : List ℕ) (node : ℕ) (reply : Option Reply) (old new : Tally) : Type 0 where
+-- the tally once a node's reply is told, or that none came, whatever it shows
+pub record IsCounted (node : ℕ) (reply : Option Reply) (old new : Tally) : Type 0 where
   pub told : IsWith node true old.told new.told
   pub answered : IsWith node (is_answer reply) old.answered new.answered
   pub short : new.short ≡ (old.short || is_short reply)
+
+-- and with what it shows of a document
+pub record IsTold (id : List ℕ) (node : ℕ) (reply : Option Reply) (old new : Tally) : Type 0 where
+  pub counted : IsCounted node reply old new
   pub seen : new.seen ≡ newer_of old.seen (entry_shown id reply)
 
 -- nothing was told

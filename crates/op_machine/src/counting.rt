@@ -1,10 +1,10 @@
 ghost use Rattle.std.specs.Prelude.{◌≡◌};
 ghost use Rattle.node_sets.specs.Members.{has_node};
 ghost use Rattle.op_machine.specs.Nodes.{first_node, count_nodes};
-ghost use Rattle.op_machine.specs.Outcomes.{node_or_zero, absent_of, answers_of, waits, counts, lacks, has_enough, has_active, too_few, stored, stored_outcome};
+ghost use Rattle.op_machine.specs.Outcomes.{node_or_zero, absent_of, heard_of, waits, counts, lacks, has_enough, has_active, too_few, stored, stored_outcome};
 
 use crate::plan::Plan;
-use crate::tally::Tally;
+use crate::tally::Heard;
 use messages::Outcome;
 use node_sets::NodeSet;
 use stamps::Stamp;
@@ -59,51 +59,51 @@ fn has_active(active: Option<u8>, answered: NodeSet) -> bool
 
 impl Plan {
     /// The least recipient of which nothing was told.
-    pub fn waiting(&self, tally: &Tally) -> Option<u8>
-        ensures { result ≡ first_node (waits self.now (answers_of tally.now)) }
+    pub fn waiting(&self, heard: &Heard) -> Option<u8>
+        ensures { result ≡ first_node (waits self.now (heard_of heard.now)) }
     {
-        first(self.recipients.difference(tally.told))
+        first(self.recipients.difference(heard.told))
     }
 
     /// How many recipients answered.
-    fn count(&self, tally: &Tally) -> u8
-        ensures { result ≡ count_nodes (counts self.now (answers_of tally.now)) }
+    fn count(&self, heard: &Heard) -> u8
+        ensures { result ≡ count_nodes (counts self.now (heard_of heard.now)) }
     {
-        self.recipients.intersection(tally.answered).len()
+        self.recipients.intersection(heard.answered).len()
     }
 
     /// The recipient to look for, of those that didn't answer.
-    fn absent(&self, tally: &Tally) -> u8
-        ensures { result ≡ absent_of self.now.active (lacks self.now (answers_of tally.now)) }
+    fn absent(&self, heard: &Heard) -> u8
+        ensures { result ≡ absent_of self.now.active (lacks self.now (heard_of heard.now)) }
     {
-        absent_in(self.active, self.recipients.difference(tally.answered))
+        absent_in(self.active, self.recipients.difference(heard.answered))
     }
 
     /// Whether enough recipients answered.
-    pub fn has_enough(&self, tally: &Tally) -> bool
-        ensures { result ≡ has_enough self.now (answers_of tally.now) }
+    pub fn has_enough(&self, heard: &Heard) -> bool
+        ensures { result ≡ has_enough self.now (heard_of heard.now) }
     {
-        self.acks <= self.count(tally)
+        self.acks <= self.count(heard)
     }
 
     /// How the operation ends where too few answered.
-    pub fn too_few(&self, tally: &Tally) -> Outcome
-        ensures { result ≡ too_few self.now (answers_of tally.now) }
+    pub fn too_few(&self, heard: &Heard) -> Outcome
+        ensures { result ≡ too_few self.now (heard_of heard.now) }
     {
-        if tally.short {
+        if heard.short {
             Outcome::NoMemory
         } else {
             Outcome::TooFew {
-                answered: self.count(tally),
+                answered: self.count(heard),
                 needed: self.acks,
-                absent: self.absent(tally),
+                absent: self.absent(heard),
             }
         }
     }
 
     /// How the operation ends once all was told of its Stores.
-    fn stored(&self, stores: &Tally, stamp: Stamp) -> Outcome
-        ensures { result ≡ stored self.now (answers_of stores.now) stamp }
+    fn stored(&self, stores: &Heard, stamp: Stamp) -> Outcome
+        ensures { result ≡ stored self.now (heard_of stores.now) stamp }
     {
         if self.has_enough(stores) && has_active(self.active, stores.answered) {
             Outcome::Acked { stamp }
@@ -113,8 +113,8 @@ impl Plan {
     }
 
     /// How the operation ends by its Stores, if all was told of them.
-    pub fn stored_outcome(&self, stores: &Tally, stamp: Stamp) -> Option<Outcome>
-        ensures { let told = answers_of stores.now in
+    pub fn stored_outcome(&self, stores: &Heard, stamp: Stamp) -> Option<Outcome>
+        ensures { let told = heard_of stores.now in
             result ≡ stored_outcome (first_node (waits self.now told)) self.now told stamp }
     {
         match self.waiting(stores) {

@@ -8,9 +8,9 @@
 //! ```text
 //! let mut machine = OpMachine::new(origin, operation, stamp, recipients, active, acks);
 //! while let Some(message) = machine.send(alloc)? {
-//!     machine.answer(alloc, message.receiver, reply.as_ref())?;
+//!     machine.take_reply(message.receiver, reply);
 //! }
-//! machine.outcome()                   // Some(Outcome::Acked { stamp })
+//! machine.outcome(alloc)?             // Some(Outcome::Acked { stamp })
 //! ```
 #![tactic(auto)]
 

@@ -1,15 +1,15 @@
-ghost use Rattle.std.specs.Prelude.{◌≡◌, ◌<◌, None, IfSome, IfOk, OnOk, OnErr};
+ghost use Rattle.std.specs.Prelude.{◌≡◌, ◌<◌, None, IfOk};
 ghost use Rattle.std.specs.Option.{option_copied};
 ghost use Rattle.global_ids.specs.Keys.{key_of};
-ghost use Rattle.op_machine.specs.Outcomes.{answers_of, reader, message_in, next_of, outcome_in};
+ghost use Rattle.op_machine.specs.Outcomes.{answers_of, reader, message_in, outcome_in};
 ghost use Rattle.op_machine.specs.Plans.{IsPlan, plan_of};
-ghost use Rattle.op_machine.specs.Telling.{IsTold};
-ghost use Rattle.op_machine.specs.Standings.{next_at, IsBegun, IsDue, IsAsked, MayAnswer, IsAnswered};
+ghost use Rattle.op_machine.specs.Standings.{next_at, IsBegun, IsAsked, MayAnswer, IsAnswered};
+ghost use Rattle.op_machine.specs.Telling.{IsCounted, IsTold};
 
 use crate::plan::Plan;
-use crate::settling::Settled;
-use crate::tally::Tally;
-use documents::SharedEntry;
+use crate::tally::{Heard, Tally, see};
+use crate::verdict::Verdict;
+use entry_maps::EntryMap;
 use global_ids::key_of;
 use messages::{Message, Origin, Outcome, Reply, SharedOperation};
 use node_sets::NodeSet;
@@ -18,7 +18,7 @@ use std::alloc::Global;
 use std::marker::Model;
 use value_lists::NoMemory;
 
-/// An operation, and what was told so far.
+/// An operation, and what was told so far, as contracts see it.
 #[derive(Drop)]
 pub struct Standing {
     pub plan: Plan,
@@ -28,49 +28,33 @@ pub struct Standing {
     pub stores: Tally,
 }
 
-impl Standing {
-    /// What is known of the outcome once these are its Stores, where the entry that is to be stored is known.
-    fn outcome_with(&self, stores: &Tally, known: Option<&SharedEntry>) -> Option<Option<Outcome>>
-        requires { IsDue self.now.plan (answers_of self.now.reads) (option_copied known) }
-        ensures { IfSome result (λ outcome. outcome
-            ≡ outcome_in (next_of self.now.plan (answers_of self.now.reads) (answers_of stores.now))) }
-    {
-        match known {
-            Some(entry) => Some(self.plan.stored_outcome(stores, entry.entry().stamp)),
-            None => None,
-        }
-    }
-}
-
-/// Puts an outcome into its place.
-fn put_outcome(place: &mut Option<Outcome>, outcome: Option<Outcome>)
-    ensures { place.new ≡ outcome }
-{
-    *place = outcome;
-}
-
-/// The machine of one operation. Each message that `send` gave is followed by one `answer` of its
+/// The machine of one operation. Each message that `send` gave is followed by one `take_reply` of its
 /// receiver before the next `send`.
 #[derive(Drop)]
 pub struct OpMachine {
     /// The key of the operation's document, so that it is digested once.
     key: u64,
-    standing: Standing,
-    settled: Settled,
+    plan: Plan,
+    reads: Heard,
+    /// What the answer to a Read showed that has the newest entry of the document.
+    shown: Option<EntryMap>,
+    stores: Heard,
+    /// What the operation comes to by its Reads, once that is judged.
+    verdict: Option<Verdict>,
 }
 
 impl Model for OpMachine {
     ghost use Rattle.op_machine.specs.contracts.machine.Standing as declared_standing;
     ghost use Rattle.op_machine.specs.declared.machine.Standing.{Standing};
-    ghost use Rattle.op_machine.specs.Standings.{IsMachine};
+    ghost use Rattle.op_machine.specs.Standings.{standing_of, IsMachine};
 
     ghost Value = { Standing };
 
     ghost coded = { declared_standing.the_row.coded };
 
-    ghost view = { λ m. m.standing };
+    ghost view = { λ m. standing_of m.plan m.reads m.shown m.stores };
 
-    ghost invariant = { λ m. IsMachine m.key m.standing m.settled };
+    ghost invariant = { λ m. IsMachine m.key (standing_of m.plan m.reads m.shown m.stores) m.verdict };
 }
 
 impl OpMachine {
@@ -107,40 +91,61 @@ impl OpMachine {
     {
         OpMachine {
             key,
-            standing: Standing {
-                plan: Plan {
-                    origin,
-                    operation,
-                    stamp,
-                    recipients,
-                    active,
-                    acks,
-                },
-                reads: Tally::none(),
-                stores: Tally::none(),
+            plan: Plan {
+                origin,
+                operation,
+                stamp,
+                recipients,
+                active,
+                acks,
             },
-            settled: Settled {
-                entry: None,
-                outcome: None,
-            },
+            reads: Heard::none(),
+            shown: None,
+            stores: Heard::none(),
+            verdict: None,
         }
     }
 
-    /// The outcome, once there is no message to be sent or answered.
-    pub fn outcome(&self) -> Option<&Outcome>
-        ensures { option_copied result ≡ outcome_in (next_at self.now) }
+    /// The outcome, once there is no message to be sent or answered. The only error is want of memory;
+    /// nothing changes.
+    pub fn outcome(&mut self, alloc: Global) -> Result<Option<Outcome>, NoMemory>
+        ensures outcome { IfOk result (λ outcome. outcome ≡ outcome_in (next_at self.old)) }
+        ensures kept { self.new ≡ self.old }
     {
-        self.settled.outcome.as_ref()
+        match self.plan.reader(&self.reads) {
+            Some(_) => Ok(None),
+            None => self.outcome_over(alloc),
+        }
+    }
+
+    /// The outcome, where all was told of the Reads.
+    fn outcome_over(&mut self, alloc: Global) -> Result<Option<Outcome>, NoMemory>
+        requires { reader self.old.plan (answers_of self.old.reads) ≡ None }
+        ensures outcome { IfOk result (λ outcome. outcome ≡ outcome_in (next_at self.old)) }
+        ensures kept { self.new ≡ self.old }
+    {
+        self.plan.judge(
+            alloc,
+            self.key,
+            &self.reads,
+            self.shown.as_ref(),
+            &mut self.verdict,
+        )?;
+        let Some(verdict) = &self.verdict else {
+            unreachable!();
+        };
+        self.plan.outcome(alloc, &self.stores, verdict)
     }
 
     /// Who took the Store.
     pub fn stored(&self) -> NodeSet
         ensures { result ≡ self.now.stores.answered }
     {
-        self.standing.stores.answered
+        self.stores.answered
     }
 
-    /// The next message, or none where none is left. The only error is want of memory; nothing changes.
+    /// The next message, or none where none is left. The only error is want of memory; nothing changes. The
+    /// reply takes none.
     pub fn send(&mut self, alloc: Global) -> Result<Option<Message>, NoMemory>
         ensures message { IfOk result (λ m. m ≡ message_in (next_at self.old)) }
         ensures asked { IfOk result (MayAnswer self.new) }
@@ -155,8 +160,8 @@ impl OpMachine {
         ensures message { IfOk result (λ m. m ≡ message_in (next_at self.old)) }
         ensures kept { self.new ≡ self.old }
     {
-        match self.standing.plan.reader(&self.standing.reads) {
-            Some(node) => Ok(Some(self.standing.plan.read_message(alloc, self.key, node)?)),
+        match self.plan.reader(&self.reads) {
+            Some(node) => Ok(Some(self.plan.read_message(alloc, self.key, node)?)),
             None => self.send_store(alloc),
         }
     }
@@ -167,94 +172,54 @@ impl OpMachine {
         ensures message { IfOk result (λ m. m ≡ message_in (next_at self.old)) }
         ensures kept { self.new ≡ self.old }
     {
-        let Standing {
-            plan,
-            reads,
-            stores,
-        } = &self.standing;
-        match &self.settled.entry {
-            Some(entry) => plan.store_message(alloc, stores, Some(entry)),
-            None => {
-                let settled = plan.settle(alloc, reads, stores, None)?;
-                let message = plan.store_message(alloc, stores, settled.entry.as_ref())?;
-                self.settled = settled;
-                Ok(message)
-            }
-        }
+        self.plan.judge(
+            alloc,
+            self.key,
+            &self.reads,
+            self.shown.as_ref(),
+            &mut self.verdict,
+        )?;
+        let Some(verdict) = &self.verdict else {
+            unreachable!();
+        };
+        self.plan.store_message(alloc, &self.stores, verdict)
     }
 
     /// Takes a node's reply to the message that it was sent, or that none came.
-    pub fn answer(&mut self, alloc: Global, node: u8, reply: Option<&Reply>) -> Result<(), NoMemory>
+    pub fn take_reply(&mut self, node: u8, reply: Option<Reply>)
         requires { IsAsked self.old node }
-        ensures told { OnOk result (IsAnswered node (option_copied reply.entry) self.old self.new) }
-        ensures kept { OnErr result (self.new ≡ self.old) }
+        ensures { IsAnswered node reply self.old self.new }
     {
-        match self.standing.plan.reader(&self.standing.reads) {
-            Some(_) => self.answer_read(alloc, node, reply),
-            None => self.answer_store(alloc, node, reply),
+        match self.plan.reader(&self.reads) {
+            Some(_) => self.take_read(node, reply),
+            None => self.take_store(node, reply.as_ref()),
         }
     }
 
     /// Takes a node's reply to its Read.
-    fn answer_read(
-        &mut self,
-        alloc: Global,
-        node: u8,
-        reply: Option<&Reply>,
-    ) -> Result<(), NoMemory>
+    fn take_read(&mut self, node: u8, reply: Option<Reply>)
         requires { node < 32 }
         ensures plan { self.new.plan ≡ self.old.plan }
-        ensures told { OnOk result
-            (IsTold self.old.plan.operation.id node (option_copied reply.entry) self.old.reads self.new.reads) }
+        ensures told { IsTold self.old.plan.operation.id node reply self.old.reads self.new.reads }
         ensures stores { self.new.stores ≡ self.old.stores }
-        ensures kept { OnErr result (self.new ≡ self.old) }
     {
-        let Standing {
-            plan,
-            reads,
-            stores,
-        } = &self.standing;
-        let reads = reads.with(alloc, self.key, &plan.operation.operation().id, node, reply)?;
-        let settled = plan.settle(alloc, &reads, stores, None)?;
-        self.standing.reads = reads;
-        self.settled = settled;
-        Ok(())
+        self.verdict = None;
+        self.reads = self.reads.with(node, reply.as_ref());
+        see(
+            self.key,
+            &self.plan.operation.operation().id,
+            &mut self.shown,
+            reply,
+        );
     }
 
     /// Takes a node's reply to its Store.
-    fn answer_store(
-        &mut self,
-        alloc: Global,
-        node: u8,
-        reply: Option<&Reply>,
-    ) -> Result<(), NoMemory>
+    fn take_store(&mut self, node: u8, reply: Option<&Reply>)
         requires { node < 32 }
         ensures plan { self.new.plan ≡ self.old.plan }
         ensures reads { self.new.reads ≡ self.old.reads }
-        ensures told { OnOk result
-            (IsTold self.old.plan.operation.id node (option_copied reply.entry) self.old.stores self.new.stores) }
-        ensures kept { OnErr result (self.new ≡ self.old) }
+        ensures counted { IsCounted node (option_copied reply.entry) self.old.stores self.new.stores }
     {
-        let Standing {
-            plan,
-            reads,
-            stores,
-        } = &self.standing;
-        let stores = stores.with(alloc, self.key, &plan.operation.operation().id, node, reply)?;
-        match self
-            .standing
-            .outcome_with(&stores, self.settled.entry.as_ref())
-        {
-            Some(outcome) => {
-                self.standing.stores = stores;
-                put_outcome(&mut self.settled.outcome, outcome);
-            }
-            None => {
-                let settled = plan.settle(alloc, reads, &stores, None)?;
-                self.standing.stores = stores;
-                self.settled = settled;
-            }
-        }
-        Ok(())
+        self.stores = self.stores.with(node, reply);
     }
 }

@@ -1,30 +1,24 @@
-ghost use Rattle.std.specs.Prelude.{◌≡◌, None, IfOk, OnOk};
+ghost use Rattle.std.specs.Prelude.{◌≡◌, Some, IfOk, OnOk, OnErr};
 ghost use Rattle.std.specs.Option.{option_copied};
 ghost use Rattle.global_ids.specs.Keys.{key_of};
 ghost use Rattle.messages.specs.Noting.{message_of};
-ghost use Rattle.op_machine.specs.Outcomes.{answers_of, reader, verdict, read_body, store_message};
-ghost use Rattle.op_machine.specs.Standings.{due_entry, IsDue, IsSettled};
+ghost use Rattle.op_machine.specs.Outcomes.{answers_of, tally_of, heard_of, reader, verdict, verdict_outcome, read_body, store_message};
+ghost use Rattle.op_machine.specs.Standings.{seen_in, entry_in, IsKnown};
 
 use crate::judging::judged;
 use crate::plan::{Plan, looks, read_body};
-use crate::tally::Tally;
+use crate::tally::{Heard, seen};
 use crate::verdict::Verdict;
 use documents::SharedEntry;
+use entry_maps::EntryMap;
 use messages::{Body, Message, Outcome};
 use std::alloc::Global;
 use value_lists::{NoMemory, TryCopy};
 
-/// What follows from what was told: the entry that is to be stored, and the outcome.
-#[derive(Drop)]
-pub struct Settled {
-    pub entry: Option<SharedEntry>,
-    pub outcome: Option<Outcome>,
-}
-
 impl Plan {
     /// The recipient that is to be read next.
-    pub fn reader(&self, reads: &Tally) -> Option<u8>
-        ensures { result ≡ reader self.now (answers_of reads.now) }
+    pub fn reader(&self, reads: &Heard) -> Option<u8>
+        ensures { result ≡ reader self.now (heard_of reads.now) }
     {
         if looks(self.operation.operation()) {
             self.waiting(reads)
@@ -33,19 +27,20 @@ impl Plan {
         }
     }
 
-    /// What the operation comes to once all was told of its Reads.
-    fn verdict(&self, alloc: Global, reads: &Tally) -> Result<Verdict, NoMemory>
-        ensures { IfOk result (λ v. v ≡ verdict self.now (answers_of reads.now)) }
+    /// What the operation comes to once all was told of its Reads, by the newest entry that was seen.
+    fn verdict(
+        &self,
+        alloc: Global,
+        reads: &Heard,
+        seen: Option<&SharedEntry>,
+    ) -> Result<Verdict, NoMemory>
+        ensures { IfOk result (λ v. v
+            ≡ verdict self.now (answers_of (tally_of reads.now (option_copied seen.entry)))) }
     {
         if !looks(self.operation.operation()) {
             judged(alloc, self.operation.operation(), self.stamp, None)
         } else if self.has_enough(reads) {
-            judged(
-                alloc,
-                self.operation.operation(),
-                self.stamp,
-                reads.seen.as_ref(),
-            )
+            judged(alloc, self.operation.operation(), self.stamp, seen)
         } else {
             Ok(Verdict::Ends {
                 outcome: self.too_few(reads),
@@ -53,70 +48,28 @@ impl Plan {
         }
     }
 
-    /// The same, where the entry may be known already.
-    fn known_verdict(
+    /// The same, judged where it isn't known yet. The key of the document is beside what was shown.
+    pub fn judge(
         &self,
         alloc: Global,
-        reads: &Tally,
-        known: Option<&SharedEntry>,
-    ) -> Result<Verdict, NoMemory>
-        requires over { reader self.now (answers_of reads.now) ≡ None }
-        requires known { IsDue self.now (answers_of reads.now) (option_copied known) }
-        ensures { IfOk result (λ v. v ≡ verdict self.now (answers_of reads.now)) }
+        key: u64,
+        reads: &Heard,
+        shown: Option<&EntryMap>,
+        known: &mut Option<Verdict>,
+    ) -> Result<(), NoMemory>
+        requires key { key ≡ key_of self.now.operation.id }
+        requires known { IsKnown self.now
+            (answers_of (tally_of reads.now (seen_in self.now.operation.id (option_copied shown)))) known.old }
+        ensures judged { OnOk result (known.new ≡ Some (verdict self.now
+            (answers_of (tally_of reads.now (seen_in self.now.operation.id (option_copied shown.entry)))))) }
+        ensures kept { OnErr result (known.new ≡ known.old) }
     {
-        match known {
-            Some(entry) => Ok(Verdict::Writes {
-                entry: entry.copy(alloc)?,
-            }),
-            None => self.verdict(alloc, reads),
+        if known.is_some() {
+            return Ok(());
         }
-    }
-
-    /// What follows from what was told once all was told of the Reads.
-    fn settle_over(
-        &self,
-        alloc: Global,
-        reads: &Tally,
-        stores: &Tally,
-        known: Option<&SharedEntry>,
-    ) -> Result<Settled, NoMemory>
-        requires over { reader self.now (answers_of reads.now) ≡ None }
-        requires known { IsDue self.now (answers_of reads.now) (option_copied known) }
-        ensures { IfOk result (IsSettled self.now (answers_of reads.now) (answers_of stores.now)) }
-    {
-        match self.known_verdict(alloc, reads, known)? {
-            Verdict::Ends { outcome } => Ok(Settled {
-                entry: None,
-                outcome: Some(outcome),
-            }),
-            Verdict::Writes { entry } => {
-                let outcome = self.stored_outcome(stores, entry.entry().stamp);
-                Ok(Settled {
-                    entry: Some(entry),
-                    outcome,
-                })
-            }
-        }
-    }
-
-    /// What follows from what was told, where the entry may be known already.
-    pub fn settle(
-        &self,
-        alloc: Global,
-        reads: &Tally,
-        stores: &Tally,
-        known: Option<&SharedEntry>,
-    ) -> Result<Settled, NoMemory>
-        requires { IsDue self.now (answers_of reads.now) (option_copied known) }
-        ensures { IfOk result (IsSettled self.now (answers_of reads.now) (answers_of stores.now)) }
-    {
-        match self.reader(reads) {
-            Some(_) => Ok(Settled {
-                entry: None,
-                outcome: None,
-            }),
-            None => self.settle_over(alloc, reads, stores, known),
-        }
+        let seen = seen(key, &self.operation.operation().id, shown);
+        *known = Some(self.verdict(alloc, reads, seen)?);
+        Ok(())
     }
 
     /// The Read that a recipient is sent; the document's key is beside it.
@@ -130,22 +83,51 @@ impl Plan {
         )
     }
 
-    /// The Store that the next recipient is sent, if there is an entry to store.
-    pub fn store_message(
+    /// The Store of an entry to the next recipient, if one waits.
+    fn store_of(
         &self,
         alloc: Global,
-        stores: &Tally,
-        entry: Option<&SharedEntry>,
+        stores: &Heard,
+        entry: &SharedEntry,
     ) -> Result<Option<Message>, NoMemory>
-        ensures { IfOk result
-            (λ m. m ≡ store_message self.now (answers_of stores.now) (option_copied entry.entry)) }
+        ensures { IfOk result (λ m. m ≡ store_message self.now (heard_of stores.now) (Some entry.now)) }
     {
-        let (Some(entry), Some(node)) = (entry, self.waiting(stores)) else {
+        let Some(node) = self.waiting(stores) else {
             return Ok(None);
         };
         let body = Body::Store {
             entry: entry.copy(alloc)?,
         };
         Ok(Some(self.origin.message(node, body)))
+    }
+
+    /// The Store that the next recipient is sent, if there is an entry to store.
+    pub fn store_message(
+        &self,
+        alloc: Global,
+        stores: &Heard,
+        verdict: &Verdict,
+    ) -> Result<Option<Message>, NoMemory>
+        ensures { IfOk result (λ m. m ≡ store_message self.now (heard_of stores.now) (entry_in verdict.now)) }
+    {
+        match verdict {
+            Verdict::Ends { .. } => Ok(None),
+            Verdict::Writes { entry } => self.store_of(alloc, stores, entry),
+        }
+    }
+
+    /// How the operation ends, if all was told of it.
+    pub fn outcome(
+        &self,
+        alloc: Global,
+        stores: &Heard,
+        verdict: &Verdict,
+    ) -> Result<Option<Outcome>, NoMemory>
+        ensures { IfOk result (λ o. o ≡ verdict_outcome verdict.now self.now (heard_of stores.now)) }
+    {
+        match verdict {
+            Verdict::Ends { outcome } => Ok(Some(outcome.copy(alloc)?)),
+            Verdict::Writes { entry } => Ok(self.stored_outcome(stores, entry.entry().stamp)),
+        }
     }
 }

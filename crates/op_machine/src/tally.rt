@@ -1,17 +1,18 @@
-ghost use Rattle.std.specs.Prelude.{◌≡◌, ◌<◌, IfOk};
+ghost use Rattle.std.specs.Prelude.{◌≡◌, ◌<◌, true, false, Some, None};
 ghost use Rattle.std.specs.Option.{option_copied};
 ghost use Rattle.global_ids.specs.Keys.{key_of};
 ghost use Rattle.entry_maps.specs.Entries.{newer_of};
-ghost use Rattle.op_machine.specs.Telling.{is_answer, is_short, entry_shown, IsNobody, IsTold, IsWith};
+ghost use Rattle.op_machine.specs.Outcomes.{tally_of};
+ghost use Rattle.op_machine.specs.Standings.{seen_in};
+ghost use Rattle.op_machine.specs.Telling.{is_answer, is_short, entry_shown, IsNobody, IsCounted, IsWith};
 
 use document_ids::DocId;
 use documents::SharedEntry;
+use entry_maps::EntryMap;
 use messages::Reply;
 use node_sets::NodeSet;
-use std::alloc::Global;
-use value_lists::{NoMemory, TryCopy};
 
-/// What was told of the messages of one phase, the Reads or the Stores.
+/// What was told of the messages of one phase, the Reads or the Stores, as contracts see it.
 #[derive(Drop)]
 pub struct Tally {
     /// The nodes of which it was told what they answered, or that they didn't.
@@ -22,6 +23,14 @@ pub struct Tally {
     pub short: bool,
     /// The newest entry of the document that was shown.
     pub seen: Option<SharedEntry>,
+}
+
+/// The same but for the entries.
+#[derive(Clone, Copy)]
+pub struct Heard {
+    pub told: NodeSet,
+    pub answered: NodeSet,
+    pub short: bool,
 }
 
 /// Whether a node took the message.
@@ -44,17 +53,6 @@ fn is_short(reply: Option<&Reply>) -> bool
     }
 }
 
-/// What a reply shows of a document, whose key is beside it.
-fn entry_shown<'a>(key: u64, id: &DocId, reply: Option<&'a Reply>) -> Option<&'a SharedEntry>
-    requires { key ≡ key_of id.now }
-    ensures { option_copied result ≡ entry_shown id.now (option_copied reply.entry) }
-{
-    match reply {
-        Some(Reply::Answer { entries, .. }) => entries.shared_at(key, id),
-        _ => None,
-    }
-}
-
 /// The set with a node more where it is to have it.
 fn with(set: NodeSet, node: u8, test: bool) -> NodeSet
     requires { node < 32 }
@@ -63,60 +61,74 @@ fn with(set: NodeSet, node: u8, test: bool) -> NodeSet
     if test { set.with(node) } else { set }
 }
 
-/// A copy of the newer of two entries; of equal stamps of the first.
-fn newer_of(
-    alloc: Global,
-    there: Option<&SharedEntry>,
-    other: Option<&SharedEntry>,
-) -> Result<Option<SharedEntry>, NoMemory>
-    ensures { IfOk result (λ newer. newer ≡ newer_of (option_copied there.entry) (option_copied other.entry)) }
-{
-    match (there, other) {
-        (Some(there), Some(other)) => {
-            if there.entry().stamp.is_before(other.entry().stamp) {
-                Ok(Some(other.copy(alloc)?))
-            } else {
-                Ok(Some(there.copy(alloc)?))
-            }
-        }
-        (Some(there), None) => Ok(Some(there.copy(alloc)?)),
-        (None, Some(other)) => Ok(Some(other.copy(alloc)?)),
-        (None, None) => Ok(None),
-    }
-}
-
-impl Tally {
+impl Heard {
     /// Nothing was told.
-    pub fn none() -> Tally
-        ensures { IsNobody result }
+    pub fn none() -> Heard
+        ensures { IsNobody (tally_of result None) }
     {
-        Tally {
+        Heard {
             told: NodeSet::none(),
             answered: NodeSet::none(),
             short: false,
-            seen: None,
         }
     }
 
-    /// The tally once a node's reply to the message about a document is told, or that none came. The document's
-    /// key is beside it.
-    pub fn with(
-        &self,
-        alloc: Global,
-        key: u64,
-        id: &DocId,
-        node: u8,
-        reply: Option<&Reply>,
-    ) -> Result<Tally, NoMemory>
-        requires key { key ≡ key_of id.now }
-        requires node { node < 32 }
-        ensures { IfOk result (IsTold id.now node (option_copied reply.entry) self.now) }
+    /// The same once a node's reply to the message is told, or that none came.
+    pub fn with(self, node: u8, reply: Option<&Reply>) -> Heard
+        requires { node < 32 }
+        ensures { IsCounted node (option_copied reply.entry) (tally_of self None) (tally_of result None) }
     {
-        Ok(Tally {
+        Heard {
             told: self.told.with(node),
             answered: with(self.answered, node, is_answer(reply)),
             short: self.short || is_short(reply),
-            seen: newer_of(alloc, self.seen.as_ref(), entry_shown(key, id, reply))?,
-        })
+        }
+    }
+}
+
+/// What was shown of a document, whose key is beside it.
+pub fn seen<'a>(key: u64, id: &DocId, shown: Option<&'a EntryMap>) -> Option<&'a SharedEntry>
+    requires { key ≡ key_of id.now }
+    ensures { option_copied result ≡ seen_in id.now (option_copied shown.entry) }
+{
+    match shown {
+        Some(entries) => entries.shared_at(key, id),
+        None => None,
+    }
+}
+
+/// Whether an entry is newer than another; of equal stamps the first one stays.
+fn is_newer(there: Option<&SharedEntry>, other: Option<&SharedEntry>) -> bool
+    ensures yes { result ≡ true → newer_of (option_copied there.entry) (option_copied other.entry)
+        ≡ option_copied other.entry }
+    ensures no { result ≡ false → newer_of (option_copied there.entry) (option_copied other.entry)
+        ≡ option_copied there.entry }
+{
+    match (there, other) {
+        (Some(there), Some(other)) => there.entry().stamp.is_before(other.entry().stamp),
+        (None, Some(_)) => true,
+        (Some(_), None) => false,
+        (None, None) => false,
+    }
+}
+
+/// Keeps what an answer shows where its entry of the document is newer than the one that was seen.
+fn keep_newer(key: u64, id: &DocId, shown: &mut Option<EntryMap>, entries: EntryMap)
+    requires { key ≡ key_of id.now }
+    ensures { seen_in id.now shown.new ≡ newer_of (seen_in id.now shown.old) (seen_in id.now (Some entries)) }
+{
+    if is_newer(seen(key, id, shown.as_ref()), entries.shared_at(key, id)) {
+        *shown = Some(entries);
+    }
+}
+
+/// Takes what a node's reply shows of a document, whose key is beside it.
+pub fn see(key: u64, id: &DocId, shown: &mut Option<EntryMap>, reply: Option<Reply>)
+    requires { key ≡ key_of id.now }
+    ensures { seen_in id.now shown.new ≡ newer_of (seen_in id.now shown.old) (entry_shown id.now reply) }
+{
+    match reply {
+        Some(Reply::Answer { entries, .. }) => keep_newer(key, id, shown, entries),
+        _ => {}
     }
 }

@@ -11,7 +11,7 @@ use Rattle.op_machine.specs.Nodes.{first_node, count_below, count_nodes}
 use Rattle.op_machine.specs.Judging.{looks}
 use Rattle.op_machine.specs.Outcomes.{Answers, answers_of, waits, reader, Asks}
 use Rattle.op_machine.specs.Standings.{next_at, IsAnswered, IsAnsweredBy}
-use Rattle.op_machine.specs.Telling.{IsWith, IsTold}
+use Rattle.op_machine.specs.Telling.{IsWith, IsCounted, IsTold}
 use Rattle.op_machine.proofs.NodeLaws.{IsLeast, first_node-least, count_nodes-most}
 use Rattle.proof_basics.proofs.Numbers.{apart}
 use Rattle.operation_keeping.specs.Left.{left_by, messages_left}
@@ -89,7 +89,7 @@ one-less t u m r next a = ap (λ (q : Plan). left_by q (answers_of u.reads) (ans
     by_next (ARead n first is) =
         let told : IsTold t.plan.operation.id m.receiver r t.reads u.reads × (u.stores ≡ t.stores) = subst (λ (o : Option ℕ). IsAnsweredBy o m.receiver r t u) first a.told in
         let least = reader-least t.plan (answers_of t.reads) n first in
-        let less = waits-less t.plan t.reads u.reads n (least.1).here (least.1).within (subst (λ (i : ℕ). IsWith i true t.reads.told u.reads.told) (ap (λ (x : Message). x.receiver) is) (told.0).told) in
+        let less = waits-less t.plan t.reads u.reads n (least.1).here (least.1).within (subst (λ (i : ℕ). IsWith i true t.reads.told u.reads.told) (ap (λ (x : Message). x.receiver) is) ((told.0).counted).told) in
         sum (looks t.plan.operation) (count_nodes (waits t.plan (answers_of u.reads))) (count_nodes (waits t.plan (answers_of t.reads))) (count_nodes (waits t.plan (answers_of u.stores))) (count_nodes (waits t.plan (answers_of t.stores)))
         least.0 less (ap (λ (x : Tally). count_nodes (waits t.plan (answers_of x))) told.1)
       where
@@ -97,7 +97,7 @@ one-less t u m r next a = ap (λ (q : Plan). left_by q (answers_of u.reads) (ans
         sum true a b c d e f g = omega arith
         sum false a b c d e f g = cc
     by_next (AStore n e over v first is) =
-        let told : (u.reads ≡ t.reads) × IsTold t.plan.operation.id m.receiver r t.stores u.stores = subst (λ (o : Option ℕ). IsAnsweredBy o m.receiver r t u) over a.told in
+        let told : (u.reads ≡ t.reads) × IsCounted m.receiver r t.stores u.stores = subst (λ (o : Option ℕ). IsAnsweredBy o m.receiver r t u) over a.told in
         let least = first_node-least (waits t.plan (answers_of t.stores)) n first in
         let less = waits-less t.plan t.stores u.stores n least.here least.within (subst (λ (i : ℕ). IsWith i true t.stores.told u.stores.told) (ap (λ (x : Message). x.receiver) is) (told.1).told) in
         let reads = ap (λ (x : Tally). cond (looks t.plan.operation) (count_nodes (waits t.plan (answers_of x))) 0) told.0 in

@@ -23,12 +23,12 @@ use Rattle.op_machine.specs.Judging.{looks}
 use Rattle.op_machine.specs.Outcomes.{answers_of, reader, read_body}
 use Rattle.op_machine.specs.Standings.{due_entry, IsAnswered, IsAnsweredBy}
 use Rattle.op_machine.specs.Telling as telling
-use Rattle.op_machine.specs.Telling.{entry_shown, IsTold}
+use Rattle.op_machine.specs.Telling.{entry_shown, IsCounted, IsTold}
 use Rattle.lane_journals.specs.Buckets.{Id}
 use Rattle.lane_journals.specs.Events as plain
-use Rattle.lane_journals.specs.Events.{Content, ReadDoc, Store}
+use Rattle.lane_journals.specs.Events.{Content, Store}
 use Rattle.lane_journals.specs.Readers as readers
-use Rattle.lane_journals.specs.Readers.{Beginning, or_else, only_if, sent, before_line, first_reply, wrote}
+use Rattle.lane_journals.specs.Readers.{Beginning, or_else, only_if, first_reply, wrote}
 use Rattle.lane_journals.specs.States.{state_of}
 use Rattle.lane_journals.specs.Meanings.{history, content, meaning_reply, entry_at, names}
 use Rattle.lane_journals.specs.Places.{Setting}
@@ -142,10 +142,10 @@ module _ (lane : Low) (rules : Rules) (J : List LaneEvent) (d : ℕ) (s : Cluste
           let told : IsTold p.operation.id m.receiver None t.reads x.reads × (x.stores ≡ t.stores) = subst (λ (o : Option ℕ). IsAnsweredBy o m.receiver None t x) r a.told in
           let msg = awaited n (read_body p.operation.id) is in
           assemble J x a.plan know.plan (entry-reading J x n r refl written know.entry) (looking-reading x n r)
-          (reads-silent J (Some number) None line b m.receiver t.reads x.reads (read-told (history J) number m.receiver b line msg asked.later t.reads.told x.reads.told (told.0).told (know.reads).told) (told.0).answered (told.0).short (told.0).seen know.reads)
+          (reads-silent J (Some number) None line b m.receiver t.reads x.reads (read-told (history J) number m.receiver b line msg asked.later t.reads.told x.reads.told ((told.0).counted).told (know.reads).told) ((told.0).counted).answered ((told.0).counted).short (told.0).seen know.reads)
           (subst (λ z. KnowsStores (history J) None line b (answers_of z)) (sym told.1) (record { told = λ i. through ((know.stores).told i) (read-no-stored (history J) number m.receiver b p.operation.id msg i); answered = (know.stores).answered; unstamped = (know.stores).unstamped; short = (know.stores).short }))
       by_next (AStore n e over v first is) =
-          let told : (x.reads ≡ t.reads) × IsTold p.operation.id m.receiver None t.stores x.stores = subst (λ (o : Option ℕ). IsAnsweredBy o m.receiver None t x) over a.told in
+          let told : (x.reads ≡ t.reads) × IsCounted m.receiver None t.stores x.stores = subst (λ (o : Option ℕ). IsAnsweredBy o m.receiver None t x) over a.told in
           let own = verdict-writes p (answers_of t.reads) e v in
           let msg = awaited-store n e is own.1 in
           assemble J x a.plan know.plan (entry-storing J x told.0 refl (λ z. refl) written know.entry) (looking-storing x told.0)
@@ -180,10 +180,10 @@ module _ (lane : Low) (rules : Rules) (J : List LaneEvent) (d : ℕ) (s : Cluste
           let msg = awaited n (read_body p.operation.id) is in
           assemble (event.Returned number ∷ J) x a.plan know.plan (entry-reading (event.Returned number ∷ J) x n r refl written know.entry) (looking-reading x n r)
           (reads-heard rules.acks (state_of (history J)) J (meant-legal S J legal) line number m.receiver b asked.later msg said replied (telling.is_answer (Some y)) (entry_shown p.operation.id (Some y))
-          (shows n is) (telling.is_short (Some y)) wants t.reads x.reads (told.0).told (told.0).answered (told.0).short (told.0).seen know.reads)
+          (shows n is) (telling.is_short (Some y)) wants t.reads x.reads ((told.0).counted).told ((told.0).counted).answered ((told.0).counted).short (told.0).seen know.reads)
           (subst (λ z. KnowsStores (history (event.Returned number ∷ J)) None line b (answers_of z)) (sym told.1) (stores-pass rules.acks (state_of (history J)) (history J) (meant-legal S J legal) line number m.receiver b p.operation.id msg (answers_of t.stores) know.stores))
       by_next (AStore n e over v first is) =
-          let told : (x.reads ≡ t.reads) × IsTold p.operation.id m.receiver (Some y) t.stores x.stores = subst (λ (o : Option ℕ). IsAnsweredBy o m.receiver (Some y) t x) over a.told in
+          let told : (x.reads ≡ t.reads) × IsCounted m.receiver (Some y) t.stores x.stores = subst (λ (o : Option ℕ). IsAnsweredBy o m.receiver (Some y) t x) over a.told in
           let own = verdict-writes p (answers_of t.reads) e v in
           let msg = awaited-store n e is own.1 in
           assemble (event.Returned number ∷ J) x a.plan know.plan (entry-storing (event.Returned number ∷ J) x told.0 refl (λ z. refl) written know.entry) (looking-storing x told.0)

@@ -2,7 +2,6 @@
 pub mod Sent
 pub mod Waiting
 pub mod Staying
-pub mod Telling
 pub mod Refusals
 pub mod Running
 pub mod RoundTelling

@@ -1,32 +1,19 @@
 -- What a round is told.
 use Rattle.std.proofs.Common.{◌≡◌, ◌<◌, ◌≤◌, ◌+◌, ℕ, zero, suc, Bool, true, false, cond, nat_lt, List, Some, None, inl, inr, refl, sym, subst, arith}
 use Rattle.std.proofs.lemmas.Bool.Decides.{nat_tests}
-use mathlib.Core.Bool.{true≢false}
 use Rattle.bucket_ids.specs.Buckets.{Low}
-use Rattle.messages.specs.Noting.{noted_reply}
 use Rattle.messages.specs.declared.reply.Reply.{Reply}
 use Rattle.messages.specs.declared.reply.Reply.TheVariants as reply
 use Rattle.messages.specs.declared.noted.NotedReply.{NotedReply}
 use Rattle.messages.specs.declared.noted.NotedReply.TheVariants as noted
 use Rattle.node_sets.specs.Members.{size_of}
 use Rattle.messages.specs.declared.message.Message.{Message}
-use Rattle.merge_rounds.specs.Rounds.{RoundState, is_answer, IsNext, after_send, after_read, IsAfterApply}
+use Rattle.merge_rounds.specs.Rounds.{RoundState, IsNext, after_send, after_read, IsAfterApply}
 use Rattle.lane_journals.specs.declared.event.LaneEvent.{LaneEvent}
 use Rattle.round_keeping.specs.RoundKeeping.{KnowsRound}
-use Rattle.round_keeping.specs.RoundRuns.{IsRunning, IsAfterReply, IsRoundToldBy, left, IsCutOff, IsToSend}
+use Rattle.round_keeping.specs.RoundRuns.{IsRunning, IsAfterReply, left, IsCutOff, IsToSend}
 use Rattle.round_keeping.specs.declared.round_run.RoundRun.{RoundRun}
 use Rattle.round_keeping.proofs.Running.{running-as, reply-row}
-
--- an answer that can't be kept is told as want of memory
-pub round-short : (r q : RoundState) (node : ℕ) (given : Reply) (n : NotedReply) → is_answer (Some given) ≡ true → r.applies ≡ 0 → IsAfterReply r q node (Some reply.NoMemory) → n ≡ noted.NoMemory → IsRoundToldBy r q node given n
-round-short r q node (reply.Answer ps es) n a reads after is = record { reply = reply.NoMemory; is = inr (reads, refl); after = after; noted_is = is }
-round-short r q node (reply.Newer v) n a reads after is = absurd (true≢false (sym a))
-round-short r q node reply.NoBucket n a reads after is = absurd (true≢false (sym a))
-round-short r q node reply.Differs n a reads after is = absurd (true≢false (sym a))
-round-short r q node reply.NoMemory n a reads after is = absurd (true≢false (sym a))
-
-pub round-kept : (r q : RoundState) (node : ℕ) (given : Reply) (n : NotedReply) → IsAfterReply r q node (Some given) → n ≡ noted_reply given → IsRoundToldBy r q node given n
-round-kept r q node given n after is = record { reply = given; is = inl refl; after = after; noted_is = is }
 
 -- no reply comes
 pub runs-none : (lane : Low) (J : List LaneEvent) (x : RoundRun) (q : RoundState) (n : ℕ) → IsRunning lane J x → IsAfterReply x.round q n None

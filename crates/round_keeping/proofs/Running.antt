@@ -1,5 +1,5 @@
 -- The round under way, over the events of its messages.
-use Rattle.std.proofs.Common.{◌≡◌, ◌⊎◌, ◌↔◌, ◌<◌, ◌||◌, ◌&&◌, not, ℕ, zero, suc, Bool, true, false, cond, List, ◌∷◌, Option, Some, None, inl, inr, refl, sym, ap, subst, ◌∙◌, eqb, eq-eqb, arith}
+use Rattle.std.proofs.Common.{◌≡◌, ◌↔◌, ◌<◌, ◌||◌, ◌&&◌, not, ℕ, zero, suc, Bool, true, false, cond, List, ◌∷◌, Option, Some, None, refl, sym, ap, subst, ◌∙◌, eqb, eq-eqb, arith}
 use mathlib.Core.Bool.{true≢false}
 use Rattle.bucket_ids.specs.Buckets.{Low}
 use Rattle.cluster_states.specs.declared.cluster_state.ClusterState.{ClusterState}
@@ -10,7 +10,6 @@ use Rattle.messages.specs.declared.reply.Reply.{Reply}
 use Rattle.messages.specs.declared.reply.Reply.TheVariants as reply
 use Rattle.messages.specs.declared.noted.NotedReply.{NotedReply}
 use Rattle.service_layer.specs.Nodes.{Node}
-use Rattle.service_layer.specs.Takes.{Takes}
 use Rattle.distributor_part.specs.declared.rules.Rules.{Rules}
 use Rattle.distributor_part.specs.Parts.{Part}
 use Rattle.merge_rounds.specs.Rounds.{RoundState, after_read, IsAfterApply}
@@ -26,7 +25,7 @@ use Rattle.lane_carriage.specs.Carriage.{AreDelivered}
 use Rattle.lane_keeping.specs.Flights.{meant}
 use Rattle.lane_keeping.specs.Replaying.{sending, delivered}
 use Rattle.lane_keeping.specs.LaneKeeping.{setting_of, Keeps}
-use Rattle.lane_keeping.specs.Asking.{IsTakenBy, unkept}
+use Rattle.lane_keeping.specs.Asking.{IsTakenBy}
 use Rattle.lane_keeping.specs.Laws.{IsNoAsk}
 use Rattle.round_keeping.specs.RoundKeeping.{KnowsRound, IsAwaited, body_of}
 use Rattle.round_keeping.proofs.Waiting.{knows-delivered}
@@ -34,7 +33,6 @@ use Rattle.round_keeping.specs.RoundRuns.{IsRunning, IsAfterReply, is_refusal, i
 use Rattle.round_keeping.specs.declared.round_run.RoundRun.{RoundRun}
 use Rattle.lane_carriage.proofs.GivenOut.{over-all}
 use Rattle.round_keeping.proofs.Refusals.{refusals-delivered, refusals-sent, refusals-returned}
-use Rattle.round_keeping.proofs.Telling.{taken-told}
 
 -- ---- what stays of a round
 
@@ -144,36 +142,22 @@ in-phase true c T P into only p = (λ h. (into refl, p.0 h), λ z. p.1 z.1)
 in-phase false c T P into only p = (λ h. absurd (true≢false (sym h)), λ z. absurd (true≢false (sym (only z.0))))
 
 module _ {lane : Low} {rules : Rules} {J : List LaneEvent} {newest : Option ClusterState} {last : ℕ} {nodes : List Node} {parts : List Part} (keep : Keeps lane rules J newest last nodes parts)
-    (x z : RoundRun) (k : IsRunning lane J x) (number : ℕ) (m : Message) (given : Reply) (noted : NotedReply) (now : List Node) (wait : IsAwaited J x.round number m) (taken : IsTakenBy nodes now m given)
-    (told : IsRunToldBy x z m.receiver given noted) where
+    (x z : RoundRun) (k : IsRunning lane J x) (number : ℕ) (m : Message) (w : Reply) (now : List Node) (wait : IsAwaited J x.round number m) (taken : IsTakenBy nodes now m w)
+    (told : IsRunToldBy x z m.receiver w) where
   abbrev r : RoundState
   r = x.round
 
   abbrev q : RoundState
   q = z.round
 
-  abbrev w : Reply
-  w = (told.told).reply
+  abbrev noted : NotedReply
+  noted = noted_reply w
 
   abbrev letter : readers.Message
   letter = ((wait.just).flight).sending
 
   body-by : (t : Bool) → eqb r.applies 0 ≡ t → letter.body ≡ meant (cond t (body.Read r.row None) (body.Apply r.row r.union))
   body-by t e = ((wait.just).flight).body_is ∙ ap (λ (b : Message). meant b.body) wait.is ∙ ap (λ (t : Bool). meant (cond t (body.Read r.row None) (body.Apply r.row r.union))) e
-
-  read-body : r.applies ≡ 0 → m.body ≡ body.Read r.row None
-  read-body e = ap (λ (b : Message). b.body) wait.is ∙ ap (λ (a : ℕ). cond (eqb a 0) (body.Read r.row None) (body.Apply r.row r.union)) e
-
-  -- the node takes the message with the reply that is told
-  pub taken-as : ((y u : Node) (b : Low) → m.body ≡ body.Read b None → Takes y m u given → Takes y m u (unkept given)) → IsTakenBy nodes now m w
-  taken-as short = by_case (told.told).is
-    where
-      by_case : (w ≡ given) ⊎ ((r.applies ≡ 0) × (w ≡ unkept given)) → IsTakenBy nodes now m w
-      by_case (inl e) = subst (λ (y : Reply). IsTakenBy nodes now m y) (sym e) taken
-      by_case (inr e) = taken-told nodes now m given w (λ y u. short y u r.row (read-body e.0)) (inr e.1) taken
-
-  pub delivered-as : event.Delivered number noted ≡ delivered number w
-  delivered-as = ap (λ (n : NotedReply). event.Delivered number n) (told.told).noted_is
 
   abbrev K : List LaneEvent
   K = delivered number w ∷ J
@@ -184,8 +168,8 @@ module _ {lane : Low} {rules : Rules} {J : List LaneEvent} {newest : Option Clus
   knows-as read applied = by_count r.applies refl
     where
       by_count : (a : ℕ) → r.applies ≡ a → KnowsRound lane (event.Returned number ∷ K) x.distributor x.state q
-      by_count zero e = subst (λ (y : RoundState). KnowsRound lane (event.Returned number ∷ K) x.distributor x.state y) (sym (((told.told).after).read e)) (read e)
-      by_count (suc a) e = applied q (omega (arith, e)) (((told.told).after).applied (omega (arith, e)))
+      by_count zero e = subst (λ (y : RoundState). KnowsRound lane (event.Returned number ∷ K) x.distributor x.state y) (sym ((told.told).read e)) (read e)
+      by_count (suc a) e = applied q (omega (arith, e)) ((told.told).applied (omega (arith, e)))
 
   v-is : letter.version ≡ (x.state).version
   v-is = ((wait.just).flight).version_is ∙ ap (λ (b : Message). b.version) wait.is ∙ ap (λ o. o.version) (k.knows).origin_is
@@ -201,7 +185,7 @@ module _ {lane : Low} {rules : Rules} {J : List LaneEvent} {newest : Option Clus
 
   read-flag : (t : Bool) → eqb r.applies 0 ≡ t → ((t && is_refusal noted) ≡ true) ↔ (is_read_in (x.state).version r.row i letter × (meaning_reply J (noted_reply w) ≡ plain.NoMemory))
   read-flag t e = in-phase t (is_refusal noted) (is_read_in (x.state).version r.row i letter) (meaning_reply J (noted_reply w) ≡ plain.NoMemory) (into t e) (only t e)
-      (subst (λ (n : NotedReply). (is_refusal n ≡ true) ↔ (meaning_reply J (noted_reply w) ≡ plain.NoMemory)) (sym (told.told).noted_is) (means-refusal J w))
+      (means-refusal J w)
     where
       into : (t : Bool) → eqb r.applies 0 ≡ t → t ≡ true → is_read_in (x.state).version r.row i letter
       into true e h = (v-is, i-is, body-by true e)
@@ -216,7 +200,7 @@ module _ {lane : Low} {rules : Rules} {J : List LaneEvent} {newest : Option Clus
 
   apply-flag : (t : Bool) → eqb r.applies 0 ≡ t → ((not t && is_refusal noted) ≡ true) ↔ (is_apply_in (x.state).version r.row i letter × (meaning_reply J (noted_reply w) ≡ plain.NoMemory))
   apply-flag t e = in-phase (not t) (is_refusal noted) (is_apply_in (x.state).version r.row i letter) (meaning_reply J (noted_reply w) ≡ plain.NoMemory) (into t e) (only t e)
-      (subst (λ (n : NotedReply). (is_refusal n ≡ true) ↔ (meaning_reply J (noted_reply w) ≡ plain.NoMemory)) (sym (told.told).noted_is) (means-refusal J w))
+      (means-refusal J w)
     where
       into : (t : Bool) → eqb r.applies 0 ≡ t → not t ≡ true → is_apply_in (x.state).version r.row i letter
       into true e h = absurd (true≢false (sym h))
@@ -237,14 +221,14 @@ module _ {lane : Low} {rules : Rules} {J : List LaneEvent} {newest : Option Clus
     acting = record { holds = (k.acting).holds; published = (k.acting).published; owner = (k.acting).owner };
     knows = w2;
     others = k.others;
-    refusals = subst (λ (b : Low). KnowsRefusals (history (event.Returned number ∷ K)) (x.state).version (round_of (x.state).version b (history J)) b back.unread back.unapplied) (sym (reply-row r q m.receiver (Some w) (told.told).after))
+    refusals = subst (λ (b : Low). KnowsRefusals (history (event.Returned number ∷ K)) (x.state).version (round_of (x.state).version b (history J)) b back.unread back.unapplied) (sym (reply-row r q m.receiver (Some w) told.told))
         (refusals-returned (setting_of lane rules) K legal (x.state).version i r.row x.unread x.unapplied
         (refusals-delivered (setting_of lane rules) J keep.legal (x.state).version i r.row x.unread x.unapplied k.refusals number (noted_reply w))
         number letter (meaning_reply J (noted_reply w)) (eqb r.applies 0 && is_refusal noted) (not (eqb r.applies 0) && is_refusal noted) ((wait.just).flight).was_sent first-is (read-flag (eqb r.applies 0) refl) (apply-flag (eqb r.applies 0) refl));
   }
 
-  pub runs-back : IsLegal (setting_of lane rules) K → KnowsRound lane (event.Returned number ∷ K) x.distributor x.state q → IsRunning lane (event.Returned number ∷ event.Delivered number noted ∷ J) z
-  runs-back legal w2 = subst (λ (e : LaneEvent). IsRunning lane (event.Returned number ∷ e ∷ J) z) (sym delivered-as) (subst (λ (y : RoundRun). IsRunning lane (event.Returned number ∷ K) y) (sym told.run_is) (running-back legal w2))
+  pub runs-back : IsLegal (setting_of lane rules) K → KnowsRound lane (event.Returned number ∷ K) x.distributor x.state q → IsRunning lane (event.Returned number ∷ K) z
+  runs-back legal w2 = subst (λ (y : RoundRun). IsRunning lane (event.Returned number ∷ K) y) (sym told.run_is) (running-back legal w2)
 
   pub goes-back : GoesOn x z
-  goes-back = record { run_is = run-gone x z back told.run_is refl; round_is = reply-goes r q m.receiver (Some w) (told.told).after }
+  goes-back = record { run_is = run-gone x z back told.run_is refl; round_is = reply-goes r q m.receiver (Some w) told.told }

@@ -1,5 +1,5 @@
 -- A round that a lane runs: whose it is, what it sends message by message, and what it came to.
-use Rattle.std.specs.Prelude.{◌≡◌, ◌≢◌, ◌⊎◌, ◌↔◌, ◌<◌, ◌==◌, ◌&&◌, ◌||◌, not, ℕ, ◌+◌, ◌-◌, Bool, true, false, List, [], ◌∷◌, ◌++◌, length, Option, Some, None}
+use Rattle.std.specs.Prelude.{◌≡◌, ◌≢◌, ◌↔◌, ◌<◌, ◌==◌, ◌&&◌, ◌||◌, not, ℕ, ◌+◌, ◌-◌, Bool, true, false, List, [], ◌∷◌, ◌++◌, length, Option, Some, None}
 use Rattle.bucket_ids.specs.Buckets.{Low, IsIn, has_key}
 use Rattle.node_sets.specs.Members.{has_node, size_of}
 use Rattle.cluster_states.specs.declared.cluster_state.ClusterState.{ClusterState}
@@ -32,7 +32,6 @@ use Rattle.lane_journals.specs.declared.event.LaneEvent.{LaneEvent}
 use Rattle.lane_journals.specs.declared.event.LaneEvent.TheVariants.{Decided}
 use Rattle.lane_keeping.specs.Replaying.{sending}
 use Rattle.lane_keeping.specs.Acting.{IsActing, IsKnownRow}
-use Rattle.lane_keeping.specs.Asking.{unkept}
 use Rattle.round_keeping.specs.RoundKeeping.{origin_in, KnowsRound, KnowsAnswers}
 use Rattle.lane_carriage.specs.Carrying.{met_at, DeliversSome}
 use Rattle.round_keeping.specs.declared.round_run.RoundRun.{RoundRun}
@@ -52,14 +51,6 @@ pub record Sends (m : Message) (fate : Fate) (last : ℕ) (late : List Late) (J 
 pub record IsAfterReply (r q : RoundState) (node : ℕ) (reply : Option Reply) : Type 0 where
   pub read : r.applies ≡ 0 → q ≡ after_read r node reply
   pub applied : 0 < r.applies → IsAfterApply r q node reply
-
--- the round is told the node's reply, or that the node wants memory, where its answer to a Read can't be kept; and this
--- is noted
-pub record IsRoundToldBy (r q : RoundState) (node : ℕ) (given : Reply) (noted : NotedReply) : Type 0 where
-  pub reply : Reply
-  pub is : (reply ≡ given) ⊎ ((r.applies ≡ 0) × (reply ≡ unkept given))
-  pub after : IsAfterReply r q node (Some reply)
-  pub noted_is : noted ≡ noted_reply reply
 
 abbrev pub is_refusal : NotedReply → Bool
 is_refusal noted.NoMemory = true
@@ -119,9 +110,9 @@ pub record GoesOn (x y : RoundRun) : Type 0 where
   pub round_is : y.round ≡ record x.round { reads = (y.round).reads; applies = (y.round).applies; awaited = (y.round).awaited; shown = (y.round).shown; union = (y.round).union; holders = (y.round).holders }
 
 -- the round is told the reply, and it is kept in mind that the node wants memory
-pub record IsRunToldBy (x y : RoundRun) (node : ℕ) (given : Reply) (noted : NotedReply) : Type 0 where
-  pub told : IsRoundToldBy x.round y.round node given noted
-  pub run_is : y ≡ record x { round = y.round; unread = x.unread || ((x.round).applies == 0 && is_refusal noted); unapplied = x.unapplied || (not ((x.round).applies == 0) && is_refusal noted) }
+pub record IsRunToldBy (x y : RoundRun) (node : ℕ) (reply : Reply) : Type 0 where
+  pub told : IsAfterReply x.round y.round node (Some reply)
+  pub run_is : y ≡ record x { round = y.round; unread = x.unread || ((x.round).applies == 0 && is_refusal (noted_reply reply)); unapplied = x.unapplied || (not ((x.round).applies == 0) && is_refusal (noted_reply reply)) }
 
 -- so many messages are left to send at most
 abbrev pub left : RoundState → ℕ

@@ -5,5 +5,5 @@ use Rattle.distributor_part.proofs.opening.add_buckets.Given as goal
 
 abbrev pub invariant-loop-piece : goal.invariant-loop-piece
 invariant-loop-piece l =
-    (l.shown.items ≡ l.fn.shown.items ++ buckets_shown (take l.piece-index l.pieces))
-    × (vec_len l.shown + length (drop l.piece-index l.pieces) ≤ vec_capacity l.shown)
+    (l.buckets.items ≡ l.fn.buckets.items ++ buckets_shown (take l.piece-index l.pieces))
+    × (vec_len l.buckets + length (drop l.piece-index l.pieces) ≤ vec_capacity l.buckets)

@@ -1,5 +1,4 @@
 use Rattle.std.proofs.Common.{◌∷◌, ◌∙◌, Some, ap}
-use Rattle.std.proofs.lemmas.Result.{on_ok_weaker}
 use Rattle.lane_keeping.specs.Replaying.{delivered}
 use Rattle.lane_journals.specs.declared.event.LaneEvent.TheVariants.{Returned}
 use Rattle.lane_states.specs.declared.lane_state.LaneState.{LaneState}
@@ -10,8 +9,8 @@ use Rattle.lane_states.proofs.Replied.{now-replied}
 use Rattle.lane_lines.proofs.Standing.{standing-back}
 use Rattle.lane_lines.proofs.steps.bring_back_operation.Goals as goal
 
-pub answer-requires : goal.answer-requires
-answer-requires c = next-asked c.args.machine.now c.args.message.now c.requires.next
+pub take_reply-requires : goal.take_reply-requires
+take_reply-requires c = next-asked c.args.machine.now c.args.message.now c.requires.next
 
 pub returns-clause-keeps : goal.returns-clause-keeps
 returns-clause-keeps c =
@@ -35,15 +34,14 @@ returns-clause-stands c =
     let b = c.deliver-reply.new.self in
     let e : LaneState = record b { journal = c.push_within.new.events } in
     let t = c.args.machine.now in
-    let z = c.answer.new.self in
+    let z = c.take_reply.new.self in
     let m = c.args.message.now in
-    on_ok_weaker c.answer.result
-    (λ told. hears-by x e (Returned c.args.number ∷ delivered c.args.number c.deliver-reply.result ∷ journal_of x) c.args.number m t z
+    let told = c.take_reply.ensures in
+    hears-by x e (Returned c.args.number ∷ delivered c.args.number c.deliver-reply.result ∷ journal_of x) c.args.number m t z
     (ap (λ (y : LaneState). y.lane) c.deliver-reply.ensures.after) (ap (λ (y : LaneState). y.rules) c.deliver-reply.ensures.after)
     (c.push_within.ensures.past ∙ ap (λ J. Returned c.args.number ∷ J) c.deliver-reply.ensures.grows)
     (λ line row written w. standing-back x.lane x.rules (journal_of x) line row written t z c.args.number m c.deliver-reply.result w told.plan
-    (c.operations_hear.ensures.told _ _ _ _ _ _ _ c.requires.keeps.keeps _ _ _ _ _ _ _ _ w.asked b.nodes.items c.deliver-reply.result z c.requires.just (kept_runs c.requires.keeps m.receiver c.requires.receives) c.deliver-reply.ensures.taken told)))
-    c.answer.ensures.told
+    (c.operations_hear.ensures.told _ _ _ _ _ _ _ c.requires.keeps.keeps _ _ _ _ _ _ _ _ w.asked b.nodes.items c.deliver-reply.result z c.requires.just (kept_runs c.requires.keeps m.receiver c.requires.receives) c.deliver-reply.ensures.taken told))
 
 pub returns-clause-told : goal.returns-clause-told
-returns-clause-told c = on_ok_weaker c.answer.result (λ told. (Some c.deliver-reply.result, told)) c.answer.ensures.told
+returns-clause-told c = (Some c.deliver-reply.result, c.take_reply.ensures)

@@ -81,38 +81,6 @@ send_operation-requires-clause-sends g c =
       ready = c.in_ok-ready.ensures.ready;
     }
 
-pub returns-in_err-send_operation-clause-run : goal.returns-in_err-send_operation-clause-run
-returns-in_err-send_operation-clause-run g c =
-    let x = c.args.lane.now in
-    let y = c.write_wanted.new.lane in
-    let a = c.room_for_message.new.self in
-    let e = c.send_operation.new.lane in
-    let m = c.in-Some.message in
-    let t = c.args.machine.now in
-    let yl : y.lane ≡ x.lane = ap (λ (z : LaneState). z.lane) c.in_ok-ready.ensures.after in
-    let yr : y.rules ≡ x.rules = ap (λ (z : LaneState). z.rules) c.in_ok-ready.ensures.after in
-    let al : a.lane ≡ y.lane = ap (λ (z : LaneState). z.lane) c.in_ok-room_for_message.ensures.after in
-    let ar : a.rules ≡ y.rules = ap (λ (z : LaneState). z.rules) c.in_ok-room_for_message.ensures.after in
-    let next : next_at t ≡ Asks m = asks-of (next_at t) m (sym c.in-Some.is ∙ c.in_ok-message.ensures.message) in
-    (sent-in x a e c.args.line c.in_ok-ready.ready m t c.requires.stands.row (al ∙ yl) (ar ∙ yr) (subst (λ (s : Standing). SendsIn a e m s) c.in_ok-message.ensures.kept c.send_operation.ensures.runs) c.in_ok-ready.ensures.ready
-    (wrote-in x y a c.args.line c.args.written.now c.in_ok-ready.ready m t yl yr al ar (rw c.in_ok-room_for_message.ensures.same refl) c.in_ok-ready.ensures.writes next c.requires.stands.row c.requires.stands.stands)).0
-
-pub returns-in_err-send_operation-clause-going : goal.returns-in_err-send_operation-clause-going
-returns-in_err-send_operation-clause-going g c =
-    let x = c.args.lane.now in
-    let y = c.write_wanted.new.lane in
-    let a = c.room_for_message.new.self in
-    let e = c.send_operation.new.lane in
-    let m = c.in-Some.message in
-    let t = c.args.machine.now in
-    let yl : y.lane ≡ x.lane = ap (λ (z : LaneState). z.lane) c.in_ok-ready.ensures.after in
-    let yr : y.rules ≡ x.rules = ap (λ (z : LaneState). z.rules) c.in_ok-ready.ensures.after in
-    let al : a.lane ≡ y.lane = ap (λ (z : LaneState). z.lane) c.in_ok-room_for_message.ensures.after in
-    let ar : a.rules ≡ y.rules = ap (λ (z : LaneState). z.rules) c.in_ok-room_for_message.ensures.after in
-    let next : next_at t ≡ Asks m = asks-of (next_at t) m (sym c.in-Some.is ∙ c.in_ok-message.ensures.message) in
-    (sent-in x a e c.args.line c.in_ok-ready.ready m t c.requires.stands.row (al ∙ yl) (ar ∙ yr) (subst (λ (s : Standing). SendsIn a e m s) c.in_ok-message.ensures.kept c.send_operation.ensures.runs) c.in_ok-ready.ensures.ready
-    (wrote-in x y a c.args.line c.args.written.now c.in_ok-ready.ready m t yl yr al ar (rw c.in_ok-room_for_message.ensures.same refl) c.in_ok-ready.ensures.writes next c.requires.stands.row c.requires.stands.stands)).1
-
 pub returns-clause-run : goal.returns-clause-run
 returns-clause-run g c =
     let x = c.args.lane.now in
@@ -158,14 +126,14 @@ returns-clause-stands g c =
     let al : a.lane ≡ y.lane = ap (λ (z : LaneState). z.lane) c.in_ok-room_for_message.ensures.after in
     let ar : a.rules ≡ y.rules = ap (λ (z : LaneState). z.rules) c.in_ok-room_for_message.ensures.after in
     let next : next_at t ≡ Asks m = asks-of (next_at t) m (sym c.in-Some.is ∙ c.in_ok-message.ensures.message) in
-    λ row st. (subst (λ (s : Standing). SentIn a e m s c.send_operation.new.machine) c.in_ok-message.ensures.kept c.in_ok-send_operation.ensures.stands) c.args.line row c.in_ok-ready.ready c.in_ok-ready.ensures.ready
+    λ row st. (subst (λ (s : Standing). SentIn a e m s c.send_operation.new.machine) c.in_ok-message.ensures.kept c.send_operation.ensures.stands) c.args.line row c.in_ok-ready.ready c.in_ok-ready.ensures.ready
     (wrote-in x y a c.args.line c.args.written.now c.in_ok-ready.ready m t yl yr al ar (rw c.in_ok-room_for_message.ensures.same refl) c.in_ok-ready.ensures.writes next row st).1
 
 pub returns-clause-told : goal.returns-clause-told
 returns-clause-told g c = λ yes. (
   c.in-Some.message,
   asks-of (next_at c.args.machine.now) c.in-Some.message (sym c.in-Some.is ∙ c.in_ok-message.ensures.message),
-  subst (λ (s : Standing). IsStandingTold c.in-Some.message s c.send_operation.new.machine) c.in_ok-message.ensures.kept c.in_ok-send_operation.ensures.told,
+  subst (λ (s : Standing). IsStandingTold c.in-Some.message s c.send_operation.new.machine) c.in_ok-message.ensures.kept c.send_operation.ensures.told,
 )
 
 pub returns-in_err-room_for_message-clause-quiet : goal.returns-in_err-room_for_message-clause-quiet
@@ -174,15 +142,6 @@ returns-in_err-room_for_message-clause-quiet g c =
     let y = c.write_wanted.new.lane in
     let a = c.room_for_message.new.self in
     quiet-on (journal_of x) (journal_of y) (journal_of a) c.write_wanted.ensures.quiet (quiet-same (journal_of y) (journal_of a) (rw c.in_err-room_for_message.ensures.same refl))
-
-pub returns-in_err-send_operation-clause-quiet : goal.returns-in_err-send_operation-clause-quiet
-returns-in_err-send_operation-clause-quiet g c =
-    let x = c.args.lane.now in
-    let y = c.write_wanted.new.lane in
-    let a = c.room_for_message.new.self in
-    let e = c.send_operation.new.lane in
-    quiet-on (journal_of x) (journal_of y) (journal_of e) c.write_wanted.ensures.quiet
-    (quiet-on (journal_of y) (journal_of a) (journal_of e) (quiet-same (journal_of y) (journal_of a) (rw c.in_ok-room_for_message.ensures.same refl)) c.send_operation.ensures.quiet)
 
 pub returns-clause-quiet : goal.returns-clause-quiet
 returns-clause-quiet g c =
@@ -195,12 +154,6 @@ returns-clause-quiet g c =
 
 pub returns-in_err-room_for_message-clause-finds : goal.returns-in_err-room_for_message-clause-finds
 returns-in_err-room_for_message-clause-finds g c = rw c.in_err-room_for_message.ensures.same c.write_wanted.ensures.finds
-
-pub returns-in_err-send_operation-clause-finds : goal.returns-in_err-send_operation-clause-finds
-returns-in_err-send_operation-clause-finds g c =
-    let a = c.room_for_message.new.self in
-    let e = c.send_operation.new.lane in
-    finds-grown (place_of c.write_wanted.new.places) a.journal.items e.journal.items c.send_operation.ensures.entries (rw c.in_ok-room_for_message.ensures.same c.write_wanted.ensures.finds)
 
 pub returns-clause-finds : goal.returns-clause-finds
 returns-clause-finds g c =

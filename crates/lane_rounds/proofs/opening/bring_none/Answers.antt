@@ -11,8 +11,8 @@ use Rattle.lane_states.proofs.Accepting.{accepted-at}
 use Rattle.lane_rounds.proofs.Accepting.{accepted-alike}
 use Rattle.lane_rounds.proofs.opening.bring_none.Goals as goal
 
-pub tell_none-requires : goal.tell_none-requires
-tell_none-requires c =
+pub take_reply-requires : goal.take_reply-requires
+take_reply-requires c =
     let x = c.args.lane.now in
     let d = c.args.distributor in
     let p : Part = c.index_mut.result.now in
@@ -24,13 +24,13 @@ returns-clause-keeps c =
     let x = c.args.lane.now in
     let d = c.args.distributor in
     let p : Part = c.index_mut.result.now in
-    let q : Part = c.tell_none.new.part in
+    let q : Part = c.take_reply.new.self in
     let here : d < length x.parts.items = search rules in
     let is : part_in x.lane x.rules x.parts.items d ≡ p = part-at x.lane x.rules x.parts.items d p here (rw c.from.ensures at c.index_mut.ensures.value) in
     rw c.from.ensures
     (kept_still c.requires.keeps (search rules) (c.parts_are_told.ensures.known _ _ _ _ _ _ _ c.requires.keeps.keeps d (slice_set x.parts.items d q)
-    (knows-at x.lane x.rules x.parts.items d p q here is (c.parts_are_told.ensures.silent p q c.args.node c.tell_none.ensures)) (part-others x.lane x.rules x.parts.items d q))
-    (let same = (c.parts_are_told.ensures.silent p q c.args.node c.tell_none.ensures).alike in
+    (knows-at x.lane x.rules x.parts.items d p q here is (c.parts_are_told.ensures.silent p q c.args.node c.take_reply.ensures)) (part-others x.lane x.rules x.parts.items d q))
+    (let same = (c.parts_are_told.ensures.silent p q c.args.node c.take_reply.ensures).alike in
     accepted-at x.lane x.rules (journal_of x) x.parts.items d p q here is (accepted-alike (history (journal_of x)) p q same.state_is same.rows_are) c.requires.keeps.accepted))
 
 pub returns-clause-told : goal.returns-clause-told
@@ -38,7 +38,7 @@ returns-clause-told c =
     let x = c.args.lane.now in
     let d = c.args.distributor in
     let p : Part = c.index_mut.result.now in
-    let q : Part = c.tell_none.new.part in
+    let q : Part = c.take_reply.new.self in
     let here : d < length x.parts.items = search rules in
     let is : part_in x.lane x.rules x.parts.items d ≡ p = part-at x.lane x.rules x.parts.items d p here (rw c.from.ensures at c.index_mut.ensures.value) in
-    rw c.from.ensures (heard-at x.lane x.rules x.parts.items d p q here is (heard-after p q c.args.node None c.tell_none.ensures))
+    rw c.from.ensures (heard-at x.lane x.rules x.parts.items d p q here is (heard-after p q c.args.node None c.take_reply.ensures))

@@ -1,4 +1,4 @@
-use Rattle.std.proofs.Common.{Some, sym, ap, ◌∙◌, subst}
+use Rattle.std.proofs.Common.{◌≤◌, ◌+◌, vec_len, vec_capacity, Some, sym, ap, ◌∙◌, subst}
 use Rattle.distributor_part.specs.Parts.{Part, IsPart}
 use Rattle.distributor_part.specs.Upkeep.{JoinsRows}
 use Rattle.distributor_part.specs.contracts.part.DistributorPart.{the_view}
@@ -26,7 +26,7 @@ returns c =
       joined = made.0;
       opened = c.in-Some.is;
       found = p.found;
-      same_lane = (subst (λ r. IsPart before.lane before.awaited r before.stage) c.in-Some.is c.self.invariant).of_lane.same_lane;
+      same_lane = (subst (λ r. IsPart (vec_len c.self.inside.shown + 1 ≤ vec_capacity c.self.inside.shown) before.lane before.awaited r before.stage) c.in-Some.is c.self.invariant).of_lane.same_lane;
       joinable = p.joinable;
       is_joined = made.1;
       after = ap (λ d. record before { rows = Some d }) made.2;

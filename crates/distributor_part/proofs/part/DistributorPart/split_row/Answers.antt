@@ -1,4 +1,4 @@
-use Rattle.std.proofs.Common.{◌<◌, Some, IfSome, slice_get, sym, ap, ◌∙◌, subst}
+use Rattle.std.proofs.Common.{◌<◌, ◌≤◌, ◌+◌, vec_len, vec_capacity, Some, IfSome, slice_get, sym, ap, ◌∙◌, subst}
 use Rattle.proof_basics.proofs.Results.{on_either}
 use Rattle.bucket_db.proofs.RowLists.{some_with}
 use Rattle.distributor_part.specs.Parts.{Part, IsPart, rows_of}
@@ -10,8 +10,8 @@ use Rattle.distributor_part.proofs.part.DistributorPart.split_row.Goals as goal
 pub invariant_of-self : goal.invariant_of-self
 invariant_of-self c = on_either c.split_row.result c.split_row.ensures.ok c.split_row.ensures.err
     (λ e. part_split _ _ _ _ _ _ c.args.at c.in-Some.is (ap (λ p. p.stage) c.self.view_is ∙ c.requires.no_round) c.self.invariant e)
-    (λ e. subst (λ d. IsPart c.self.inside.lane c.self.inside.awaited (Some d) c.self.inside.stage) (sym e)
-    (subst (λ r. IsPart c.self.inside.lane c.self.inside.awaited r c.self.inside.stage) c.in-Some.is c.self.invariant))
+    (λ e. subst (λ d. IsPart (vec_len c.self.inside.shown + 1 ≤ vec_capacity c.self.inside.shown) c.self.inside.lane c.self.inside.awaited (Some d) c.self.inside.stage) (sym e)
+    (subst (λ r. IsPart (vec_len c.self.inside.shown + 1 ≤ vec_capacity c.self.inside.shown) c.self.inside.lane c.self.inside.awaited r c.self.inside.stage) c.in-Some.is c.self.invariant))
 
 pub invariant_of-self-2 : goal.invariant_of-self-2
 invariant_of-self-2 c = part_split _ _ _ _ _ _ c.args.at c.in-Some.is (ap (λ p. p.stage) c.self.view_is ∙ c.requires.no_round) c.self.invariant c.in_ok-split_row.ensures.ok
