@@ -22,7 +22,7 @@ use node_sets::NodeSet;
 use pieces::PieceList;
 use std::alloc::Global;
 use std::marker::Model;
-use value_lists::NoMemory;
+use value_lists::{NoMemory, TryCopy};
 
 /// What a distributor knows and does in a lane.
 #[derive(Drop)]
@@ -350,6 +350,20 @@ impl DistributorPart {
                 self.awaited = None;
             }
         }
+    }
+
+    /// The same, of a reply that the caller keeps. The only error is want of memory; nothing changes then.
+    pub fn answer(&mut self, alloc: Global, node: u8, reply: Option<&Reply>) -> Result<(), NoMemory>
+        requires { self.old.awaited ≡ Some node }
+        ensures ok { OnOk result (IsAfterAnswer self.old self.new node (option_copied reply.entry)) }
+        ensures err { OnErr result (self.new ≡ self.old) }
+    {
+        let told = match reply {
+            Some(reply) => Some(reply.copy(alloc)?),
+            None => None,
+        };
+        self.take_reply(node, told);
+        Ok(())
     }
 
     /// The round under way is over: the receivers that answered the Apply, the union, which is absent

@@ -1,8 +1,9 @@
 -- What a lane shows of its nodes and its parts.
-use Rattle.std.specs.Prelude.{◌≡◌, ℕ, List, Option, None, Some}
+use Rattle.std.specs.Prelude.{◌≡◌, ℕ, List, Option, None, Some, IfSome}
 use Rattle.std.specs.FinMap as fin
 use Rattle.bucket_ids.specs.Buckets.{Low}
 use Rattle.entry_maps.specs.EntryCodes.{Entries}
+use Rattle.bucket_db.specs.Rows.{AreRows, buckets_of}
 use Rattle.bucket_db.specs.declared.row.Row.{Row}
 use Rattle.distributor_part.specs.declared.rules.Rules.{Rules}
 use Rattle.distributor_part.specs.Parts.{Part, rows_of}
@@ -29,3 +30,5 @@ pub record HasRows (lane : Low) (rules : Rules) (J : List LaneEvent) (d : ℕ) (
   pub part : Part
   pub keeps : PartKeeps lane rules J d part
   pub are : rows ≡ rows_of part.rows
+  -- they part the lane, in rising order
+  pub whole : IfSome part.rows (λ d. AreRows part.lane (buckets_of d.rows))

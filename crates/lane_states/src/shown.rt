@@ -1,6 +1,7 @@
-ghost use Rattle.std.specs.Prelude.{◌≡◌};
+ghost use Rattle.std.specs.Prelude.{◌≡◌, IfSome};
 ghost use Rattle.std.specs.Option.{option_copied};
 ghost use Rattle.std.specs.FinMap as fin;
+ghost use Rattle.bucket_db.specs.Rows.{AreRows, buckets_of};
 ghost use Rattle.distributor_part.specs.Parts.{rows_of};
 ghost use Rattle.lane_keeping.specs.LaneKeeping.{node_in};
 ghost use Rattle.lane_states.specs.LaneStates.{part_of};
@@ -31,7 +32,9 @@ impl LaneState {
 
     /// The rows of a distributor; none before it opened its state.
     pub fn rows_at(&self, distributor: u8) -> &[Row]
-        ensures { result.now ≡ rows_of (part_of self.now distributor).rows }
+        ensures list { result.now ≡ rows_of (part_of self.now distributor).rows }
+        ensures whole { IfSome (part_of self.now distributor).rows
+            (λ d. AreRows (part_of self.now distributor).lane (buckets_of d.rows)) }
     {
         match self.parts.get(usize::from(distributor)) {
             Some(part) => part.rows(),

@@ -73,8 +73,7 @@ fn next(alloc: Global, part: &mut DistributorPart, key: &str) -> Option<String> 
 fn reply(alloc: Global, part: &mut DistributorPart, words: &[&str]) -> Option<()> {
     let (verb, rest) = words.split_first()?;
     let reply = read_arrived(alloc, verb, rest)?;
-    part.take_reply(part.awaited()?, reply);
-    Some(())
+    part.answer(alloc, part.awaited()?, reply.as_ref()).ok()
 }
 
 /// Tells that a round is over; node 1 answered its Read.

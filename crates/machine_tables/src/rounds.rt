@@ -30,12 +30,11 @@ fn told(alloc: Global, message: &Message) -> Option<String> {
 }
 
 /// Tells a round the reply to the message that it sent.
-fn tell(round: &mut Round, node: u8, reply: Option<Reply>) -> Option<()> {
+fn tell(alloc: Global, round: &mut Round, node: u8, reply: Option<Reply>) -> Option<()> {
     if node >= 32 || round.awaited() != Some(node) {
         return None;
     }
-    round.take_reply(node, reply);
-    Some(())
+    round.answer(alloc, node, reply.as_ref()).ok()
 }
 
 /// Sends the next message and tells its reply, and says whom it asked and what.
@@ -45,7 +44,7 @@ fn step(alloc: Global, round: &mut Round, reply: Option<Reply>) -> Option<String
     }
     match round.send(alloc).ok()? {
         Some(message) => {
-            tell(round, message.receiver, reply)?;
+            tell(alloc, round, message.receiver, reply)?;
             told(alloc, &message)
         }
         None => String::from_str(alloc, "end").ok(),

@@ -214,7 +214,9 @@ fn sent(alloc: Global, machine: &mut OpMachine, reply: Option<Reply>) -> Option<
         return None;
     }
     let message = machine.send(alloc).ok()??;
-    machine.take_reply(message.receiver, reply);
+    machine
+        .answer(alloc, message.receiver, reply.as_ref())
+        .ok()?;
     Some(message)
 }
 

@@ -1,4 +1,5 @@
 ghost use Rattle.std.specs.Prelude.{◌≡◌, ◌==◌, ◌||◌, ◌&&◌, not, ℕ, ◌+◌, ◌<◌, Some, None, IsTrue, IsFalse, IfOk, OnOk, OnErr};
+ghost use Rattle.std.specs.Option.{option_copied};
 ghost use Rattle.std.specs.FinMap as fin;
 ghost use Rattle.entry_maps.specs.Entries.{documents_of};
 ghost use Rattle.node_sets.specs.Members.{has_node};
@@ -159,6 +160,24 @@ impl Round {
         }
         self.heard = shown::take_reply(&mut self.shown, node, reply);
         self.awaited = None;
+    }
+
+    /// The same, of a reply that the caller keeps. The only error is want of memory; nothing changes then.
+    pub fn answer(&mut self, alloc: Global, node: u8, reply: Option<&Reply>) -> Result<(), NoMemory>
+        requires asked { self.old.awaited ≡ Some node }
+        requires node { node < 32 }
+        ensures read { self.old.applies ≡ 0
+            → OnOk result (self.new ≡ after_read self.old node (option_copied reply.entry)) }
+        ensures apply { 0 < self.old.applies
+            → OnOk result (IsAfterApply self.old self.new node (option_copied reply.entry)) }
+        ensures err { OnErr result (self.new ≡ self.old) }
+    {
+        let told = match reply {
+            Some(reply) => Some(reply.copy(alloc)?),
+            None => None,
+        };
+        self.take_reply(node, told);
+        Ok(())
     }
 
     /// Takes whether a node answered the Apply.

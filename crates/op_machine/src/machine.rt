@@ -1,4 +1,4 @@
-ghost use Rattle.std.specs.Prelude.{◌≡◌, ◌<◌, None, IfOk};
+ghost use Rattle.std.specs.Prelude.{◌≡◌, ◌<◌, None, IfOk, OnOk, OnErr};
 ghost use Rattle.std.specs.Option.{option_copied};
 ghost use Rattle.global_ids.specs.Keys.{key_of};
 ghost use Rattle.op_machine.specs.Outcomes.{answers_of, reader, message_in, outcome_in};
@@ -16,7 +16,7 @@ use node_sets::NodeSet;
 use stamps::Stamp;
 use std::alloc::Global;
 use std::marker::Model;
-use value_lists::NoMemory;
+use value_lists::{NoMemory, TryCopy};
 
 /// An operation, and what was told so far, as contracts see it.
 #[derive(Drop)]
@@ -194,6 +194,20 @@ impl OpMachine {
             Some(_) => self.take_read(node, reply),
             None => self.take_store(node, reply.as_ref()),
         }
+    }
+
+    /// The same, of a reply that the caller keeps. The only error is want of memory; nothing changes then.
+    pub fn answer(&mut self, alloc: Global, node: u8, reply: Option<&Reply>) -> Result<(), NoMemory>
+        requires { IsAsked self.old node }
+        ensures ok { OnOk result (IsAnswered node (option_copied reply.entry) self.old self.new) }
+        ensures err { OnErr result (self.new ≡ self.old) }
+    {
+        let told = match reply {
+            Some(reply) => Some(reply.copy(alloc)?),
+            None => None,
+        };
+        self.take_reply(node, told);
+        Ok(())
     }
 
     /// Takes a node's reply to its Read.

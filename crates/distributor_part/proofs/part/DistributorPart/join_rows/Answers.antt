@@ -8,7 +8,7 @@ use Rattle.distributor_part.proofs.part.DistributorPart.join_rows.Goals as goal
 pub invariant_of-self : goal.invariant_of-self
 invariant_of-self c =
     let p = pair_inside (the_view c.self.inside) c.args.self.now c.in-Some.rows c.args.at c.self.view_is c.in-Some.is
-        (place_inside (the_view c.self.inside) c.args.self.now c.in-Some.rows c.args.at c.self.view_is c.in-Some.is c.requires.place) c.requires.joinable in
+    (place_inside (the_view c.self.inside) c.args.self.now c.in-Some.rows c.args.at c.self.view_is c.in-Some.is c.requires.place) c.requires.joinable in
     let made = c.join_rows.ensures.joins p.row p.other p.found p.joinable in
     part_joined _ _ _ _ _ _ c.args.at p.row p.other made.0 c.in-Some.is (ap (λ p. p.stage) c.self.view_is ∙ c.requires.no_round) c.self.invariant p.found made.1 made.2
 
@@ -16,7 +16,7 @@ pub returns : goal.returns
 returns c =
     let before : Part = the_view c.self.inside in
     let p = pair_inside before c.args.self.now c.in-Some.rows c.args.at c.self.view_is c.in-Some.is
-        (place_inside before c.args.self.now c.in-Some.rows c.args.at c.self.view_is c.in-Some.is c.requires.place) c.requires.joinable in
+    (place_inside before c.args.self.now c.in-Some.rows c.args.at c.self.view_is c.in-Some.is c.requires.place) c.requires.joinable in
     let made = c.join_rows.ensures.joins p.row p.other p.found p.joinable in
     subst (λ h. JoinsRows c.args.self.now (record before { state = h; rows = Some c.join_rows.new.self }) c.args.at) (sym c.rows_join.ensures)
     (subst (λ p. JoinsRows p (record before { rows = Some c.join_rows.new.self }) c.args.at) c.self.view_is (record {
