@@ -16,12 +16,12 @@ use Rattle.lane_journals.specs.KeptJournals.{IsLegal}
 use Rattle.lane_carriage.specs.Carriage.{IsCarried}
 use Rattle.lane_keeping.specs.LaneKeeping.{setting_of}
 use Rattle.operation_keeping.specs.OperationKeeping.{IsFresh}
-use Rattle.lane_values.specs.LaneValues.{LaneValue}
+use Rattle.lane_lives.specs.LaneValues.{LaneValue}
 use Rattle.reports.specs.ReportText.{usage_text}
 use Rattle.session_settings.specs.Choices.{Chooses}
-use Rattle.lane_values.specs.Settings.{lane_count, IsSetting}
+use Rattle.lane_lives.specs.Settings.{lane_count, IsSetting}
 use Rattle.session_settings.specs.declared.choice.Choice.{Choice}
-use Rattle.lane_values.specs.declared.setting.Setting.{Setting}
+use Rattle.lane_lives.specs.declared.setting.Setting.{Setting}
 use Rattle.session_settings.proofs.Choosing.{one_choice, chosen_setting}
 use Rattle.lane_promises.specs.Promises.{IsComplete, KeepsWrites}
 use Rattle.lane_promises.proofs.Before.{legal_tail}

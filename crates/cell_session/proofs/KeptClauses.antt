@@ -5,7 +5,7 @@ use Rattle.carriers.specs.declared.fate.Fate.{Fate}
 use Rattle.cluster_states.specs.Publishing.{Told}
 use Rattle.lane_journals.specs.Meanings.{history}
 use Rattle.operation_keeping.specs.OperationKeeping.{IsFresh}
-use Rattle.lane_values.specs.declared.setting.Setting.{Setting}
+use Rattle.lane_lives.specs.declared.setting.Setting.{Setting}
 use Rattle.lane_lives.specs.Lives as life
 use Rattle.lane_lives.specs.Lives.{IsLife, IsNone}
 use Rattle.lane_lives.specs.Serving.{bucket_in}

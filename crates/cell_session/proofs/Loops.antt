@@ -6,7 +6,7 @@ use Rattle.std.proofs.lemmas.Option.{slice_get_within}
 use Rattle.std.proofs.KnownBytes.{Appends-nil, Appends-trans}
 use Rattle.std.specs.List.{count_by}
 use Rattle.std.specs.Io.KnownBytes.{Appends, Keeps}
-use Rattle.lane_values.specs.LaneValues.{LaneValue}
+use Rattle.lane_lives.specs.LaneValues.{LaneValue}
 use Rattle.io_ends.specs.Causes.{AppendsFront}
 use Rattle.io_ends.specs.Lines.{lines_of, end_of, NoLineFeed}
 use Rattle.io_ends.specs.Reading.{Reading, StandsIn, IsLittle}
@@ -29,8 +29,8 @@ use Rattle.cell_session.specs.Ends.{IfTold, AreFirst, IsReadTo, IsReadNear, Pass
 use Rattle.session_cluster.specs.Output.{output_of, report_in}
 use Rattle.cell_session.specs.Reads.{Finishes, Shows, HoldsBack, IsReadEnd}
 use Rattle.carriers.specs.declared.fate.Fate.{Fate}
-use Rattle.lane_values.specs.Settings.{IsSetting}
-use Rattle.lane_values.specs.declared.setting.Setting.{Setting}
+use Rattle.lane_lives.specs.Settings.{IsSetting}
+use Rattle.lane_lives.specs.declared.setting.Setting.{Setting}
 use Rattle.cell_session.specs.Operations.{IsCommandAt}
 use Rattle.cell_session.specs.SoFar.{IsBehind, IsSoFar}
 use Rattle.session_cluster.specs.Steps.{without_room, IsSpanNoted, IsAfter}

@@ -4,10 +4,10 @@ use Rattle.carriers.specs.declared.fate.Fate.{Fate}
 use Rattle.cluster_states.specs.Publishing.{Told}
 use Rattle.messages.specs.declared.outcome.Outcome.{Outcome}
 use Rattle.messages.specs.declared.outcome.Outcome.TheVariants as outcome
-use Rattle.lane_values.specs.LaneValues.{LaneValue}
+use Rattle.lane_lives.specs.LaneValues.{LaneValue}
 use Rattle.lane_journals.specs.KeptJournals.{IsLegal}
 use Rattle.lane_keeping.specs.LaneKeeping.{setting_of}
-use Rattle.lane_values.specs.declared.setting.Setting.{Setting}
+use Rattle.lane_lives.specs.declared.setting.Setting.{Setting}
 use Rattle.lane_lives.specs.Lives.{outcome_in}
 use Rattle.lane_lives.specs.Serving.{bucket_in}
 use Rattle.lane_promises.proofs.Answered.{found_written}

@@ -14,9 +14,9 @@ use Rattle.lane_journals.specs.declared.event.LaneEvent.{LaneEvent}
 use Rattle.distributor_part.specs.declared.rules.Rules.{Rules}
 use Rattle.lane_keeping.specs.LaneKeeping.{setting_of}
 use Rattle.lane_rest.specs.Rest.{IsAtRest}
-use Rattle.lane_values.specs.LaneValues.{LaneValue}
-use Rattle.lane_values.specs.Upkept.{IsLaneAtRest}
-use Rattle.lane_values.specs.declared.setting.Setting.{Setting}
+use Rattle.lane_lives.specs.LaneValues.{LaneValue}
+use Rattle.lane_lives.specs.Upkept.{IsLaneAtRest}
+use Rattle.lane_lives.specs.declared.setting.Setting.{Setting}
 use Rattle.lane_lives.specs.Lives.{Deed, Announces, Stops, Starts, Maintains, IsMaintained, IsLife}
 use Rattle.lane_lives.specs.Serving.{bucket_in}
 use Rattle.lane_lives.specs.Upkeep.{SpanStands}

@@ -1,8 +1,8 @@
 -- Why lines were refused, and why they got too few answers.
 use Rattle.std.specs.Prelude.{◌≡◌, ℕ, List, Some, slice_get}
 use Rattle.messages.specs.declared.outcome.Outcome.TheVariants.{TooFew, OwnedElsewhere}
-use Rattle.lane_values.specs.LaneValues.{LaneValue}
-use Rattle.lane_values.specs.declared.setting.Setting.{Setting}
+use Rattle.lane_lives.specs.LaneValues.{LaneValue}
+use Rattle.lane_lives.specs.declared.setting.Setting.{Setting}
 use Rattle.lane_lives.specs.Lives.{lines_of, outcome_in}
 use Rattle.lane_promises.specs.Promises.{WasRefused, LineFellShort}
 use Rattle.lane_lives.specs.Serving.{bucket_in}

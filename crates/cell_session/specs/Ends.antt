@@ -16,8 +16,8 @@ use Rattle.reports.specs.ReportText.{usage_text}
 use Rattle.session_cluster.specs.Cells.{Cell}
 use Rattle.session_cluster.specs.Deeds.{told_of}
 use Rattle.session_cluster.specs.Output.{report_in, output_of}
-use Rattle.lane_values.specs.Settings.{lane_count}
-use Rattle.lane_values.specs.declared.setting.Setting.{Setting}
+use Rattle.lane_lives.specs.Settings.{lane_count}
+use Rattle.lane_lives.specs.declared.setting.Setting.{Setting}
 use Rattle.cell_session.specs.Limits.{most_lines, most_bytes, most_states, most_maintains}
 use Rattle.cell_session.specs.declared.status.Status.{Status}
 use Rattle.cell_session.specs.declared.status.Status.TheVariants as status

@@ -2,7 +2,7 @@
 use Rattle.std.specs.Prelude.{ℕ, List, Option}
 use Rattle.carriers.specs.declared.fate.Fate.{Fate}
 use Rattle.doc_types.specs.SchemaCodes.{Types}
-use Rattle.lane_values.specs.declared.setting.Setting.{Setting}
+use Rattle.lane_lives.specs.declared.setting.Setting.{Setting}
 use Rattle.session_cluster.specs.Cells.{Cell}
 use Rattle.session_cluster.specs.declared.asked.Asked.{Asked}
 use Rattle.cell_session.specs.Causes.{HaveCauses}

@@ -5,9 +5,9 @@ use Rattle.carriers.specs.declared.fate.Fate.{Fate}
 use Rattle.doc_types.specs.SchemaCodes.{Types}
 use Rattle.lane_journals.specs.Meanings.{history}
 use Rattle.lane_carriage.specs.Carriage.{IsCarried}
-use Rattle.lane_values.specs.LaneValues.{LaneValue}
+use Rattle.lane_lives.specs.LaneValues.{LaneValue}
 use Rattle.operation_keeping.specs.OperationKeeping.{IsFresh}
-use Rattle.lane_values.specs.declared.setting.Setting.{Setting}
+use Rattle.lane_lives.specs.declared.setting.Setting.{Setting}
 use Rattle.lane_lives.specs.Lives as life
 use Rattle.lane_lives.specs.Lives.{IsLife, IsNone}
 use Rattle.lane_lives.specs.Serving.{bucket_in}

@@ -4,8 +4,8 @@ use Rattle.std.specs.Io.KnownBytes.{Appends}
 use Rattle.carriers.specs.declared.fate.Fate.{Fate}
 use Rattle.io_ends.specs.Reading.{Reading, StandsIn}
 use Rattle.doc_types.specs.SchemaCodes.{Types}
-use Rattle.lane_values.specs.Settings.{IsSetting}
-use Rattle.lane_values.specs.declared.setting.Setting.{Setting}
+use Rattle.lane_lives.specs.Settings.{IsSetting}
+use Rattle.lane_lives.specs.declared.setting.Setting.{Setting}
 use Rattle.session_cluster.specs.declared.asked.Asked.{Asked}
 use Rattle.cell_session.specs.Limits.{most_lines, most_states, most_maintains}
 use Rattle.cell_session.specs.declared.counts.Counts.{Counts}

@@ -1,8 +1,8 @@
 -- What became of the lines that asked for upkeep.
 use Rattle.std.specs.Prelude.{◌≡◌, ◌<◌, ◌≤◌, ◌⊎◌, ℕ, suc, List, length, take, Option, None, Some, IsSome, slice_get}
-use Rattle.lane_values.specs.LaneValues.{LaneValue}
-use Rattle.lane_values.specs.Settings.{lane_count}
-use Rattle.lane_values.specs.declared.setting.Setting.{Setting}
+use Rattle.lane_lives.specs.LaneValues.{LaneValue}
+use Rattle.lane_lives.specs.Settings.{lane_count}
+use Rattle.lane_lives.specs.declared.setting.Setting.{Setting}
 use Rattle.lane_lives.specs.Serving.{bucket_in}
 use Rattle.lane_lives.specs.Upkeep.{SpanStands}
 use Rattle.lane_lives.specs.declared.spans.UpkeepSpan.{UpkeepSpan}

@@ -10,7 +10,7 @@ ghost use Rattle.cell_session.specs.declared.answering.Stop.TheVariants as stop;
 
 use carriers::Carrier;
 use io_ends::{Sink, WriteFault, write_all};
-use lane_values::Setting;
+use lane_lives::Setting;
 use reports::{Answer, report};
 use session_cluster::asked::Asked;
 use session_cluster::cluster::Cluster;

@@ -4,7 +4,7 @@ ghost use Rattle.std.specs.Io.KnownBytes.{Appends};
 ghost use Rattle.io_ends.specs.Causes.{HasRisen};
 ghost use Rattle.reports.specs.ReportText.{usage_text};
 ghost use Rattle.session_settings.specs.Choices.{Chooses, AreWrong};
-ghost use Rattle.lane_values.specs.Settings.{IsSetting};
+ghost use Rattle.lane_lives.specs.Settings.{IsSetting};
 ghost use Rattle.session_settings.specs.declared.choice.Choice.{Choice};
 ghost use Rattle.session_cluster.specs.Cells.{is_empty, journals_of};
 ghost use Rattle.cell_session.specs.Dealing.{EndsAs};
@@ -21,15 +21,14 @@ use crate::status::Status;
 use carriers::Carriers;
 use doc_types::Schema;
 use io_ends::{LimitKind, LineReader, Sink, Source, write_all};
+use lane_lives::Setting;
 use lane_promises::laws::{
     hearings_follow_deeds, lanes_are_complete, lanes_are_durable, lines_are_refused_with_cause,
     lines_fall_short_with_cause,
 };
-use lane_values::Setting;
 use line_values::ValueReader;
 use reports::usage_report;
-use session_cluster::cluster::Cluster;
-use session_cluster::opening::open_cluster;
+use session_cluster::cluster::{Cluster, open_cluster};
 use session_settings::read_choice;
 use std::alloc::Global;
 use words_line::WordsFault;

@@ -26,7 +26,7 @@ use Rattle.lane_keeping.specs.Replaying.{sending}
 use Rattle.lane_keeping.specs.Acting.{IsActing}
 use Rattle.round_keeping.specs.RoundKeeping.{KnowsRound}
 use Rattle.operation_keeping.specs.OperationKeeping.{beginning_of, IsUnderWay}
-use Rattle.line_wants.specs.Wants.{Adds, Wants, OpeningGives, RoundGives, BodyGives, NextGives, UnpreparedWants}
+use Rattle.operation_keeping.specs.Wants.{Adds, Wants, OpeningGives, RoundGives, BodyGives, NextGives, UnpreparedWants}
 
 -- the round ends for the owner under the state of the line, once nothing is left to send
 pub record Ending (lane : Low) (L : List LaneEvent) (line : ℕ) (o : Operation) (s : ClusterState) (r : RoundState) : Type 0 where

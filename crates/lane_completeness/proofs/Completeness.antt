@@ -19,8 +19,8 @@ use Rattle.lane_journals.specs.declared.event.LaneEvent.{LaneEvent}
 use Rattle.lane_keeping.specs.LaneKeeping.{setting_of}
 use Rattle.lane_keeping.specs.Acting.{IsActing}
 use Rattle.operation_keeping.specs.OperationKeeping.{beginning_of}
-use Rattle.line_wants.specs.Wants.{Adds, Ends, RoundGives, UnpreparedWants}
-use Rattle.line_wants.specs.RuleBounds.{AreRules}
+use Rattle.operation_keeping.specs.Wants.{Adds, Ends, RoundGives, UnpreparedWants}
+use Rattle.operation_keeping.specs.RuleBounds.{AreRules}
 use Rattle.lane_completeness.specs.Completeness.{with_begun, IsUndisturbedLine, WantedMemory, IsDecided, EndsWell}
 use Rattle.lane_completeness.specs.Causes.{IsMissing, IsRunLine}
 use Rattle.lane_completeness.proofs.Turns.{undisturbed-turn}

@@ -32,7 +32,7 @@ use Rattle.lane_journals.specs.declared.event.LaneEvent.{LaneEvent}
 use Rattle.lane_keeping.specs.LaneKeeping.{KnowsOpening, Holds, PartKeeps}
 use Rattle.operation_keeping.specs.OperationKeeping.{WasShort}
 use Rattle.proof_basics.proofs.Tests.{not_answered}
-use Rattle.line_wants.specs.Wants.{Ends, EndsUnless, WasAskedIn, is_ask, OpeningGives, OpeningWants}
+use Rattle.operation_keeping.specs.Wants.{Ends, EndsUnless, WasAskedIn, is_ask, OpeningGives, OpeningWants}
 use Rattle.lane_completeness.specs.Completeness.{WantedMemory}
 use Rattle.lane_completeness.specs.Causes.{OfOpening, IsMissing}
 use Rattle.lane_journals.proofs.Replies.{IsOwed}

@@ -38,7 +38,7 @@ use Rattle.operation_keeping.proofs.Counting.{few-count, absent-lacks, active-ab
 use Rattle.operation_keeping.proofs.Judged.{NextEnd, ByReads, ByStores, next-end, due-by, verdict-writes, ends-looks}
 use Rattle.operation_keeping.proofs.Messages.{own-wrote}
 use Rattle.operation_keeping.proofs.Ending.{unwritten-yet}
-use Rattle.line_wants.specs.Wants.{Ends, NextGives, OperationWants}
+use Rattle.operation_keeping.specs.Wants.{Ends, NextGives, OperationWants}
 use Rattle.lane_completeness.specs.Causes.{OfLooking, OfStoring, IsMissing}
 use Rattle.lane_completeness.proofs.Runs.{At}
 use Rattle.lane_completeness.proofs.Missing.{Back, missing, any-short}

@@ -18,7 +18,7 @@ use Rattle.lane_journals.proofs.Basics.{sent-stays, sent-cases, began-stays, rou
 use Rattle.lane_journals.proofs.Beginnings.{before-now, before-same}
 use Rattle.lane_journals.proofs.Meant.{meant-legal}
 use Rattle.lane_keeping.specs.LaneKeeping.{setting_of}
-use Rattle.line_wants.specs.Wants.{IsCarriage, IsRun, Same, More, IsWanted}
+use Rattle.operation_keeping.specs.Wants.{IsCarriage, IsRun, Same, More, IsWanted}
 use Rattle.lane_completeness.specs.Completeness.{with_begun}
 use Rattle.lane_journals.proofs.Replies.{IsNewest}
 use Rattle.lane_completeness.proofs.Additions.{Added, ASending, AnOpening, APreparing, AWriting, ARound, AnEnd, added}

@@ -25,15 +25,15 @@ use Rattle.lane_journals.specs.declared.event.LaneEvent.{LaneEvent}
 use Rattle.lane_journals.proofs.Meant.{state-serves}
 use Rattle.lane_keeping.specs.LaneKeeping.{setting_of}
 use Rattle.operation_keeping.specs.OperationKeeping.{WasShort}
-use Rattle.line_wants.specs.Wants.{Ends, is_round_read, is_round_apply, ShortWants}
-use Rattle.line_wants.specs.RuleBounds.{AreRules}
+use Rattle.operation_keeping.specs.Wants.{Ends, is_round_read, is_round_apply, ShortWants}
+use Rattle.operation_keeping.specs.RuleBounds.{AreRules}
 use Rattle.lane_completeness.specs.Causes.{IsOfRound, IsOfPhase, OfReading, OfUnion, IsMissing}
 use Rattle.lane_journals.proofs.Replies.{IsOwed}
 use Rattle.lane_completeness.proofs.Runs.{At, first, sent-since}
 use Rattle.lane_journals.proofs.Hearing.{answer-counts}
 use Rattle.lane_completeness.proofs.Missing.{Back, owed-came, missing}
 use Rattle.lane_completeness.proofs.Opening.{absent-passes, FallsShort, falls-short}
-use Rattle.line_wants.proofs.Receivers.{complete-enough}
+use Rattle.operation_keeping.proofs.Receivers.{complete-enough}
 use Rattle.lane_completeness.proofs.Spent.{IsSentIn, is_union, IsSpent}
 use Rattle.lane_completeness.proofs.Since.{RoundSince, NotBegun, UnderWay, Over}
 

@@ -21,7 +21,7 @@ use Rattle.lane_journals.specs.declared.event.LaneEvent.TheVariants as event
 use Rattle.lane_journals.proofs.BucketLaws.{same_bucket-true}
 use Rattle.lane_journals.proofs.Meant.{meant-legal}
 use Rattle.lane_keeping.specs.LaneKeeping.{setting_of}
-use Rattle.line_wants.specs.Wants.{IsCarriage, Same, More}
+use Rattle.operation_keeping.specs.Wants.{IsCarriage, Same, More}
 use Rattle.lane_completeness.specs.Causes.{just_sent, ReturnInTurn}
 use Rattle.lane_completeness.proofs.Turns.{turn-before}
 use Rattle.lane_completeness.proofs.Additions.{Ending, Added, ASending, AnOpening, APreparing, AWriting, ARound, AnEnd, added}

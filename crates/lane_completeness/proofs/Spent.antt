@@ -24,7 +24,7 @@ use Rattle.lane_journals.proofs.Rows.{IsRound, IsRound-stays, isround-one, runni
 use Rattle.lane_journals.proofs.Serials.{answer_of-parts}
 use Rattle.round_keeping.specs.RoundKeeping.{was_sent, is_apply, is_of, is_among_first}
 use Rattle.lane_completeness.specs.Causes.{just_sent}
-use Rattle.line_wants.proofs.Sizes.{member-place}
+use Rattle.operation_keeping.proofs.Sizes.{member-place}
 use Rattle.lane_completeness.proofs.Additions.{Ending}
 
 -- ---- a message that passes a test

@@ -10,7 +10,7 @@ use Rattle.lane_journals.specs.declared.event.LaneEvent.{LaneEvent}
 use Rattle.lane_journals.specs.declared.event.LaneEvent.TheVariants as event
 use Rattle.lane_journals.proofs.Basics.{sent-cases, returned-stays, replied-sent}
 use Rattle.lane_journals.proofs.Meant.{meant-legal}
-use Rattle.line_wants.specs.Wants.{IsCarriage}
+use Rattle.operation_keeping.specs.Wants.{IsCarriage}
 use Rattle.lane_completeness.specs.Completeness.{HaveReturned, InTurn}
 use Rattle.lane_completeness.specs.Causes.{just_sent, ReturnInTurn}
 

@@ -16,7 +16,7 @@ use Rattle.lane_journals.specs.declared.event.LaneEvent.{LaneEvent}
 use Rattle.lane_journals.specs.declared.event.LaneEvent.TheVariants.{Sent, Delivered, Returned}
 use Rattle.lane_carriage.specs.Readers.{fate_of, is_returned, receives}
 use Rattle.lane_keeping.specs.LaneKeeping.{setting_of}
-use Rattle.line_wants.specs.Wants.{IsRun, IsEnd}
+use Rattle.operation_keeping.specs.Wants.{IsRun, IsEnd}
 use Rattle.lane_completeness.specs.Completeness.{with_begun}
 
 -- ---- who is missing

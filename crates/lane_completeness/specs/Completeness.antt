@@ -16,7 +16,7 @@ use Rattle.lane_journals.specs.declared.event.LaneEvent.TheVariants.{Begun, Stop
 use Rattle.lane_carriage.specs.Readers.{receives, fate_of, is_returned}
 use Rattle.lane_keeping.specs.LaneKeeping.{setting_of}
 use Rattle.operation_keeping.specs.OperationKeeping.{WasShort}
-use Rattle.line_wants.specs.Wants.{IsCarriage, IsRun, IsEnd}
+use Rattle.operation_keeping.specs.Wants.{IsCarriage, IsRun, IsEnd}
 
 -- ---- no message is lost
 

@@ -18,7 +18,7 @@ ghost use Rattle.lane_carriage.specs.Carriage.{IsCarried};
 ghost use Rattle.lane_carriage.specs.Readers.{receives};
 ghost use Rattle.lane_keeping.specs.LaneKeeping.{setting_of};
 ghost use Rattle.lane_completeness.specs.Completeness.{AreAnswered, RunSince, NoneStops, IsUndisturbed, IsUndisturbedLine, IsDecided, EndsWell};
-ghost use Rattle.line_wants.specs.RuleBounds.{AreRules};
+ghost use Rattle.operation_keeping.specs.RuleBounds.{AreRules};
 ghost use Rattle.lane_completeness.specs.Causes.{IsMissing, IsLost, ReturnInTurn, IsRunLine};
 
 /// An operation that was begun under the newest state, and of which no message is lost, doesn't end for want

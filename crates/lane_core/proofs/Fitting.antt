@@ -16,7 +16,7 @@ use Rattle.lane_journals.specs.ActiveCopies.{ActiveIsComplete}
 use Rattle.lane_keeping.specs.Acting.{IsKnownRow}
 use Rattle.operation_keeping.specs.OperationKeeping.{IsUnderWay, KnowsPreparing, KnowsOperation}
 use Rattle.operation_keeping.specs.Left.{messages_left}
-use Rattle.line_wants.specs.Wants.{Wants, Adds}
+use Rattle.operation_keeping.specs.Wants.{Wants, Adds}
 use Rattle.lane_core.specs.declared.work.Job.{Job}
 use Rattle.lane_core.specs.declared.work.Phase.TheVariants as phase
 use Rattle.lane_states.specs.declared.lane_state.LaneState.{LaneState}

@@ -16,7 +16,7 @@ use Rattle.lane_lines.specs.Closing.{MayEndWith}
 use Rattle.lane_core.specs.declared.work.Job.{Job}
 use Rattle.lane_core.specs.declared.work.Phase.{Phase}
 use Rattle.lane_core.specs.declared.work.Phase.TheVariants.{Begun, Prepared, Over, Short}
-use Rattle.line_wants.specs.Wants.{IsEnd}
+use Rattle.operation_keeping.specs.Wants.{IsEnd}
 use Rattle.lane_core.specs.Advancing.{EndsAs}
 use Rattle.lane_core.specs.Works.{progress_of, IsJob, PhaseKeeps, PhaseEnds, MayMark, IsEndedBy}
 use Rattle.lane_core.proofs.Working.{same-key}

@@ -26,16 +26,16 @@ use Rattle.lane_keeping.specs.Acting.{IsActing}
 use Rattle.operation_keeping.specs.OperationKeeping.{IsUnderWay, KnowsOperation}
 use Rattle.operation_keeping.specs.Laws.{OfOperation, IsAckedAs}
 use Rattle.operation_keeping.specs.Left.{messages_left}
-use Rattle.line_wants.specs.Wants.{Ends, IsRun, IsEnd, NextGives}
+use Rattle.operation_keeping.specs.Wants.{Ends, IsRun, IsEnd, NextGives}
 use Rattle.lane_states.specs.declared.lane_state.LaneState.{LaneState}
 use Rattle.lane_core.specs.declared.work.Job.{Job}
 use Rattle.lane_core.specs.declared.work.Phase.{Phase}
 use Rattle.lane_core.specs.declared.work.Phase.TheVariants as phase
-use Rattle.lane_values.specs.declared.answers.Advance.{Advance}
-use Rattle.lane_values.specs.declared.answers.Advance.TheVariants as advance
+use Rattle.lane_lives.specs.declared.answers.Advance.{Advance}
+use Rattle.lane_lives.specs.declared.answers.Advance.TheVariants as advance
 use Rattle.lane_core.specs.declared.work.Work.{Work}
 use Rattle.lane_states.specs.LaneStates.{journal_of, IsKept, HasRoom, AreResting}
-use Rattle.lane_values.specs.LaneValues.{with_run, under_way_of}
+use Rattle.lane_lives.specs.LaneValues.{with_run, under_way_of}
 use Rattle.lane_core.specs.Advancing.{WentOn, IsAdvance}
 use Rattle.stamps.specs.Places.{place_of}
 use Rattle.lane_states.specs.Written.{FindsEntries}

@@ -7,8 +7,8 @@ use Rattle.lane_journals.specs.declared.event.LaneEvent.{LaneEvent}
 use Rattle.lane_journals.specs.declared.event.LaneEvent.TheVariants.{Refused}
 use Rattle.operation_keeping.specs.OperationKeeping.{IsFresh}
 use Rattle.lane_keeping.specs.Tidings.{heard_next}
-use Rattle.lane_values.specs.LaneValues.{LaneValue, IsLaneValue, Begins, BeginsAtOwner, Refuses, IsAt}
-use Rattle.lane_values.specs.declared.progress.Progress.TheVariants as progress
+use Rattle.lane_lives.specs.LaneValues.{LaneValue, IsLaneValue, Begins, BeginsAtOwner, Refuses, IsAt}
+use Rattle.lane_lives.specs.declared.progress.Progress.TheVariants as progress
 use Rattle.lane_lives.specs.Lives.{FeedLine, outcome_in}
 use Rattle.lane_core.specs.Runs.{IsFinish, begun_with, IsLineRun}
 use Rattle.lane_lives.proofs.OneLine.{fresh_none, outcome_refused, run_outcome, passes_next}

@@ -7,13 +7,13 @@ use Rattle.messages.specs.declared.operation.Operation.{Operation}
 use Rattle.messages.specs.declared.outcome.Outcome.{Outcome}
 use Rattle.lane_journals.specs.declared.event.LaneEvent.{LaneEvent}
 use Rattle.lane_journals.specs.declared.event.LaneEvent.TheVariants.{Closed}
-use Rattle.lane_values.specs.LaneValues.{LaneValue, under_way_of, with_run, IsAt, MayClose, line_of, closed_by}
+use Rattle.lane_lives.specs.LaneValues.{LaneValue, under_way_of, with_run, IsAt, MayClose, line_of, closed_by}
 use Rattle.lane_core.specs.Advancing.{IsAdvance, EndsAs, IsOutcome}
-use Rattle.line_wants.specs.Wants.{IsRun, Same, More, IsCutRun, IsEnd}
-use Rattle.lane_values.specs.declared.progress.UnderWay.{UnderWay}
-use Rattle.lane_values.specs.declared.progress.Progress.{Progress}
-use Rattle.lane_values.specs.declared.progress.Progress.TheVariants.{Runs, Over, Short}
-use Rattle.lane_values.specs.declared.answers.Advance.TheVariants as advance
+use Rattle.operation_keeping.specs.Wants.{IsRun, Same, More, IsCutRun, IsEnd}
+use Rattle.lane_lives.specs.declared.progress.UnderWay.{UnderWay}
+use Rattle.lane_lives.specs.declared.progress.Progress.{Progress}
+use Rattle.lane_lives.specs.declared.progress.Progress.TheVariants.{Runs, Over, Short}
+use Rattle.lane_lives.specs.declared.answers.Advance.TheVariants as advance
 use Rattle.lane_lives.specs.Lives.{FeedLine, RunsTo, begun_at, IsRunAt}
 use Rattle.lane_core.specs.Runs.{closed_with, Finishes, IsFinish, going_with, GoesOn, IsGoing, left_in, begun_with}
 

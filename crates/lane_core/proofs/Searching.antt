@@ -16,19 +16,19 @@ use Rattle.lane_journals.specs.declared.event.LaneEvent.{LaneEvent}
 use Rattle.lane_journals.specs.declared.event.LaneEvent.TheVariants.{Prepared}
 use Rattle.lane_keeping.specs.Asking.{OthersStay}
 use Rattle.lane_keeping.specs.LaneKeeping.{part_in}
-use Rattle.line_wants.specs.Wants.{More, IsEnd}
+use Rattle.operation_keeping.specs.Wants.{More, IsEnd}
 use Rattle.lane_states.specs.declared.lane_state.LaneState.{LaneState}
 use Rattle.lane_core.specs.declared.work.Job.{Job}
 use Rattle.lane_core.specs.declared.work.Phase.{Phase}
 use Rattle.lane_core.specs.declared.work.Phase.TheVariants as phase
-use Rattle.lane_values.specs.declared.progress.Progress.TheVariants as progress
-use Rattle.lane_values.specs.declared.progress.UnderWay.{UnderWay}
-use Rattle.lane_values.specs.declared.answers.Advance.TheVariants as advance
+use Rattle.lane_lives.specs.declared.progress.Progress.TheVariants as progress
+use Rattle.lane_lives.specs.declared.progress.UnderWay.{UnderWay}
+use Rattle.lane_lives.specs.declared.answers.Advance.TheVariants as advance
 use Rattle.lane_lines.specs.declared.readying.Shortage.{Shortage}
 use Rattle.lane_lines.specs.declared.readying.Shortage.TheVariants as shortage
 use Rattle.lane_core.specs.declared.work.Work.{Work}
 use Rattle.lane_states.specs.LaneStates.{journal_of, IsKept, HasRoom, part_of, IsResting, AreResting}
-use Rattle.lane_values.specs.LaneValues.{LaneValue, IsAt, with_run, under_way_of}
+use Rattle.lane_lives.specs.LaneValues.{LaneValue, IsAt, with_run, under_way_of}
 use Rattle.lane_core.specs.Advancing.{WentOn, WasCut, IsAdvance}
 use Rattle.lane_core.specs.Works.{value_of, under_way_in, progress_of, IsUntouched, PhaseKeeps, PhaseLasts, IsJob, JobKeeps, JobLasts, IsWork}
 use Rattle.lane_lines.specs.Steps.{IsUneventful}

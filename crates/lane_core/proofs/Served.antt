@@ -14,8 +14,8 @@ use Rattle.lane_journals.specs.declared.event.LaneEvent.{LaneEvent}
 use Rattle.lane_keeping.specs.LaneKeeping.{setting_of}
 use Rattle.operation_keeping.specs.OperationKeeping.{IsFresh}
 use Rattle.lane_keeping.specs.Tidings.{announced, stopped_next, started_next, last_state}
-use Rattle.lane_values.specs.LaneValues.{LaneValue, IsLaneValue}
-use Rattle.lane_values.specs.declared.setting.Setting.{Setting}
+use Rattle.lane_lives.specs.LaneValues.{LaneValue, IsLaneValue}
+use Rattle.lane_lives.specs.declared.setting.Setting.{Setting}
 use Rattle.lane_lives.specs.Lives.{FeedLine, Deed, Announces, Stops, Starts, Runs, Maintains, Does, IsMaintained, IsCarriedOut, lines_of, last_line, AreRising, states_in, newest_in}
 use Rattle.lane_core.specs.Runs.{IsLineRun}
 use Rattle.lane_lives.specs.Upkeep.{MayBeUpkept, IsSpan}

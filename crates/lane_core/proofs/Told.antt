@@ -13,16 +13,16 @@ use Rattle.lane_states.specs.LaneStates.{journal_of}
 use Rattle.upkeep_spans.specs.declared.answers.Upkeep.{Upkeep}
 use Rattle.upkeep_spans.specs.declared.answers.Upkeep.TheVariants.{Rested, Blocked, Disturbed, Held, NoMemory}
 use Rattle.upkeep_spans.specs.Spans.{AreUpkeep, Nothing, More, later, earlier}
-use Rattle.upkeep_spans.specs.Causes.{first_absent, cause_of, IsCause}
+use Rattle.upkeep_spans.specs.Causes.{first_absent, cause_of, IsCause, IsUndisturbed}
 use Rattle.upkeep_spans.proofs.Leaving.{before}
+use Rattle.upkeep_spans.proofs.Rested.{all_back, was_undisturbed}
 use Rattle.upkeep_spans.proofs.Seeing.{length-past}
-use Rattle.lane_values.specs.LaneValues.{LaneValue}
-use Rattle.lane_values.specs.declared.progress.UnderWay.{UnderWay}
+use Rattle.lane_lives.specs.LaneValues.{LaneValue}
+use Rattle.lane_lives.specs.declared.progress.UnderWay.{UnderWay}
 use Rattle.lane_core.specs.declared.work.Work.{Work}
 use Rattle.lane_core.specs.Works.{value_of, under_way_in}
 use Rattle.lane_core.specs.Upkeeping.{MaintainsBy, MayMaintain, OpensBy, RestsBy}
-use Rattle.lane_values.specs.Upkept.{Maintains, IsHeldBy, HasOpened, IsLaneAtRest, IsUpkept}
-use Rattle.undisturbed_spans.specs.Undisturbed.{IsUndisturbed}
+use Rattle.lane_lives.specs.Upkept.{Maintains, IsHeldBy, HasOpened, IsLaneAtRest, IsUpkept}
 
 -- ---- the answer
 
@@ -31,21 +31,10 @@ not-held by (Some n) absent e = Prim.cc
 not-held by None (Some n) e = Prim.cc
 not-held by None None e = Prim.cc
 
--- it rests where none is absent
-all-back : (late absent : Option ℕ) → Rested ≡ cause_of late absent → absent ≡ None
-all-back (Some n) absent e = Prim.cc
-all-back None (Some n) e = Prim.cc
-all-back None None e = refl
-
--- and then no message was late
-none-late : (late absent : Option ℕ) → Rested ≡ cause_of late absent → late ≡ None
-none-late (Some n) absent e = Prim.cc
-none-late None absent e = refl
-
 pub upkept-told : (old new : LaneValue) (answer : Upkeep) → old.under_way ≡ None → Maintains old new → (first_absent (λ n. returned n (history new.journal)) (later (length old.journal) new.journal) ≡ None → HasOpened new.journal) → (IsUndisturbed new.given old.journal new.journal → IsLaneAtRest new) → (answer ≡ NoMemory) ⊎ IsCause new.given (length old.journal) new.journal answer → IsUpkept old new answer
 upkept-told old new NoMemory idle m f g t = (idle, inr m)
 upkept-told old new Rested idle m f g (inl e) = Prim.cc
-upkept-told old new Rested idle m f g (inr c) = (idle, m, c, f (all-back _ _ c), g (record { unlate = none-late _ _ c; back = all-back _ _ c }))
+upkept-told old new Rested idle m f g (inr c) = (idle, m, c, f (all_back _ _ c), g (was_undisturbed _ _ _ c))
 upkept-told old new (Blocked n) idle m f g (inl e) = Prim.cc
 upkept-told old new (Blocked n) idle m f g (inr c) = (idle, m, c)
 upkept-told old new (Disturbed n) idle m f g (inl e) = Prim.cc

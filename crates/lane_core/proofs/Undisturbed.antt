@@ -25,9 +25,9 @@ use Rattle.upkeep_spans.specs.Scans.{ArePlaced}
 use Rattle.upkeep_spans.specs.declared.answers.Upkeep.{Upkeep}
 use Rattle.upkeep_spans.specs.declared.answers.Upkeep.TheVariants.{Rested, Blocked, Disturbed, Held, NoMemory}
 use Rattle.upkeep_spans.proofs.Placing.{placed}
-use Rattle.lane_values.specs.LaneValues.{LaneValue, IsLaneValue}
-use Rattle.lane_values.specs.declared.progress.UnderWay.{UnderWay}
-use Rattle.lane_values.specs.Upkept.{Maintains, IsHeldBy, IsUpkept}
+use Rattle.lane_lives.specs.LaneValues.{LaneValue, IsLaneValue}
+use Rattle.lane_lives.specs.declared.progress.UnderWay.{UnderWay}
+use Rattle.lane_lives.specs.Upkept.{Maintains, IsHeldBy, IsUpkept}
 use Rattle.lane_core.specs.Undisturbed.{IsUndisturbed}
 use Rattle.lane_core.proofs.Newest.{newest_is}
 

@@ -6,8 +6,8 @@ use Rattle.lane_journals.specs.declared.event.LaneEvent.{LaneEvent}
 use Rattle.upkeep_spans.specs.Causes.{IsCause}
 use Rattle.upkeep_spans.specs.declared.answers.Upkeep.{Upkeep}
 use Rattle.upkeep_spans.specs.declared.answers.Upkeep.TheVariants.{Rested, Blocked, Disturbed, NoMemory}
-use Rattle.lane_values.specs.LaneValues.{LaneValue}
-use Rattle.lane_values.specs.Upkept.{Maintains, IsUpkept}
+use Rattle.lane_lives.specs.LaneValues.{LaneValue}
+use Rattle.lane_lives.specs.Upkept.{Maintains, IsUpkept}
 use Rattle.lane_core.specs.Undisturbed.{IsUndisturbed}
 use Rattle.lane_lives.specs.Upkeep.{WasCalm, IsSpan}
 use Rattle.lane_lives.specs.declared.spans.UpkeepSpan.{UpkeepSpan}

@@ -17,19 +17,18 @@ use Rattle.lane_journals.specs.declared.event.LaneEvent.TheVariants as event
 use Rattle.lane_keeping.specs.LaneKeeping.{part_in, setting_of}
 use Rattle.lane_carriage.specs.Readers.{fate_of}
 use Rattle.lane_rest.specs.Rest.{IsAtRest}
-use Rattle.undisturbed_spans.specs.Undisturbed.{IsUndisturbed}
 use Rattle.lane_states.specs.declared.lane_state.LaneState.{LaneState}
 use Rattle.lane_keeping.specs.Tidings.{is_older, heard_next, last_state}
 use Rattle.lane_states.specs.LaneStates.{journal_of, part_of, IsCarriedBy, IsResting, AreResting, IsSetUp}
 use Rattle.lane_states.specs.Written.{writes_entry, AddsNoEntry}
 use Rattle.lane_lines.proofs.Entries.{adds-none, adds-one, finds-grown}
 use Rattle.upkeep_spans.specs.Spans.{IsUpkeepEvent, AreUpkeep, Nothing, More, OfUpkeep, later}
-use Rattle.upkeep_spans.specs.Causes.{is_late, first_late, first_absent}
+use Rattle.upkeep_spans.specs.Causes.{is_late, first_late, first_absent, IsUndisturbed}
 use Rattle.lane_upkeep.specs.declared.owner.Owner.{Owner}
 use Rattle.lane_upkeep.specs.Passing.{PassesOn}
 use Rattle.lane_upkeep.specs.Maintaining as maintaining
 use Rattle.lane_upkeep.specs.Maintaining.{IsBetween, AreReturned}
-use Rattle.lane_values.specs.LaneValues.{LaneValue}
+use Rattle.lane_lives.specs.LaneValues.{LaneValue}
 use Rattle.lane_core.specs.Upkeeping.{MaintainsBy, OpensBy, RestsBy}
 use Rattle.lane_core.specs.declared.work.Work.{Work}
 use Rattle.lane_core.specs.declared.work.Job.{Job}

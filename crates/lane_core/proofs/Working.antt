@@ -32,7 +32,7 @@ use Rattle.lane_journals.specs.Facts.{AllClosed}
 use Rattle.lane_core.specs.declared.work.Job.{Job}
 use Rattle.lane_core.specs.declared.work.Work.{Work}
 use Rattle.lane_states.specs.LaneStates.{journal_of, IsKept, HasRoom, AreResting, IsSetUp}
-use Rattle.lane_values.specs.LaneValues.{drawn}
+use Rattle.lane_lives.specs.LaneValues.{drawn}
 use Rattle.lane_keeping.specs.Tidings.{last_state}
 use Rattle.lane_states.specs.declared.lane_state.LaneState.{LaneState}
 use Rattle.stamps.specs.Places.{place_of}

@@ -6,13 +6,13 @@ use Rattle.messages.specs.declared.outcome.Outcome.TheVariants.{NoMemory}
 use Rattle.bucket_ids.specs.Buckets.{Low}
 use Rattle.distributor_part.specs.declared.rules.Rules.{Rules}
 use Rattle.lane_journals.specs.declared.event.LaneEvent.{LaneEvent}
-use Rattle.lane_values.specs.LaneValues.{LaneValue, under_way_of, with_run}
-use Rattle.lane_values.specs.declared.progress.UnderWay.{UnderWay}
-use Rattle.lane_values.specs.declared.progress.Progress.{Progress}
-use Rattle.lane_values.specs.declared.progress.Progress.TheVariants.{Runs, Over, Short}
-use Rattle.lane_values.specs.declared.answers.Advance.{Advance}
-use Rattle.lane_values.specs.declared.answers.Advance.TheVariants as advance
-use Rattle.line_wants.specs.Wants.{IsRun, IsCutRun, IsEnd}
+use Rattle.lane_lives.specs.LaneValues.{LaneValue, under_way_of, with_run}
+use Rattle.lane_lives.specs.declared.progress.UnderWay.{UnderWay}
+use Rattle.lane_lives.specs.declared.progress.Progress.{Progress}
+use Rattle.lane_lives.specs.declared.progress.Progress.TheVariants.{Runs, Over, Short}
+use Rattle.lane_lives.specs.declared.answers.Advance.{Advance}
+use Rattle.lane_lives.specs.declared.answers.Advance.TheVariants as advance
+use Rattle.operation_keeping.specs.Wants.{IsRun, IsCutRun, IsEnd}
 
 -- the operation went on by what it wanted
 pub record WentOn (u : UnderWay) (progress : Progress) (old new : LaneValue) : Type 0 where

@@ -12,14 +12,14 @@ use Rattle.lane_keeping.specs.LaneKeeping.{setting_of}
 use Rattle.messages.specs.declared.outcome.Outcome.{Outcome}
 use Rattle.lane_journals.specs.declared.event.LaneEvent.TheVariants.{Prepared, Closed}
 use Rattle.lane_keeping.specs.Acting.{IsActing, IsKnownRow}
-use Rattle.line_wants.specs.Wants.{Wants, Adds, IsEnd}
+use Rattle.operation_keeping.specs.Wants.{Wants, Adds, IsEnd}
 use Rattle.lane_core.specs.declared.work.Job.{Job}
 use Rattle.lane_core.specs.declared.work.Phase.{Phase}
-use Rattle.lane_values.specs.declared.progress.Progress.TheVariants.{Runs, Over}
-use Rattle.lane_values.specs.declared.progress.UnderWay.{UnderWay}
+use Rattle.lane_lives.specs.declared.progress.Progress.TheVariants.{Runs, Over}
+use Rattle.lane_lives.specs.declared.progress.UnderWay.{UnderWay}
 use Rattle.lane_states.specs.declared.lane_state.LaneState.{LaneState}
 use Rattle.lane_states.specs.LaneStates.{journal_of}
-use Rattle.lane_values.specs.LaneValues.{LaneValue, under_way_of}
+use Rattle.lane_lives.specs.LaneValues.{LaneValue, under_way_of}
 
 abbrev pub with_phase : Phase → Option Job → Option Job
 with_phase p None = None

@@ -4,10 +4,10 @@ use Rattle.cluster_states.specs.declared.cluster_state.ClusterState.{ClusterStat
 use Rattle.messages.specs.declared.outcome.Outcome.{Outcome}
 use Rattle.lane_journals.specs.declared.event.LaneEvent.{LaneEvent}
 use Rattle.lane_journals.specs.declared.event.LaneEvent.TheVariants.{Closed}
-use Rattle.lane_values.specs.LaneValues.{LaneValue, IsLaneValue, under_way_of}
-use Rattle.line_wants.specs.Wants.{IsRun}
-use Rattle.lane_values.specs.declared.progress.UnderWay.{UnderWay}
-use Rattle.lane_values.specs.declared.progress.Progress.TheVariants.{Runs}
+use Rattle.lane_lives.specs.LaneValues.{LaneValue, IsLaneValue, under_way_of}
+use Rattle.operation_keeping.specs.Wants.{IsRun}
+use Rattle.lane_lives.specs.declared.progress.UnderWay.{UnderWay}
+use Rattle.lane_lives.specs.declared.progress.Progress.TheVariants.{Runs}
 use Rattle.lane_lives.specs.Lives.{FeedLine, RunsTo, begun_at, IsCarriedOut, outcome_in}
 
 -- the lane once an operation is closed

@@ -2,17 +2,17 @@
 use Rattle.std.specs.Prelude.{◌≤◌, ◌-◌, Bool, true, false, List, Option, None, Some}
 use Rattle.carriers.specs.declared.fate.Fate.{Fate}
 use Rattle.messages.specs.declared.outcome.Outcome.{Outcome}
-use Rattle.line_wants.specs.Wants.{IsEnd}
-use Rattle.lane_values.specs.declared.answers.Advance.{Advance}
+use Rattle.operation_keeping.specs.Wants.{IsEnd}
+use Rattle.lane_lives.specs.declared.answers.Advance.{Advance}
 use Rattle.lane_core.specs.declared.work.Job.{Job}
 use Rattle.lane_core.specs.declared.work.Phase.{Phase}
 use Rattle.lane_core.specs.declared.work.Phase.TheVariants as phase
-use Rattle.lane_values.specs.declared.progress.Progress.{Progress}
-use Rattle.lane_values.specs.declared.progress.Progress.TheVariants as progress
-use Rattle.lane_values.specs.declared.progress.UnderWay.{UnderWay}
+use Rattle.lane_lives.specs.declared.progress.Progress.{Progress}
+use Rattle.lane_lives.specs.declared.progress.Progress.TheVariants as progress
+use Rattle.lane_lives.specs.declared.progress.UnderWay.{UnderWay}
 use Rattle.lane_lines.specs.declared.readying.Shortage.{Shortage}
 use Rattle.lane_core.specs.declared.work.Work.{Work}
-use Rattle.lane_values.specs.LaneValues.{LaneValue}
+use Rattle.lane_lives.specs.LaneValues.{LaneValue}
 use Rattle.lane_core.specs.Advancing.{WentOn, IsAdvance}
 use Rattle.lane_core.specs.Works.{under_way_in, value_of, OfValues}
 use Rattle.lane_core.specs.Preparations.{IsReady, MayFallShort}

@@ -6,12 +6,11 @@ use Rattle.lane_journals.specs.Meanings.{history}
 use Rattle.lane_keeping.specs.LaneKeeping.{setting_of}
 use Rattle.lane_states.specs.LaneStates.{journal_of}
 use Rattle.lane_rest.specs.Rest.{IsAtRest}
-use Rattle.undisturbed_spans.specs.Undisturbed.{IsUndisturbed}
 use Rattle.upkeep_spans.specs.Spans.{later}
-use Rattle.upkeep_spans.specs.Causes.{first_absent}
+use Rattle.upkeep_spans.specs.Causes.{first_absent, IsUndisturbed}
 use Rattle.lane_core.specs.declared.work.Work.{Work}
 use Rattle.lane_core.specs.Works.{value_of, SameValue}
-use Rattle.lane_values.specs.Upkept.{Maintains, HasOpened}
+use Rattle.lane_lives.specs.Upkept.{Maintains, HasOpened}
 
 -- the owner made a pass, whatever was planned
 abbrev pub MaintainsBy : Work → Work → List Fate → List Fate → Type 0

@@ -1,8 +1,8 @@
 //! One lane: what it keeps (`lane_states`), the operation under way, the carrier of its messages, and what a session does there.
 //!
 //! A `Work` is a `LaneState` with the operation under way: it begins one at the owner of the lane, or refuses it, and closes it.
-//! `line_wants` says what the operation of a line wants next. A `Lane` is a `Work` with the carrier of its messages;
-//! `LaneValues` of `lane_values` says what it is to its callers. `open_lane` publishes the first state there, `run_line` runs a
+//! `operation_keeping` says what the operation of a line wants next. A `Lane` is a `Work` with the carrier of its messages;
+//! `LaneValues` of `lane_lives` says what it is to its callers. `open_lane` publishes the first state there, `run_line` runs a
 //! line from its beginning to its end, and `maintain` makes a pass of upkeep: they are the deeds of `lane_lives`.
 //!
 //! ```text
@@ -12,12 +12,9 @@
 //! ```
 #![tactic(auto)]
 
-pub mod beginning;
-pub mod deeds;
 pub mod lane;
-pub mod phases;
+pub mod operations;
 pub mod work;
 
-pub use deeds::{announce, maintain, open_lane, run_line, start, stop};
-pub use lane::Lane;
+pub use lane::{Lane, announce, maintain, open_lane, run_line, start, stop};
 pub use work::Work;

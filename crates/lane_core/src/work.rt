@@ -1,5 +1,5 @@
 ghost use Rattle.std.specs.Prelude.{◌≡◌, Some, ◌<◌, ◌+◌, [], ◌∷◌, ℕ, Bool, true, false, None, IsSome, IfSome, IfOk, OnOk, OnErr, List, vec_len};
-ghost use Rattle.lane_values.specs.LaneValues.{closed_by, new_value};
+ghost use Rattle.lane_lives.specs.LaneValues.{closed_by, new_value};
 ghost use Rattle.lane_core.specs.Advancing.{IsOutcome};
 ghost use Rattle.lane_core.specs.Works.{IsWork, OfValues, IsToClosePhase, IsToClose, IsEndedBy, value_of, SameValue};
 ghost use Rattle.lane_states.specs.LaneStates.{StaysCarried, journal_of, IsCarriedBy, HasRoom, IsSetUp};

@@ -38,7 +38,7 @@ use Rattle.operation_keeping.specs.Laws.{OfPreparing, OfUnderWay}
 use Rattle.operation_keeping.specs.OperationKeeping.{WasShort, beginning_of}
 use Rattle.operation_keeping.proofs.Counting.{small, count_nodes-is}
 use Rattle.proof_basics.proofs.Tests.{not_answered}
-use Rattle.line_wants.specs.Wants.{Ends, EndsUnless, NoRoundSince, reads_short, union_short, is_round_read, is_round_apply, AfterRound, ShortWants}
+use Rattle.operation_keeping.specs.Wants.{Ends, EndsUnless, NoRoundSince, reads_short, union_short, is_round_read, is_round_apply, AfterRound, ShortWants}
 use Rattle.lane_states.specs.declared.lane_state.LaneState.{LaneState}
 use Rattle.round_keeping.specs.declared.round_run.RoundRun.{RoundRun}
 use Rattle.round_keeping.specs.declared.round_run.RoundEnd.{RoundEnd}

@@ -21,7 +21,7 @@ use Rattle.lane_journals.specs.KeptJournals.{IsLegal, IsLegalStep}
 use Rattle.lane_journals.specs.declared.event.LaneEvent.{LaneEvent}
 use Rattle.lane_journals.specs.declared.event.LaneEvent.TheVariants.{Sent, Delivered, Returned, Opened, Closed}
 use Rattle.lane_keeping.specs.LaneKeeping.{PartKeeps, setting_of}
-use Rattle.line_wants.specs.Wants.{IsRun, IsEnd}
+use Rattle.operation_keeping.specs.Wants.{IsRun, IsEnd}
 use Rattle.lane_states.specs.declared.lane_state.LaneState.{LaneState}
 use Rattle.lane_rounds.specs.declared.opening.OpeningEnd.{OpeningEnd}
 use Rattle.lane_lines.specs.declared.readying.Shortage.{Shortage}

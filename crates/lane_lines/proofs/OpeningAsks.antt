@@ -18,7 +18,7 @@ use Rattle.lane_journals.specs.declared.event.LaneEvent.TheVariants.{Delivered, 
 use Rattle.lane_keeping.specs.Replaying.{sending}
 use Rattle.lane_keeping.specs.LaneKeeping.{PartKeeps, setting_of}
 use Rattle.operation_keeping.specs.OperationKeeping.{WasShort}
-use Rattle.line_wants.specs.Wants.{IsRun, Same, More, WasAskedIn, is_ask}
+use Rattle.operation_keeping.specs.Wants.{IsRun, Same, More, WasAskedIn, is_ask}
 use Rattle.lane_states.specs.Growing.{HasHeard, IsSettled}
 use Rattle.lane_rounds.specs.Openings as openings
 use Rattle.lane_rounds.specs.Openings.{IsGone, IsAsked, Nobody}

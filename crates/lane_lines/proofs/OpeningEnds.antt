@@ -33,7 +33,7 @@ use Rattle.operation_keeping.specs.Laws.{MayLackAnswers}
 use Rattle.operation_keeping.proofs.Counting.{small}
 use Rattle.operation_keeping.proofs.Opening.{lacks-answers}
 use Rattle.operation_keeping.proofs.Preparing.{ends-opening}
-use Rattle.line_wants.specs.Wants.{IsRun, More, Adds, Ends, Want, OpeningWants, EndsUnless, is_ask, opening_short, Wants, IsEnd}
+use Rattle.operation_keeping.specs.Wants.{IsRun, More, Adds, Ends, Want, OpeningWants, EndsUnless, is_ask, opening_short, Wants, IsEnd}
 use Rattle.lane_lines.specs.OpeningRuns.{KnowsAsking, opening_shortage}
 use Rattle.lane_lines.specs.Readying.{IsToPrepare, outcome_of}
 use Rattle.proof_basics.proofs.Options.{some_same as some-same}

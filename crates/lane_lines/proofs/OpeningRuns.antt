@@ -34,7 +34,7 @@ use Rattle.lane_keeping.proofs.Owners.{acting-stays}
 use Rattle.operation_keeping.specs.OperationKeeping.{IsOfNoLine, WasShort}
 use Rattle.operation_keeping.proofs.Lines.{preparing-waits}
 use Rattle.operation_keeping.proofs.Messages.{short-on, short-cases}
-use Rattle.line_wants.specs.Wants.{WasAskedIn, is_ask}
+use Rattle.operation_keeping.specs.Wants.{WasAskedIn, is_ask}
 use Rattle.lane_states.specs.Growing.{CameShort, IsSettled}
 use Rattle.lane_rounds.specs.Openings.{IsGone}
 use Rattle.lane_lines.specs.OpeningRuns.{HasAskedJust, KnowsShort}

@@ -25,7 +25,7 @@ use Rattle.lane_journals.proofs.Basics.{sent-stays, sent-cases, rounds-grow}
 use Rattle.lane_journals.proofs.Beginnings.{lasting}
 use Rattle.lane_journals.proofs.BucketLaws.{same_bucket-refl}
 use Rattle.lane_keeping.specs.Acting.{IsActing}
-use Rattle.line_wants.specs.Wants.{NoRoundSince}
+use Rattle.operation_keeping.specs.Wants.{NoRoundSince}
 use Rattle.round_keeping.specs.declared.round_run.RoundRun.{RoundRun}
 use Rattle.round_keeping.specs.declared.round_run.RoundEnd.{RoundEnd}
 use Rattle.lane_states.specs.LaneStates.{IsResting}

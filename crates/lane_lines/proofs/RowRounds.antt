@@ -14,7 +14,7 @@ use Rattle.lane_journals.specs.Meanings.{history}
 use Rattle.lane_journals.specs.declared.event.LaneEvent.{LaneEvent}
 use Rattle.lane_keeping.specs.LaneKeeping.{part_in}
 use Rattle.lane_keeping.specs.Asking.{OthersStay}
-use Rattle.line_wants.specs.Wants.{IsRun, Same, IsCutRun}
+use Rattle.operation_keeping.specs.Wants.{IsRun, Same, IsCutRun}
 use Rattle.lane_states.specs.declared.lane_state.LaneState.{LaneState}
 use Rattle.round_keeping.specs.declared.round_run.RoundRun.{RoundRun}
 use Rattle.round_keeping.specs.declared.round_run.RoundEnd.{RoundEnd}

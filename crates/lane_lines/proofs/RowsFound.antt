@@ -8,7 +8,7 @@ use Rattle.bucket_db.specs.Rows.{Rows}
 use Rattle.distributor_part.specs.declared.rules.Rules.{Rules}
 use Rattle.lane_journals.specs.declared.event.LaneEvent.{LaneEvent}
 use Rattle.lane_keeping.specs.Asking.{OthersStay}
-use Rattle.line_wants.specs.Wants.{IsRun, IsCutRun, Same, More}
+use Rattle.operation_keeping.specs.Wants.{IsRun, IsCutRun, Same, More}
 use Rattle.lane_states.specs.declared.lane_state.LaneState.{LaneState}
 use Rattle.lane_states.specs.LaneStates.{journal_of, part_of}
 use Rattle.round_keeping.specs.RoundRuns.{NoneRuns}

@@ -24,7 +24,7 @@ use Rattle.lane_keeping.specs.Laws.{IsNoAsk}
 use Rattle.operation_keeping.specs.OperationKeeping.{HasWritten, KnowsEntry}
 use Rattle.operation_keeping.specs.Laws.{MayWriteNext}
 use Rattle.operation_keeping.proofs.Judged.{NextMessage, ARead, AStore, next-message, store-due}
-use Rattle.line_wants.specs.Wants.{Adds, BodyGives, NextGives, IsWanted, IsRun, Same, More}
+use Rattle.operation_keeping.specs.Wants.{Adds, BodyGives, NextGives, IsWanted, IsRun, Same, More}
 use Rattle.lane_states.specs.declared.lane_state.LaneState.{LaneState}
 use Rattle.lane_states.specs.LaneStates.{journal_of}
 use Rattle.lane_carriage.proofs.GivenOut.{over-all}

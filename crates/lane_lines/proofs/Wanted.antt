@@ -27,7 +27,7 @@ use Rattle.lane_keeping.specs.Acting.{IsActing, IsKnownRow}
 use Rattle.lane_keeping.specs.LaneKeeping.{PartKeeps}
 use Rattle.round_keeping.specs.RoundKeeping.{KnowsRound}
 use Rattle.operation_keeping.specs.OperationKeeping.{IsUnderWay}
-use Rattle.line_wants.specs.Wants.{Adds, Wants, NoRoundSince, RoundGives, IsRun, Same, More, IsCutRun}
+use Rattle.operation_keeping.specs.Wants.{Adds, Wants, NoRoundSince, RoundGives, IsRun, Same, More, IsCutRun}
 use Rattle.lane_carriage.specs.Carrying.{met_at}
 use Rattle.round_keeping.specs.RoundRuns.{SendsNext, IsRoundRun, Nothing, Further, IsRunning, NoneRuns, Begins, IsWholeRun, IsCutShort}
 use Rattle.lane_lines.specs.RoundLines.{IsBegunFor, IsWaitedFor}

@@ -12,7 +12,7 @@ use Rattle.op_machine.specs.Outcomes.{absent_of}
 use Rattle.lane_journals.specs.Meanings.{history}
 use Rattle.lane_journals.specs.declared.event.LaneEvent.{LaneEvent}
 use Rattle.operation_keeping.specs.OperationKeeping.{WasShort}
-use Rattle.line_wants.specs.Wants.{WasAskedIn, is_ask, IsRun}
+use Rattle.operation_keeping.specs.Wants.{WasAskedIn, is_ask, IsRun}
 use Rattle.lane_lines.specs.declared.readying.Shortage.{Shortage}
 use Rattle.lane_lines.specs.declared.readying.Shortage.TheVariants as shortage
 use Rattle.lane_lines.specs.Readying.{IsToPrepare}

@@ -19,7 +19,7 @@ use Rattle.lane_journals.specs.declared.event.LaneEvent.TheVariants.{Closed}
 use Rattle.lane_keeping.specs.LaneKeeping.{setting_of}
 use Rattle.lane_keeping.specs.Acting.{IsActing, IsKnownRow}
 use Rattle.operation_keeping.specs.OperationKeeping.{KnowsPreparing}
-use Rattle.line_wants.specs.Wants.{WasAskedIn, NoRoundSince, IsRun, IsCutRun, IsEnd}
+use Rattle.operation_keeping.specs.Wants.{WasAskedIn, NoRoundSince, IsRun, IsCutRun, IsEnd}
 use Rattle.lane_states.specs.declared.lane_state.LaneState.{LaneState}
 use Rattle.lane_lines.specs.declared.readying.Shortage.{Shortage}
 use Rattle.lane_lines.specs.declared.readying.Shortage.TheVariants as shortage

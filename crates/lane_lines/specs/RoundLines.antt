@@ -8,7 +8,7 @@ use Rattle.lane_journals.specs.Readers.{prepared}
 use Rattle.lane_journals.specs.Meanings.{history}
 use Rattle.lane_journals.specs.declared.event.LaneEvent.{LaneEvent}
 use Rattle.operation_keeping.specs.OperationKeeping.{IsUnderWay}
-use Rattle.line_wants.specs.Wants.{NoRoundSince}
+use Rattle.operation_keeping.specs.Wants.{NoRoundSince}
 use Rattle.round_keeping.specs.declared.round_run.RoundRun.{RoundRun}
 
 -- the round that begins is for the operation of a line, which isn't prepared yet and began no round of its row before

@@ -20,7 +20,7 @@ use Rattle.operation_keeping.specs.OperationKeeping.{IsUnderWay, KnowsAsked}
 use Rattle.lane_states.specs.declared.lane_state.LaneState.{LaneState}
 use Rattle.lane_states.specs.LaneStates.{journal_of}
 use Rattle.lane_keeping.specs.Tidings.{last_state}
-use Rattle.line_wants.specs.Wants.{IsAtStanding, IsRun}
+use Rattle.operation_keeping.specs.Wants.{IsAtStanding, IsRun}
 
 -- the distributor that sends the operation's messages
 abbrev pub sender_of : Standing → ℕ

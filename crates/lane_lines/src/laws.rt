@@ -5,7 +5,7 @@ ghost use Rattle.stamps.specs.declared.stamp.Stamp.{Stamp};
 ghost use Rattle.carriers.specs.declared.fate.Fate.{Fate};
 ghost use Rattle.messages.specs.declared.operation.Operation.{Operation};
 ghost use Rattle.distributor_part.specs.Steps.{BeginsRound};
-ghost use Rattle.line_wants.specs.Wants.{IsRun, IsCutRun};
+ghost use Rattle.operation_keeping.specs.Wants.{IsRun, IsCutRun};
 ghost use Rattle.round_keeping.specs.declared.round_run.RoundRun.{RoundRun};
 ghost use Rattle.round_keeping.specs.declared.round_run.RoundEnd.{RoundEnd};
 ghost use Rattle.round_keeping.specs.RoundRuns.{NoneRuns, IsRunning, IsRunBy, Begins, IsWholeRun, IsCutShort};

@@ -12,8 +12,8 @@ use Rattle.lane_journals.specs.Meanings.{history}
 use Rattle.lane_journals.specs.declared.event.LaneEvent.{LaneEvent}
 use Rattle.lane_journals.specs.declared.event.LaneEvent.TheVariants.{Published, Heard}
 use Rattle.lane_keeping.specs.Tidings.{heard_below, announced}
-use Rattle.lane_values.specs.LaneValues.{LaneValue, new_value, IsLaneValue}
-use Rattle.lane_values.specs.declared.setting.Setting.{Setting}
+use Rattle.lane_lives.specs.LaneValues.{LaneValue, new_value, IsLaneValue}
+use Rattle.lane_lives.specs.declared.setting.Setting.{Setting}
 use Rattle.lane_lives.specs.Serving.{bucket_in, IsServing}
 use Rattle.lane_lives.proofs.Told.{same_deaf}
 

@@ -12,7 +12,7 @@ use Rattle.lane_journals.specs.Meanings.{history, entry_at}
 use Rattle.lane_journals.specs.declared.event.LaneEvent.{LaneEvent}
 use Rattle.lane_journals.specs.declared.event.LaneEvent.TheVariants as event
 use Rattle.lane_journals.proofs.Basics.{or_else-some}
-use Rattle.line_wants.specs.Wants.{IsRun, Same, More, IsCutRun}
+use Rattle.operation_keeping.specs.Wants.{IsRun, Same, More, IsCutRun}
 use Rattle.lane_lives.specs.Lives.{RunsTo, outcome_in, told_events}
 use Rattle.lane_lives.proofs.Quiet.{AddsFor, wanted_adds, cut_adds}
 

@@ -18,7 +18,7 @@ use Rattle.lane_journals.specs.declared.event.LaneEvent.TheVariants as event
 use Rattle.operation_keeping.specs.OperationKeeping.{IsFresh}
 use Rattle.lane_keeping.specs.Tidings.{heard_next, announced, stopped_next, started_next}
 use Rattle.upkeep_spans.specs.Spans.{AreUpkeep}
-use Rattle.lane_values.specs.declared.setting.Setting.{Setting}
+use Rattle.lane_lives.specs.declared.setting.Setting.{Setting}
 use Rattle.lane_lives.specs.Lives.{FeedLine, IsRunAt, IsRefused, IsCarriedOut, Deed, Announces, Stops, Starts, Runs, Maintains, Does, IsMaintained, outcome_in, told_events}
 use Rattle.lane_lives.proofs.Leaving.{Leaves, leaves_to}
 use Rattle.lane_lives.proofs.Told.{some_or, heard_keeps, next_keeps, told_next}

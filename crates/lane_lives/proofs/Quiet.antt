@@ -15,7 +15,7 @@ use Rattle.messages.specs.declared.step.Step.TheVariants as step
 use Rattle.op_machine.specs.Outcomes.{Next, Asks, Finishes}
 use Rattle.lane_journals.specs.declared.event.LaneEvent.{LaneEvent}
 use Rattle.lane_journals.specs.declared.event.LaneEvent.TheVariants as event
-use Rattle.line_wants.specs.Wants.{Adds, OpeningGives, RoundGives, AfterRound, BodyGives, NextGives, UnpreparedWants, IsCarriage, IsWanted, IsCutRound}
+use Rattle.operation_keeping.specs.Wants.{Adds, OpeningGives, RoundGives, AfterRound, BodyGives, NextGives, UnpreparedWants, IsCarriage, IsWanted, IsCutRound}
 
 -- the event is none that begins or ends something, and if it is of a line, of this one
 abbrev pub AddsFor : ℕ → LaneEvent → Type 0

@@ -9,7 +9,7 @@ use Rattle.lane_journals.specs.Places.{published_states}
 use Rattle.lane_journals.specs.declared.event.LaneEvent.{LaneEvent}
 use Rattle.lane_journals.specs.declared.event.LaneEvent.TheVariants as event
 use Rattle.lane_keeping.specs.Tidings.{is_older, heard_next, heard_below, announced, stopped_next, started_next, last_state}
-use Rattle.lane_values.specs.declared.setting.Setting.{Setting}
+use Rattle.lane_lives.specs.declared.setting.Setting.{Setting}
 use Rattle.lane_lives.specs.Lives.{Deed, Announces, Stops, Starts, Runs, Maintains, states_in, newest_in, deed_events, told_events}
 
 -- ---- who hears a state

@@ -4,8 +4,8 @@ use Rattle.bucket_ids.specs.Buckets.{Low}
 use Rattle.lane_journals.specs.declared.event.LaneEvent.{LaneEvent}
 use Rattle.lane_journals.specs.declared.event.LaneEvent.TheVariants as event
 use Rattle.upkeep_spans.specs.Spans.{IsUpkeepEvent, AreUpkeep, Nothing, More}
-use Rattle.lane_values.specs.LaneValues.{LaneValue}
-use Rattle.lane_values.specs.Upkept.{Maintains}
+use Rattle.lane_lives.specs.LaneValues.{LaneValue}
+use Rattle.lane_lives.specs.Upkept.{Maintains}
 use Rattle.lane_lives.specs.Lives.{IsMaintained, MakesPass}
 use Rattle.lane_lives.specs.declared.spans.UpkeepSpan.{UpkeepSpan}
 use Rattle.lane_lives.proofs.Leaving.{Leaves, leaves_itself, leaves-trans, leaves_event}

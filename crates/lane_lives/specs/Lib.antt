@@ -3,3 +3,6 @@
 pub mod Lives
 pub mod Upkeep
 pub mod Serving
+pub mod LaneValues
+pub mod Upkept
+pub mod Settings

@@ -15,10 +15,10 @@ use Rattle.lane_journals.specs.Places.{state_in}
 use Rattle.lane_journals.specs.declared.event.LaneEvent.{LaneEvent}
 use Rattle.lane_journals.specs.declared.event.LaneEvent.TheVariants.{Published, Begun, Refused, Closed, Stopped, Started}
 use Rattle.lane_keeping.specs.Tidings.{heard_next, announced, stopped_next, started_next, last_state}
-use Rattle.lane_values.specs.LaneValues.{drawn}
+use Rattle.lane_lives.specs.LaneValues.{drawn}
 use Rattle.upkeep_spans.specs.Spans.{AreUpkeep}
-use Rattle.line_wants.specs.Wants.{IsRun, IsCutRun, IsEnd}
-use Rattle.lane_values.specs.declared.setting.Setting.{Setting}
+use Rattle.operation_keeping.specs.Wants.{IsRun, IsCutRun, IsEnd}
+use Rattle.lane_lives.specs.declared.setting.Setting.{Setting}
 use Rattle.lane_lives.specs.declared.spans.UpkeepSpan.{UpkeepSpan}
 
 -- ---- one line

@@ -3,8 +3,8 @@ use Rattle.std.specs.Prelude.{◌≡◌, ℕ, List, None}
 use Rattle.bucket_ids.specs.Buckets.{Low}
 use Rattle.carriers.specs.declared.fate.Fate.{Fate}
 use Rattle.global_ids.specs.Keys.{lane_bucket}
-use Rattle.lane_values.specs.LaneValues.{LaneValue, IsLaneValue}
-use Rattle.lane_values.specs.declared.setting.Setting.{Setting}
+use Rattle.lane_lives.specs.LaneValues.{LaneValue, IsLaneValue}
+use Rattle.lane_lives.specs.declared.setting.Setting.{Setting}
 use Rattle.lane_lives.specs.Lives.{Deed, IsLife, lines_of, AreRising}
 
 -- the lane of a number among those that the bits tell apart

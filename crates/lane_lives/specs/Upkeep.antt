@@ -15,9 +15,9 @@ use Rattle.upkeep_spans.specs.Causes.{first_late, IsCause}
 use Rattle.upkeep_spans.specs.Spans.{later}
 use Rattle.upkeep_spans.specs.declared.answers.Upkeep.TheVariants.{Rested}
 use Rattle.lane_keeping.specs.Tidings.{last_state}
-use Rattle.lane_values.specs.LaneValues.{LaneValue}
-use Rattle.lane_values.specs.Upkept.{Maintains, IsLaneAtRest}
-use Rattle.lane_values.specs.declared.setting.Setting.{Setting}
+use Rattle.lane_lives.specs.LaneValues.{LaneValue}
+use Rattle.lane_lives.specs.Upkept.{Maintains, IsLaneAtRest}
+use Rattle.lane_lives.specs.declared.setting.Setting.{Setting}
 use Rattle.lane_lives.specs.Lives.{Deed, IsLife, IsMaintained}
 use Rattle.lane_lives.specs.declared.spans.UpkeepSpan.{UpkeepSpan}
 

@@ -5,7 +5,7 @@ ghost use Rattle.bucket_ids.specs.Buckets.{Low};
 ghost use Rattle.lane_journals.specs.Places.{published_states};
 ghost use Rattle.lane_journals.specs.declared.event.LaneEvent.{LaneEvent};
 ghost use Rattle.lane_keeping.specs.Tidings.{last_state};
-ghost use Rattle.lane_values.specs.declared.setting.Setting.{Setting};
+ghost use Rattle.lane_lives.specs.declared.setting.Setting.{Setting};
 ghost use Rattle.lane_lives.specs.Lives.{Deed, IsLife, states_in, newest_in, deed_events, told_events};
 
 /// What a lane is told of states and nodes is what its journal says: the events of states and nodes are those of

@@ -16,9 +16,9 @@ use Rattle.lane_journals.specs.declared.event.LaneEvent.{LaneEvent}
 use Rattle.lane_journals.specs.declared.event.LaneEvent.TheVariants as event
 use Rattle.lane_carriage.specs.Carriage.{IsOther, IsCarried, Other}
 use Rattle.lane_completeness.specs.Completeness.{NoneStops}
-use Rattle.line_wants.specs.Wants.{IsRun, Same, More, IsCutRun}
+use Rattle.operation_keeping.specs.Wants.{IsRun, Same, More, IsCutRun}
 use Rattle.lane_keeping.specs.Tidings.{heard_next, announced, stopped_next, started_next}
-use Rattle.lane_values.specs.declared.setting.Setting.{Setting}
+use Rattle.lane_lives.specs.declared.setting.Setting.{Setting}
 use Rattle.lane_lives.specs.Lives.{FeedLine, RunsTo, begun_at, IsRunAt, IsRefused, IsCarriedOut, Deed, Announces, Stops, Starts, Runs, Maintains, Does, IsMaintained}
 use Rattle.lane_promises.proofs.CarriedBefore.{IsCarriedThen, carried_then}
 use Rattle.lane_lives.proofs.Quiet.{AddsFor, wanted_adds, cut_adds}

@@ -24,14 +24,14 @@ use Rattle.lane_journals.specs.KeptJournals.{IsLegal}
 use Rattle.lane_journals.specs.declared.event.LaneEvent.{LaneEvent}
 use Rattle.lane_journals.specs.declared.event.LaneEvent.TheVariants.{Begun, Closed}
 use Rattle.lane_keeping.specs.LaneKeeping.{setting_of}
-use Rattle.line_wants.specs.Wants.{IsRun, IsEnd}
+use Rattle.operation_keeping.specs.Wants.{IsRun, IsEnd}
 use Rattle.lane_carriage.specs.Carriage.{IsCarried, Other}
 use Rattle.lane_carriage.specs.Readers.{fate_of, is_returned, receives}
 use Rattle.lane_completeness.specs.Completeness.{AreAnswered, RunSince, NoneStops, IsUndisturbed, IsUndisturbedLine, IsDecided, EndsWell}
-use Rattle.line_wants.specs.RuleBounds.{AreRules}
+use Rattle.operation_keeping.specs.RuleBounds.{AreRules}
 use Rattle.lane_keeping.specs.Tidings.{heard_next, last_state}
-use Rattle.lane_values.specs.LaneValues.{LaneValue, drawn}
-use Rattle.lane_values.specs.declared.setting.Setting.{Setting}
+use Rattle.lane_lives.specs.LaneValues.{LaneValue, drawn}
+use Rattle.lane_lives.specs.declared.setting.Setting.{Setting}
 use Rattle.lane_lives.specs.Lives.{FeedLine, RunsTo, begun_at, IsRunAt, IsRefused, IsCarriedOut, Deed, Announces, Stops, Starts, Runs, Maintains, Does, IsLife, outcome_in}
 use Rattle.lane_promises.specs.Promises.{LacksNothing, IsAcked, IsServed, LosesNone, GoesToOwner, IsNoRefusal, IsPromised, AreServed, IsComplete}
 use Rattle.lane_promises.proofs.Before.{runs_add, legal_begun, legal_before, run_carried, begun_carried, Grown, grown_deed, carried_line}

@@ -13,7 +13,7 @@ use Rattle.lane_journals.specs.Places.{state_in}
 use Rattle.lane_journals.specs.declared.event.LaneEvent.{LaneEvent}
 use Rattle.lane_keeping.specs.Tidings.{heard_next, announced}
 use Rattle.lane_journals.proofs.Basics.{or_else-cases, only_if-some}
-use Rattle.lane_values.specs.declared.setting.Setting.{Setting}
+use Rattle.lane_lives.specs.declared.setting.Setting.{Setting}
 use Rattle.lane_lives.specs.Lives.{FeedLine, begun_at, IsRunAt, IsRefused, IsCarriedOut, Deed, Announces, Stops, Starts, Runs, Maintains, Does, IsLife, lines_of, outcome_in}
 use Rattle.lane_promises.proofs.Before.{Grown, grown_deed}
 use Rattle.lane_lives.proofs.Leaving.{leaves_to}

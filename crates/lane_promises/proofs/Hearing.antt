@@ -12,7 +12,7 @@ use Rattle.lane_journals.specs.declared.event.LaneEvent.TheVariants as event
 use Rattle.lane_keeping.specs.Acting.{IsNoHearing}
 use Rattle.lane_keeping.specs.Tidings.{is_older, heard_next, heard_below, stopped_next, started_next, last_state}
 use Rattle.upkeep_spans.specs.Spans.{IsUpkeepEvent}
-use Rattle.lane_values.specs.declared.setting.Setting.{Setting}
+use Rattle.lane_lives.specs.declared.setting.Setting.{Setting}
 use Rattle.lane_promises.specs.Hearings.{deaf_in, WasTold, HeardNewest}
 use Rattle.lane_lives.specs.Lives.{FeedLine, begun_at, IsRunAt, IsRefused, IsCarriedOut, Deed, Announces, Stops, Starts, Runs, Maintains, IsMaintained, IsLife, newest_in}
 use Rattle.lane_promises.proofs.Before.{runs_down}

@@ -9,7 +9,7 @@ use Rattle.lane_journals.specs.Readers.{Beginning, began}
 use Rattle.lane_journals.specs.Meanings.{history}
 use Rattle.lane_journals.specs.declared.event.LaneEvent.{LaneEvent}
 use Rattle.lane_journals.proofs.Basics.{or_else-some}
-use Rattle.lane_values.specs.declared.setting.Setting.{Setting}
+use Rattle.lane_lives.specs.declared.setting.Setting.{Setting}
 use Rattle.lane_lives.specs.Lives.{FeedLine, begun_at, IsRunAt, IsRefused, IsCarriedOut, Deed, Announces, Stops, Starts, Runs, Maintains, Does, outcome_in}
 use Rattle.lane_promises.specs.Promises.{IsServed}
 use Rattle.lane_lives.proofs.Leaving.{leaves_to}

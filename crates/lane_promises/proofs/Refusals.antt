@@ -9,7 +9,7 @@ use Rattle.lane_journals.specs.KeptJournals.{IsLegal}
 use Rattle.lane_journals.specs.declared.event.LaneEvent.{LaneEvent}
 use Rattle.lane_journals.specs.declared.event.LaneEvent.TheVariants.{Refused, Closed}
 use Rattle.lane_keeping.specs.LaneKeeping.{setting_of}
-use Rattle.lane_values.specs.declared.setting.Setting.{Setting}
+use Rattle.lane_lives.specs.declared.setting.Setting.{Setting}
 use Rattle.lane_lives.specs.Lives.{Deed, IsLife, lines_of, outcome_in}
 use Rattle.lane_promises.specs.Promises.{WasRefused}
 use Rattle.lane_promises.proofs.Before.{legal_tail}

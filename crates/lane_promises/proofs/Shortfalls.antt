@@ -15,11 +15,11 @@ use Rattle.lane_journals.specs.declared.event.LaneEvent.TheVariants.{Closed}
 use Rattle.lane_carriage.specs.Carriage.{IsCarried}
 use Rattle.lane_carriage.specs.Readers.{fate_of, is_returned}
 use Rattle.lane_completeness.specs.Causes.{IsMissing, IsLost, ReturnInTurn, IsRunLine}
-use Rattle.line_wants.specs.RuleBounds.{AreRules}
+use Rattle.operation_keeping.specs.RuleBounds.{AreRules}
 use Rattle.lane_keeping.specs.LaneKeeping.{setting_of}
-use Rattle.line_wants.specs.Wants.{IsEnd}
-use Rattle.lane_values.specs.LaneValues.{drawn}
-use Rattle.lane_values.specs.declared.setting.Setting.{Setting}
+use Rattle.operation_keeping.specs.Wants.{IsEnd}
+use Rattle.lane_lives.specs.LaneValues.{drawn}
+use Rattle.lane_lives.specs.declared.setting.Setting.{Setting}
 use Rattle.lane_lives.specs.Lives.{RunsTo, begun_at, Deed, IsLife, lines_of, outcome_in}
 use Rattle.lane_promises.specs.Promises.{LineFellShort}
 use Rattle.lane_promises.proofs.Before.{legal_tail}

@@ -19,9 +19,9 @@ use Rattle.lane_journals.specs.declared.event.LaneEvent.TheVariants.{Refused, Cl
 use Rattle.lane_durability.specs.Durability.{IsDurable, LaterIsNewer, ReadsAreFresh, EnoughReadsAreCurrent, SeenIsCurrent, SawNothingOlder, AnsweredBefore, CountedOnce, SearchIsCurrent}
 use Rattle.lane_carriage.specs.Readers.{fate_of, is_returned}
 use Rattle.lane_completeness.specs.Causes.{IsMissing, IsLost}
-use Rattle.lane_values.specs.LaneValues.{LaneValue}
+use Rattle.lane_lives.specs.LaneValues.{LaneValue}
 use Rattle.lane_keeping.specs.Tidings.{last_state}
-use Rattle.lane_values.specs.declared.setting.Setting.{Setting}
+use Rattle.lane_lives.specs.declared.setting.Setting.{Setting}
 use Rattle.lane_lives.specs.Lives.{FeedLine, Lines, Deed, Runs, IsLife, outcome_in}
 
 -- ---- completeness

@@ -24,9 +24,9 @@ use Rattle.pass_model.specs.Scripts.{Script}
 use Rattle.lane_rest.specs.Sets.{newest_of}
 use Rattle.pass_model.specs.Shapes.{Shape, Nothing, shape_of}
 use Rattle.lane_rest.specs.Targets.{is_target_in}
-use Rattle.undisturbed_rounds.specs.Rounding.{applied_if}
-use Rattle.undisturbed_rounds.specs.Noting.{newest_in}
-use Rattle.undisturbed_rounds.specs.Ending.{HasEnded}
+use Rattle.undisturbed_spans.specs.Rounding.{applied_if}
+use Rattle.undisturbed_spans.specs.Noting.{newest_in}
+use Rattle.undisturbed_spans.specs.Ending.{HasEnded}
 use Rattle.lane_upkeep.specs.declared.owner.Owner.{Owner}
 use Rattle.pass_machine.specs.declared.notes.RowNote.{RowNote}
 use Rattle.lane_upkeep.specs.Passing.{rows_in, HasRow}

@@ -17,8 +17,8 @@ use Rattle.lane_rest.specs.Rest.{documents}
 use Rattle.pass_model.specs.Scripts.{Script}
 use Rattle.pass_model.specs.Shapes.{Shape, Same, Over, Inside, shape_of}
 use Rattle.pass_model.specs.Shown.{lies_over, lies_inside, shape_with, shape_shown}
-use Rattle.undisturbed_rounds.specs.Noting.{newest_in}
-use Rattle.undisturbed_rounds.specs.Ending.{HasEnded}
+use Rattle.undisturbed_spans.specs.Noting.{newest_in}
+use Rattle.undisturbed_spans.specs.Ending.{HasEnded}
 use Rattle.pass_machine.specs.declared.notes.Exact.{Exact}
 use Rattle.pass_machine.specs.declared.notes.RowNote.{RowNote}
 use Rattle.lane_upkeep.specs.RoundNotes.{serial_in, IsNoteOf}

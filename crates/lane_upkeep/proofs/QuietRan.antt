@@ -25,7 +25,7 @@ use Rattle.round_keeping.specs.RoundRuns.{Begins}
 use Rattle.pass_model.specs.Rows.{Settings}
 use Rattle.pass_model.specs.Scripts.{Script}
 use Rattle.undisturbed_spans.specs.Undisturbed.{Extends}
-use Rattle.undisturbed_rounds.specs.Ending.{IsWholeRound, HasEnded}
+use Rattle.undisturbed_spans.specs.Ending.{IsWholeRound, HasEnded}
 use Rattle.lane_upkeep.specs.declared.owner.Owner.{Owner}
 use Rattle.pass_machine.specs.declared.notes.RowNote.{RowNote}
 use Rattle.lane_upkeep.specs.Passing.{IsPassing, PassesOn, HasRow}

@@ -33,7 +33,8 @@ use Rattle.pass_model.specs.Lanes.{seen_node}
 use Rattle.pass_model.specs.Nodes.{Node}
 use Rattle.pass_model.specs.Scripts.{Script}
 use Rattle.pass_model.specs.Found.{settings_of}
-use Rattle.undisturbed_spans.specs.Undisturbed.{IsUndisturbed, GoesUndisturbed}
+use Rattle.upkeep_spans.specs.Causes.{IsUndisturbed}
+use Rattle.undisturbed_spans.specs.Undisturbed.{GoesUndisturbed}
 use Rattle.upkeep_spans.specs.Spans.{AreUpkeep}
 use Rattle.lane_upkeep.specs.declared.owner.Owner.{Owner}
 use Rattle.pass_machine.specs.declared.notes.RowNote.{RowNote}

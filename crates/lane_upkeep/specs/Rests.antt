@@ -6,7 +6,7 @@ use Rattle.lane_keeping.specs.LaneKeeping.{setting_of}
 use Rattle.lane_states.specs.declared.lane_state.LaneState.{LaneState}
 use Rattle.lane_states.specs.LaneStates.{journal_of, IsSetUp}
 use Rattle.lane_rest.specs.Rest.{IsAtRest}
-use Rattle.undisturbed_spans.specs.Undisturbed.{IsUndisturbed}
+use Rattle.upkeep_spans.specs.Causes.{IsUndisturbed}
 use Rattle.lane_upkeep.specs.declared.owner.Owner.{Owner}
 use Rattle.lane_upkeep.specs.Passing.{IsPassing, PassesOn, rows_in}
 use Rattle.lane_upkeep.specs.Quiet.{DoesQuietly, PassesQuietly}

@@ -28,7 +28,7 @@ use pass_model::shown_rows::targets_are_of_the_list;
 use pieces::Piece;
 use round_keeping::RoundRun;
 use std::alloc::Global;
-use undisturbed_rounds::ending::undisturbed_rounds_end;
+use undisturbed_spans::ending::undisturbed_rounds_end;
 use upkeep_spans::laws::{upkeep_goes_on, upkeep_leaves_lines, upkeep_leaves_states};
 use value_lists::NoMemory;
 

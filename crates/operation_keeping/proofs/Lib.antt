@@ -7,6 +7,8 @@ pub mod Ending
 pub mod Preparing
 pub mod Opening
 pub mod Waiting
+pub mod Sizes
+pub mod Receivers
 -- Of this crate alone.
 mod Plain
 mod Sending
@@ -14,3 +16,4 @@ mod Hearing
 mod Told
 mod Agreeing
 mod Left
+mod Falling

@@ -3,3 +3,6 @@
 pub mod OperationKeeping
 pub mod Laws
 pub mod Left
+pub mod RuleBounds
+pub mod Wants
+pub mod Shortages

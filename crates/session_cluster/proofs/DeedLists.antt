@@ -9,12 +9,12 @@ use Rattle.cluster_states.specs.declared.states.PublishFault.{PublishFault}
 use Rattle.messages.specs.declared.operation.Operation.{Operation}
 use Rattle.lane_keeping.specs.Tidings.{stopped_next, started_next}
 use Rattle.lane_journals.specs.declared.event.LaneEvent.TheVariants.{Published}
-use Rattle.lane_values.specs.declared.setting.Setting.{Setting}
+use Rattle.lane_lives.specs.declared.setting.Setting.{Setting}
 use Rattle.lane_lives.specs.Lives.{Deed, Runs, Maintains, lines_of, last_line, states_in, deed_events}
 use Rattle.session_cluster.specs.Deeds.{first_told, told_with, told_next, told_by, told_of, with_operation, with_state, with_line, with_lines, deeds_of_lane, planned_next, planned_for}
 use Rattle.session_cluster.specs.Lanes.{lane_of_id}
 use Rattle.session_cluster.specs.Spans.{spans_of, span_in}
-use Rattle.session_cluster.specs.declared.spans.LineSpans.{LineSpans}
+use Rattle.session_cluster.specs.declared.cluster.LineSpans.{LineSpans}
 use Rattle.session_cluster.specs.declared.asked.Asked.{Asked}
 use Rattle.session_cluster.specs.declared.asked.Asked.TheVariants as command
 

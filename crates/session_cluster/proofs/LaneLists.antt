@@ -4,7 +4,7 @@ use Rattle.std.proofs.lemmas.List.{get_or_past, map-set, length-map}
 use Rattle.std.proofs.lemmas.Nat.{mod_below, pow_pos}
 use Rattle.global_ids.specs.Keys.{key_of, lane_of}
 use Rattle.lane_journals.specs.KeptJournals.{past}
-use Rattle.lane_values.specs.LaneValues.{LaneValue}
+use Rattle.lane_lives.specs.LaneValues.{LaneValue}
 use Rattle.session_cluster.specs.Lanes.{Journal, lane_of_id, journal_in}
 
 pub lane_small : (bits : ℕ) (id : List ℕ) → lane_of_id bits id < 2 ^ bits

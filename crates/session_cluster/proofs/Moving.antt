@@ -11,8 +11,8 @@ use Rattle.messages.specs.declared.operation.Operation.{Operation}
 use Rattle.messages.specs.declared.outcome.Outcome.{Outcome}
 use Rattle.bucket_ids.specs.Buckets.{Low}
 use Rattle.distributor_part.specs.declared.rules.Rules.{Rules}
-use Rattle.lane_values.specs.LaneValues.{LaneValue}
-use Rattle.lane_values.specs.declared.setting.Setting.{Setting}
+use Rattle.lane_lives.specs.LaneValues.{LaneValue}
+use Rattle.lane_lives.specs.declared.setting.Setting.{Setting}
 use Rattle.lane_lives.specs.Lives.{FeedLine, Announces, Stops, Starts, Runs, Maintains, IsCarriedOut, outcome_in}
 use Rattle.lane_lives.specs.Serving.{bucket_in}
 use Rattle.lane_lives.proofs.OneLine.{IsLine, deed_is}

@@ -1,7 +1,7 @@
 -- Upkeep in one lane after the other.
 use Rattle.std.proofs.Common.{◌≡◌, ◌⊎◌, ◌<◌, ◌≤◌, ◌+◌, ℕ, zero, suc, List, [], ◌∷◌, ◌++◌, None, Some, inl, inr, refl, sym, ap, ◌∙◌, subst, arith, length, length-append, length-set, set, slice_get, slice_index_or, Result, OnOk}
 use Rattle.value_lists.specs.declared.no_memory.NoMemory.{NoMemory}
-use Rattle.lane_values.specs.LaneValues.{LaneValue, IsLaneValue}
+use Rattle.lane_lives.specs.LaneValues.{LaneValue, IsLaneValue}
 use Rattle.lane_lives.specs.Upkeep.{MayBeUpkept, IsSpan}
 use Rattle.lane_lives.specs.declared.spans.UpkeepSpan.{UpkeepSpan}
 use Rattle.session_cluster.specs.Cells.{Cell}

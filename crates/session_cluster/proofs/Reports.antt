@@ -3,7 +3,7 @@ use Rattle.std.proofs.Common.{◌≡◌, ℕ, Option, sym, ap, ◌∙◌}
 use Rattle.messages.specs.declared.operation.Operation.{Operation}
 use Rattle.messages.specs.declared.outcome.Outcome.{Outcome}
 use Rattle.reports.specs.declared.answer.Answer.{Answer}
-use Rattle.lane_values.specs.declared.setting.Setting.{Setting}
+use Rattle.lane_lives.specs.declared.setting.Setting.{Setting}
 use Rattle.session_cluster.specs.Cells.{Cell, journals_of}
 use Rattle.session_cluster.specs.Lanes.{lane_of_id, journal_in}
 use Rattle.session_cluster.specs.Output.{outcome_answer, entry_of, closed_answer, operation_answer}

@@ -9,8 +9,8 @@ use Rattle.cluster_states.specs.declared.cluster_state.ClusterState.{ClusterStat
 use Rattle.cluster_states.specs.declared.states.PublishFault.{PublishFault}
 use Rattle.messages.specs.declared.operation.Operation.{Operation}
 use Rattle.messages.specs.declared.outcome.Outcome.{Outcome}
-use Rattle.lane_values.specs.LaneValues.{LaneValue, IsLaneValue}
-use Rattle.lane_values.specs.declared.setting.Setting.{Setting}
+use Rattle.lane_lives.specs.LaneValues.{LaneValue, IsLaneValue}
+use Rattle.lane_lives.specs.declared.setting.Setting.{Setting}
 use Rattle.lane_lives.specs.Lives.{Deed, Announces, Stops, Starts, Runs, Maintains, lines_of, last_line}
 use Rattle.lane_lives.specs.Serving.{IsServing}
 use Rattle.lane_core.proofs.Served.{serves_run, serves_announced, serves_stopped, serves_started, serves_room, serves_planned, serves_upkept, serves_spanned}
@@ -24,7 +24,7 @@ use Rattle.session_cluster.specs.Spans.{spans_of, span_in}
 use Rattle.session_cluster.specs.Steps.{with_room, without_room, after_state, after_stop, after_start, IsOperatedIn, IsDoneInEach, IsPublished, IsStateTold, IsPlannedIn, MayHavePassed, MayHaveAllPassed, HasSpans, IsMaintained, IsAfter}
 use Rattle.session_cluster.specs.declared.asked.Asked.{Asked}
 use Rattle.session_cluster.specs.declared.asked.Asked.TheVariants as command
-use Rattle.session_cluster.specs.declared.spans.LineSpans.{LineSpans}
+use Rattle.session_cluster.specs.declared.cluster.LineSpans.{LineSpans}
 use Rattle.lane_lives.specs.declared.spans.UpkeepSpan.{UpkeepSpan}
 use Rattle.session_cluster.proofs.DeedLists.{told_push, deeds_push, deeds_same, planned_push, with_own, with_other, plan_own, plan_other, lines_low}
 use Rattle.session_cluster.proofs.Elements.{element_set, element_map, element_seen}

@@ -6,7 +6,7 @@ use Rattle.std.specs.List.{find}
 use Rattle.std.proofs.lemmas.List.Sums.{count_by-le-length}
 use Rattle.upkeep_spans.specs.declared.answers.Upkeep.{Upkeep}
 use Rattle.session_cluster.specs.Spans.{is_of, spans_of, count_of}
-use Rattle.session_cluster.specs.declared.spans.LineSpans.{LineSpans}
+use Rattle.session_cluster.specs.declared.cluster.LineSpans.{LineSpans}
 
 same_number : (a b : ℕ) → a ≡ b → (a == b) ≡ true
 same_number a b h = grind (arith, nat_tests)

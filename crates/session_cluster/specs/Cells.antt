@@ -4,10 +4,10 @@ use Rattle.std.specs.Coded.{Coded, code_by, coded×, coded_ℕ, coded_list}
 use Rattle.cluster_states.specs.Publishing.{Told}
 use Rattle.cluster_states.specs.declared.cluster_state.ClusterState.{ClusterState}
 use Rattle.cluster_states.specs.contracts.cluster_state.ClusterState as states
-use Rattle.lane_values.specs.LaneValues.{LaneValue, lane_code}
+use Rattle.lane_lives.specs.LaneValues.{LaneValue, lane_code}
 use Rattle.lane_journals.specs.declared.event.LaneEvent.{LaneEvent}
-use Rattle.session_cluster.specs.declared.spans.LineSpans.{LineSpans}
-use Rattle.session_cluster.specs.contracts.spans.LineSpans as line_spans
+use Rattle.session_cluster.specs.declared.cluster.LineSpans.{LineSpans}
+use Rattle.session_cluster.specs.contracts.cluster.LineSpans as line_spans
 
 -- how many low bits of a key tell the lanes apart; the states that were published, and how many acknowledgements a
 -- write needs; what each lane is; how many lines were dealt with; and how the upkeep went that lines asked for

@@ -6,11 +6,11 @@ use Rattle.cluster_states.specs.Publishing.{Told, publish_fault}
 use Rattle.cluster_states.specs.declared.cluster_state.ClusterState.{ClusterState}
 use Rattle.cluster_states.specs.declared.states.PublishFault.{PublishFault}
 use Rattle.messages.specs.declared.operation.Operation.{Operation}
-use Rattle.lane_values.specs.declared.setting.Setting.{Setting}
+use Rattle.lane_lives.specs.declared.setting.Setting.{Setting}
 use Rattle.lane_lives.specs.Lives.{Deed, Announces, Stops, Starts, Runs, Maintains}
 use Rattle.session_cluster.specs.Lanes.{lane_of_id}
 use Rattle.session_cluster.specs.Spans.{span_in}
-use Rattle.session_cluster.specs.declared.spans.LineSpans.{LineSpans}
+use Rattle.session_cluster.specs.declared.cluster.LineSpans.{LineSpans}
 use Rattle.session_cluster.specs.declared.asked.Asked.{Asked}
 use Rattle.session_cluster.specs.declared.asked.Asked.TheVariants as command
 

@@ -1,9 +1,9 @@
 -- What holds of the lanes between two lines.
 use Rattle.std.specs.Prelude.{◌≡◌, ◌<◌, ℕ, ◌+◌, List, [], length, None, Some, slice_get}
 use Rattle.carriers.specs.declared.fate.Fate.{Fate}
-use Rattle.lane_values.specs.LaneValues.{LaneValue}
-use Rattle.lane_values.specs.Settings.{lane_count, IsSetting}
-use Rattle.lane_values.specs.declared.setting.Setting.{Setting}
+use Rattle.lane_lives.specs.LaneValues.{LaneValue}
+use Rattle.lane_lives.specs.Settings.{lane_count, IsSetting}
+use Rattle.lane_lives.specs.declared.setting.Setting.{Setting}
 use Rattle.lane_lives.specs.Serving.{IsServing}
 use Rattle.session_cluster.specs.Cells.{Cell}
 use Rattle.session_cluster.specs.Deeds.{told_of, deeds_of_lane, planned_for}

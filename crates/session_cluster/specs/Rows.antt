@@ -7,7 +7,7 @@ use Rattle.cluster_states.specs.declared.cluster_state.ClusterState.{ClusterStat
 use Rattle.cluster_states.specs.declared.marks.Mark.TheVariants.{Down}
 use Rattle.global_ids.specs.Keys.{lane_bucket}
 use Rattle.ideal_nodes.specs.Placement.{IsOwner}
-use Rattle.lane_values.specs.LaneValues.{LaneValue}
+use Rattle.lane_lives.specs.LaneValues.{LaneValue}
 use Rattle.lane_keeping.specs.Shown.{HasRows}
 use Rattle.lane_journals.specs.Meanings.{history}
 use Rattle.lane_journals.specs.Readers.{held}

@@ -4,7 +4,7 @@ use Rattle.std.specs.List.{count_by}
 use Rattle.upkeep_spans.specs.declared.answers.Upkeep.{Upkeep}
 use Rattle.upkeep_spans.specs.declared.answers.Upkeep.TheVariants.{Rested, Blocked, Disturbed}
 use Rattle.lane_lives.specs.declared.spans.UpkeepSpan.{UpkeepSpan}
-use Rattle.session_cluster.specs.declared.spans.LineSpans.{LineSpans}
+use Rattle.session_cluster.specs.declared.cluster.LineSpans.{LineSpans}
 
 -- it was noted of this line
 abbrev pub is_of : ℕ → LineSpans → Bool

@@ -14,10 +14,10 @@ use Rattle.lane_journals.specs.Places.{told}
 use Rattle.lane_journals.specs.Readers.{held}
 use Rattle.lane_keeping.specs.LaneKeeping.{setting_of}
 use Rattle.lane_keeping.specs.Tidings.{announced, stopped_next, started_next, last_state}
-use Rattle.lane_values.specs.LaneValues.{LaneValue, IsLaneValue}
-use Rattle.lane_values.specs.Upkept.{Maintains}
+use Rattle.lane_lives.specs.LaneValues.{LaneValue, IsLaneValue}
+use Rattle.lane_lives.specs.Upkept.{Maintains}
 use Rattle.operation_keeping.specs.OperationKeeping.{IsFresh}
-use Rattle.lane_values.specs.declared.setting.Setting.{Setting}
+use Rattle.lane_lives.specs.declared.setting.Setting.{Setting}
 use Rattle.lane_core.specs.Runs.{IsLineRun}
 use Rattle.lane_lives.specs.Upkeep.{IsSpan}
 use Rattle.lane_lives.specs.declared.spans.UpkeepSpan.{UpkeepSpan}

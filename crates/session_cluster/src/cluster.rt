@@ -1,31 +1,37 @@
-ghost use Rattle.std.specs.Prelude.{◌≡◌, ◌==◌, ◌<◌, ◌≤◌, ◌^◌, [], Some, length, option_map, IsTrue, slice_get};
+ghost use Rattle.std.specs.Prelude.{◌≡◌, ◌==◌, ◌<◌, ◌≤◌, ◌^◌, [], Some, length, option_map, IsTrue, slice_get, IfOk, OnOk, OnErr, map, ◌⊎◌, ◌∷◌, ◌++◌, None};
 ghost use Rattle.std.specs.Option.{option_copied};
 ghost use Rattle.cluster_states.specs.Publishing.{newest_of};
 ghost use Rattle.lane_journals.specs.KeptJournals.{past};
 ghost use Rattle.lane_journals.specs.Meanings.{entry_at};
-ghost use Rattle.lane_values.specs.Settings.{IsSetting, lane_count};
+ghost use Rattle.lane_lives.specs.Settings.{IsSetting, lane_count};
 ghost use Rattle.session_cluster.specs.Cells.{is_empty, journals_of};
 ghost use Rattle.session_cluster.specs.Deeds.{first_told};
 ghost use Rattle.session_cluster.specs.Lanes.{journal_in};
 ghost use Rattle.session_cluster.specs.Rows.{ShowsRows, ShowsRowsUnder, AreRowsAt};
 ghost use Rattle.session_cluster.specs.Sizes.{HasSize};
-ghost use Rattle.session_cluster.specs.Spans.{is_of, spans_of};
+ghost use Rattle.session_cluster.specs.Spans.{is_of, spans_of, is_rested, is_blocked, is_disturbed, count_of};
 ghost use Rattle.std.specs.List.{find};
+ghost use Rattle.session_cluster.specs.Keeping.{AreOpen, IsKept};
+ghost use Rattle.lane_lives.specs.LaneValues.{IsLaneValue};
+ghost use Rattle.session_cluster.specs.Steps.{with_room, without_room, after_state, after_stop, after_start, EachLane, IsRoomy, MayAnnounce, MayMaintain, MayHaveAllPassed, AreSpans, HasSpans, IsMaintained};
+ghost use Rattle.session_cluster.specs.Output.{upkeep_answer};
 
-use crate::spans::LineSpans;
 use bucket_db::Row;
 use bucket_ids::Bucket;
-use carriers::Carrier;
+use carriers::{Carrier, Carriers};
 use cluster_states::{ClusterState, States};
 use documents::Entry;
 use ideal_nodes::owner;
-use lane_core::Lane;
+use lane_core::{Lane, announce, maintain, open_lane, start, stop};
 use lane_journals::LaneEvent;
-use lane_lives::UpkeepSpan;
-use lane_values::Setting;
+use lane_lives::{Setting, UpkeepSpan};
+use node_sets::NodeSet;
+use reports::Answer;
 use stamps::Stamp;
 use std::alloc::Global;
 use std::marker::Model;
+use upkeep_spans::Upkeep;
+use value_lists::{Listed, NoMemory};
 
 /// The lanes that a session leaves: none, or all of them.
 #[derive(Drop)]
@@ -214,4 +220,230 @@ fn rows_at<'a, C: Carrier + Drop>(newest: &ClusterState, owner: u8, there: &'a L
         Some(version) if version == newest.version() => there.rows(owner),
         _ => &[],
     }
+}
+
+/// Makes the lanes of a session, where its first state is published and heard by all distributors. The only
+/// error is want of memory, which leaves none.
+pub fn open_cluster<C: Carriers>(
+    alloc: Global,
+    setting: &Setting,
+    carriers: &mut C,
+    cluster: &mut Cluster<C::One>,
+) -> Result<(), NoMemory>
+    requires setting { IsSetting setting.now }
+    ensures ok { OnOk result (IsKept setting.now (C.plans carriers.old) [] cluster.new) }
+    ensures none { OnOk result (cluster.new.upkeeps ≡ []) }
+    ensures err { OnErr result (cluster.new ≡ cluster.old) }
+{
+    let lanes = open_lanes(alloc, setting, carriers)?;
+    cluster.take(setting, lanes);
+    Ok(())
+}
+
+/// All lanes that the bits tell apart.
+fn open_lanes<C: Carriers>(
+    alloc: Global,
+    setting: &Setting,
+    carriers: &mut C,
+) -> Result<Vec<Lane<C::One>>, NoMemory>
+    requires setting { IsSetting setting.now }
+    ensures { IfOk result (λ lanes. AreOpen setting.now (C.plans carriers.old) lanes.items) }
+{
+    let count = 1u8 << setting.bits;
+    let mut lanes = Vec::with_capacity(alloc, usize::from(count))?;
+    for lane in 0..count {
+        lanes.push(open_lane(alloc, lane, setting, carriers)?)?;
+    }
+    Ok(lanes)
+}
+
+/// Makes room in each lane for a state, a stop or a start. The only error is want of memory, and then there is room in
+/// some of them.
+pub fn make_room<C: Carrier + Drop>(lanes: &mut [Lane<C>]) -> Result<(), NoMemory>
+    ensures ok { OnOk result (lanes.new ≡ map with_room lanes.old) }
+    ensures err { OnErr result (map without_room lanes.new ≡ map without_room lanes.old) }
+{
+    for lane in lanes.iter_mut() {
+        lane.room()?;
+    }
+    Ok(())
+}
+
+/// Publishes a state in each lane, which all distributors hear but the deaf ones.
+pub fn announce_all<C: Carrier + Drop>(lanes: &mut [Lane<C>], state: &ClusterState, deaf: NodeSet)
+    requires { EachLane (MayAnnounce state.now) lanes.old }
+    ensures after { lanes.new ≡ map (after_state state.now deaf) lanes.old }
+    ensures holds { EachLane IsLaneValue lanes.new }
+{
+    for lane in lanes.iter_mut() {
+        announce(lane, state, deaf);
+    }
+}
+
+/// A node stops in each lane.
+pub fn stop_all<C: Carrier + Drop>(lanes: &mut [Lane<C>], node: u8)
+    requires roomy { EachLane IsRoomy lanes.old }
+    requires number { node < 32 }
+    ensures after { lanes.new ≡ map (after_stop node) lanes.old }
+    ensures holds { EachLane IsLaneValue lanes.new }
+{
+    for lane in lanes.iter_mut() {
+        stop(lane, node);
+    }
+}
+
+/// A node starts in each lane.
+pub fn start_all<C: Carrier + Drop>(lanes: &mut [Lane<C>], node: u8)
+    requires roomy { EachLane IsRoomy lanes.old }
+    requires number { node < 32 }
+    ensures after { lanes.new ≡ map (after_start node) lanes.old }
+    ensures holds { EachLane IsLaneValue lanes.new }
+{
+    for lane in lanes.iter_mut() {
+        start(lane, node);
+    }
+}
+
+/// Upkeep is made in each lane, in their order, and how it went is noted. The only error is want of memory; then the
+/// first lanes made theirs, and the next one perhaps a part of it.
+pub fn maintain_all<C: Carrier + Drop>(
+    lanes: &mut [Lane<C>],
+    spans: &mut Vec<UpkeepSpan>,
+) -> Result<(), NoMemory>
+    requires may { EachLane MayMaintain lanes.old }
+    requires none { spans.old.items ≡ [] }
+    ensures passed { MayHaveAllPassed lanes.old lanes.new }
+    ensures spans { OnOk result (AreSpans lanes.old lanes.new spans.new.items) }
+{
+    for lane in lanes.iter_mut() {
+        let span = maintain(lane)?;
+        spans.push(span)?;
+    }
+    Ok(())
+}
+
+impl<C: Carrier + Drop> Cluster<C> {
+    /// Makes upkeep in every lane, in their order, and gives the answer. After want of memory some lanes may have
+    /// made theirs, and no span is kept.
+    pub(crate) fn maintain(&mut self, alloc: Global, line: u32) -> Result<Option<Answer>, NoMemory>
+        requires may { EachLane MayMaintain self.old.lanes }
+        requires few { length self.old.lanes ≤ 64 }
+        requires new { spans_of line self.old.upkeeps ≡ None }
+        ensures ok { IfOk result (λ answer. IsMaintained line self.old self.new
+            × (answer ≡ upkeep_answer (spans_of line self.new.upkeeps))) }
+        ensures noted { OnOk result (HasSpans line self.old self.new) }
+        ensures err { OnErr result ((self.new ≡ self.old) ⊎ IsMaintained line self.old self.new) }
+    {
+        let mut spans = Vec::with_capacity(alloc, self.lanes.len())?;
+        self.maintain_lanes(line, &mut spans)?;
+        let answer = answer_of(&spans);
+        self.note(line, spans)?;
+        Ok(Some(answer))
+    }
+
+    /// Makes upkeep in every lane, and deals with the line by that.
+    fn maintain_lanes(&mut self, line: u32, spans: &mut Vec<UpkeepSpan>) -> Result<(), NoMemory>
+        requires may { EachLane MayMaintain self.old.lanes }
+        requires none { spans.old.items ≡ [] }
+        ensures now { self.new ≡ record self.old { lanes = self.new.lanes; dealt = line } }
+        ensures passed { MayHaveAllPassed self.old.lanes self.new.lanes }
+        ensures spans { OnOk result (AreSpans self.old.lanes self.new.lanes spans.new.items) }
+    {
+        let made = maintain_all(&mut self.lanes, spans);
+        self.dealt = line;
+        made
+    }
+
+    /// Notes the spans of a line.
+    fn note(&mut self, line: u32, spans: Vec<UpkeepSpan>) -> Result<(), NoMemory>
+        ensures ok { OnOk result (self.new ≡ record self.old {
+          upkeeps = self.old.upkeeps ++ record { line = line; spans = spans.items } ∷ [];
+        }) }
+        ensures err { OnErr result (self.new ≡ self.old) }
+    {
+        let spans = SpanList::of(spans);
+        self.upkeeps.push(LineSpans { line, spans })?;
+        Ok(())
+    }
+}
+
+/// Whether upkeep went to its end.
+fn is_rested(answer: Upkeep) -> bool
+    ensures { result ≡ is_rested answer }
+{
+    match answer {
+        Upkeep::Rested => true,
+        Upkeep::Blocked { .. }
+        | Upkeep::Disturbed { .. }
+        | Upkeep::Held { .. }
+        | Upkeep::NoMemory => false,
+    }
+}
+
+/// Whether an answer was missing.
+fn is_blocked(answer: Upkeep) -> bool
+    ensures { result ≡ is_blocked answer }
+{
+    match answer {
+        Upkeep::Blocked { .. } => true,
+        Upkeep::Rested | Upkeep::Disturbed { .. } | Upkeep::Held { .. } | Upkeep::NoMemory => false,
+    }
+}
+
+/// Whether a late message came.
+fn is_disturbed(answer: Upkeep) -> bool
+    ensures { result ≡ is_disturbed answer }
+{
+    match answer {
+        Upkeep::Disturbed { .. } => true,
+        Upkeep::Rested | Upkeep::Blocked { .. } | Upkeep::Held { .. } | Upkeep::NoMemory => false,
+    }
+}
+
+/// In how many lanes upkeep went to its end.
+fn count_rested(spans: &[UpkeepSpan]) -> usize
+    ensures { result ≡ count_of is_rested spans.now }
+{
+    spans.iter().filter(|span| is_rested(span.answer)).count()
+}
+
+/// In how many lanes an answer was missing.
+fn count_blocked(spans: &[UpkeepSpan]) -> usize
+    ensures { result ≡ count_of is_blocked spans.now }
+{
+    spans.iter().filter(|span| is_blocked(span.answer)).count()
+}
+
+/// In how many lanes a late message came.
+fn count_disturbed(spans: &[UpkeepSpan]) -> usize
+    ensures { result ≡ count_of is_disturbed spans.now }
+{
+    spans
+        .iter()
+        .filter(|span| is_disturbed(span.answer))
+        .count()
+}
+
+/// The answer that these spans are.
+#[tactic(auto, using(crate::proofs::SpanLists::few_of))]
+fn answer_of(spans: &[UpkeepSpan]) -> Answer
+    requires { length spans.now ≤ 64 }
+    ensures { Some result ≡ upkeep_answer (Some spans.now) }
+{
+    Answer::Maintained {
+        lanes: spans.len() as u8,
+        rested: count_rested(spans) as u8,
+        blocked: count_blocked(spans) as u8,
+        disturbed: count_disturbed(spans) as u8,
+    }
+}
+
+/// How an upkeep went in each lane, in lane order.
+pub type SpanList = Listed<UpkeepSpan>;
+
+/// How the upkeep went that a line asked for.
+#[derive(Drop)]
+pub struct LineSpans {
+    pub line: u32,
+    pub spans: SpanList,
 }

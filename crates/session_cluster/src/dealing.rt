@@ -4,7 +4,7 @@ ghost use Rattle.std.specs.Prelude.{◌≡◌, ◌<◌, ◌≤◌, ◌^◌, ◌�
 ghost use Rattle.std.specs.Option.{option_copied};
 ghost use Rattle.cluster_states.specs.Publishing.{publish_fault};
 ghost use Rattle.global_ids.specs.Keys.{key_of, lane_of};
-ghost use Rattle.lane_values.specs.LaneValues.{LaneValue};
+ghost use Rattle.lane_lives.specs.LaneValues.{LaneValue};
 ghost use Rattle.operation_keeping.specs.OperationKeeping.{IsPlainGet};
 ghost use Rattle.messages.specs.declared.outcome.Outcome.{Outcome};
 ghost use Rattle.op_machine.specs.Plans.{IsOwn};
@@ -19,14 +19,13 @@ ghost use Rattle.session_cluster.specs.Output.{body_answer, found_answer, outcom
 ghost use Rattle.session_cluster.specs.Steps.{with_room, after_stop, after_start, EachLane, IsTelling, IsRoomy, MayAnnounce, MayRun, IsOperatedIn, IsDoneInEach, IsStateTold, IsToldRoomy, IsPlannedIn, IsSpanNoted, IsAfter};
 
 use crate::asked::Asked;
-use crate::cluster::Cluster;
-use crate::every_lane::{announce_all, make_room, start_all, stop_all};
+use crate::cluster::{Cluster, announce_all, make_room, start_all, stop_all};
 use carriers::{Carrier, FateList};
 use cluster_states::{ClusterState, PublishFault};
 use documents::Entry;
 use global_ids::{key_of, lane_of};
 use lane_core::run_line;
-use lane_values::Setting;
+use lane_lives::Setting;
 use messages::{Operation, Outcome};
 use node_sets::NodeSet;
 use reports::Answer;

@@ -15,11 +15,6 @@
 pub mod asked;
 pub mod cluster;
 mod dealing;
-mod every_lane;
-pub mod opening;
-pub mod spans;
-mod upkeep;
 
 pub use asked::Asked;
-pub use cluster::Cluster;
-pub use spans::{LineSpans, SpanList};
+pub use cluster::{Cluster, LineSpans, SpanList};

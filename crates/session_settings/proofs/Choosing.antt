@@ -13,9 +13,9 @@ use Rattle.words_line.specs.Said.{Says}
 use Rattle.words_line.specs.declared.options.Options.{Options}
 use Rattle.words_line.proofs.SaidOnce.{said_once}
 use Rattle.session_settings.specs.Choices.{is_built, rules_of, CanBegin, SaysSchema, Chooses, AreWrong}
-use Rattle.lane_values.specs.Settings.{AreRules, IsFirst, IsSetting}
+use Rattle.lane_lives.specs.Settings.{AreRules, IsFirst, IsSetting}
 use Rattle.session_settings.specs.declared.choice.Choice.{Choice}
-use Rattle.lane_values.specs.declared.setting.Setting.{Setting}
+use Rattle.lane_lives.specs.declared.setting.Setting.{Setting}
 
 same_options : (words : List Text) (c : Choice) (o : Options) → Says words o → (x : Chooses words c) → x.options ≡ o
 same_options words c o said x = said_once words x.options o x.said said

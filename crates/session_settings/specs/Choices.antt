@@ -9,7 +9,7 @@ use Rattle.doc_types.specs.SchemaCodes.{Types}
 use Rattle.json_documents.specs.Schemas.{schema_fault, schema_in}
 use Rattle.words_line.specs.Said.{Says}
 use Rattle.words_line.specs.declared.options.Options.{Options}
-use Rattle.lane_values.specs.Settings.{IsFirst}
+use Rattle.lane_lives.specs.Settings.{IsFirst}
 use Rattle.session_settings.specs.declared.choice.Choice.{Choice}
 
 -- an option that isn't built yet stands at its default

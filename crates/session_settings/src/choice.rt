@@ -7,7 +7,7 @@ use cluster_states::{ClusterState, States};
 use distributor_part::Rules;
 use doc_types::Schema;
 use json_documents::{SchemaFault, schema_from_json};
-use lane_values::setting::Setting;
+use lane_lives::setting::Setting;
 use std::alloc::Global;
 use words_line::{Options, WordsFault, read_words};
 

@@ -9,9 +9,9 @@ use Rattle.lane_journals.specs.declared.event.LaneEvent.{LaneEvent}
 use Rattle.lane_journals.specs.declared.event.LaneEvent.TheVariants.{Sent}
 use Rattle.lane_journals.proofs.Basics.{or_else-cases, only_if-some, returned-replied}
 use Rattle.upkeep_spans.specs.Spans.{later, AreUpkeep, OfUpkeep}
-use Rattle.upkeep_spans.specs.Causes.{first_absent}
+use Rattle.upkeep_spans.specs.Causes.{first_absent, IsUndisturbed}
 use Rattle.pass_model.specs.Scripts.{Script}
-use Rattle.undisturbed_spans.specs.Undisturbed.{IsUndisturbed, GoesUndisturbed}
+use Rattle.undisturbed_spans.specs.Undisturbed.{GoesUndisturbed}
 use Rattle.undisturbed_spans.proofs.Parting.{else-second, if-none}
 use Rattle.proof_basics.proofs.Tests.{not-false}
 use Rattle.undisturbed_spans.proofs.Scripts.{agrees}

@@ -11,3 +11,9 @@ mod Reading
 mod Saying
 mod Scripts
 mod Coming
+mod Rounding
+mod Uniting
+mod Noted
+mod Running
+mod Bounds
+mod Ended

@@ -11,9 +11,9 @@ use Rattle.lane_carriage.specs.Carriage.{IsCarried, is_cut_off}
 use Rattle.lane_carriage.specs.Readers.{sendings, last_sent, arrivals, receives, fate_from, fate_of, times_sent, is_returned, arrivals_of}
 use Rattle.lane_carriage.specs.Laws.{OfCarried}
 use Rattle.upkeep_spans.specs.Spans.{later, AreUpkeep, OfUpkeep}
-use Rattle.upkeep_spans.specs.Causes.{is_late, first_late, first_absent}
+use Rattle.upkeep_spans.specs.Causes.{is_late, first_late, first_absent, IsUndisturbed}
 use Rattle.pass_model.specs.Scripts.{Script, came, came_before, is_want, takings, Agrees}
-use Rattle.undisturbed_spans.specs.Undisturbed.{IsUndisturbed, GoesUndisturbed}
+use Rattle.undisturbed_spans.specs.Undisturbed.{GoesUndisturbed}
 use Rattle.proof_basics.proofs.Tests.{not-false}
 
 abbrev pub Events : Type 0

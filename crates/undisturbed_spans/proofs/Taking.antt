@@ -10,9 +10,9 @@ use Rattle.lane_carriage.specs.Carriage.{met, IsDealt, is_cut_off, IsGivenOut, A
 use Rattle.lane_carriage.specs.Readers.{receives, fate_of, is_returned}
 use Rattle.lane_carriage.specs.Laws.{OfCarried}
 use Rattle.upkeep_spans.specs.Spans.{later}
-use Rattle.upkeep_spans.specs.Causes.{is_late, first_late, first_absent}
+use Rattle.upkeep_spans.specs.Causes.{is_late, first_late, first_absent, IsUndisturbed}
 use Rattle.proof_basics.proofs.Tests.{clash, not-false}
-use Rattle.undisturbed_spans.specs.Undisturbed.{IsUndisturbed, IsTakenOnce, IsTakenTwice}
+use Rattle.undisturbed_spans.specs.Undisturbed.{IsTakenOnce, IsTakenTwice}
 use Rattle.undisturbed_spans.proofs.Parting.{Events, else-second, if-none, late-earlier, absent-earlier}
 
 -- ---- messages that are given out

@@ -3,3 +3,7 @@
 pub mod Undisturbed
 pub mod Telling
 pub mod Scripts
+pub mod Rounding
+pub mod Noting
+pub mod Running
+pub mod Ending

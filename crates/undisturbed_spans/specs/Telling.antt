@@ -25,7 +25,8 @@ use Rattle.lane_keeping.specs.Spans.{NodesGo}
 use Rattle.pass_model.specs.Nodes.{Node}
 use Rattle.pass_model.specs.Lanes.{seen_node, IsPassBody, is_taken, is_answer}
 use Rattle.pass_model.specs.Scripts.{Script, came, takings, Agrees, told_node}
-use Rattle.undisturbed_spans.specs.Undisturbed.{IsUndisturbed, GoesUndisturbed, IsTakenOnce, IsTakenTwice}
+use Rattle.upkeep_spans.specs.Causes.{IsUndisturbed}
+use Rattle.undisturbed_spans.specs.Undisturbed.{GoesUndisturbed, IsTakenOnce, IsTakenTwice}
 
 -- the nodes of a lane as nodes of a pass
 abbrev pub seen_nodes : Script → List LaneEvent → (ℕ → lane.Node) → ℕ → Node

@@ -1,23 +1,17 @@
 -- Spans of a journal in which nothing is lost or late.
-use Rattle.std.specs.Prelude.{◌≡◌, ◌++◌, ℕ, List, ◌∷◌, length, None}
+use Rattle.std.specs.Prelude.{◌≡◌, ◌++◌, ℕ, List, ◌∷◌, None}
 use Rattle.carriers.specs.declared.fate.Fate.{Fate}
 use Rattle.messages.specs.declared.message.Message.{Message}
-use Rattle.lane_journals.specs.Readers.{returned, sent, first_reply}
+use Rattle.lane_journals.specs.Readers.{sent, first_reply}
 use Rattle.lane_journals.specs.Meanings.{history}
 use Rattle.lane_journals.specs.declared.event.LaneEvent.{LaneEvent}
 use Rattle.lane_journals.specs.declared.event.LaneEvent.TheVariants.{Delivered, Returned}
 use Rattle.messages.specs.declared.noted.NotedReply.{NotedReply}
-use Rattle.upkeep_spans.specs.Spans.{later}
-use Rattle.upkeep_spans.specs.Causes.{first_late, first_absent}
+use Rattle.upkeep_spans.specs.Causes.{IsUndisturbed}
 use Rattle.pass_model.specs.Lanes.{IsPassBody}
 use Rattle.pass_model.specs.Scripts.{Script, takings, Agrees}
 
--- behind the first journal no late message was delivered, and each that was sent was returned
-pub record IsUndisturbed (given : List Fate) (J K : List LaneEvent) : Type 0 where
-  pub unlate : first_late given (later (length J) K) ≡ None
-  pub back : first_absent (λ n. returned n (history K)) (later (length J) K) ≡ None
-
--- and the script says which of them were taken twice
+-- nothing in the span is lost or late, and the script says which of its messages were taken twice
 pub record GoesUndisturbed (d : Script) (given : List Fate) (J K : List LaneEvent) : Type 0 where
   pub quiet : IsUndisturbed given J K
   pub agrees : Agrees d (history J) (history K)

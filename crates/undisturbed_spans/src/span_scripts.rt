@@ -8,7 +8,8 @@ ghost use Rattle.lane_journals.specs.KeptJournals.{IsLegal};
 ghost use Rattle.lane_journals.specs.declared.event.LaneEvent.{LaneEvent};
 ghost use Rattle.upkeep_spans.specs.Spans.{AreUpkeep};
 ghost use Rattle.pass_model.specs.Scripts.{Script, Agrees};
-ghost use Rattle.undisturbed_spans.specs.Undisturbed.{IsUndisturbed, GoesUndisturbed};
+ghost use Rattle.upkeep_spans.specs.Causes.{IsUndisturbed};
+ghost use Rattle.undisturbed_spans.specs.Undisturbed.{GoesUndisturbed};
 ghost use Rattle.undisturbed_spans.specs.Scripts.{AreDelivered};
 
 use lane_journals::laws::kept_journals_mean_legal_ones;

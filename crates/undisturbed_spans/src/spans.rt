@@ -15,7 +15,8 @@ ghost use Rattle.lane_journals.specs.Meanings.{history};
 ghost use Rattle.lane_keeping.specs.Replaying.{sending, delivered};
 ghost use Rattle.pass_model.specs.Lanes.{IsNoWant, seen_node};
 ghost use Rattle.pass_model.specs.Scripts.{Script, came, Agrees, told_body};
-ghost use Rattle.undisturbed_spans.specs.Undisturbed.{IsUndisturbed, GoesUndisturbed, IsTakenOnce, IsTakenTwice, OfTold};
+ghost use Rattle.upkeep_spans.specs.Causes.{IsUndisturbed};
+ghost use Rattle.undisturbed_spans.specs.Undisturbed.{GoesUndisturbed, IsTakenOnce, IsTakenTwice, OfTold};
 
 use lane_carriage::laws::{late_messages_fall_due, messages_are_carried};
 use pass_model::laws::messages_do_the_same;

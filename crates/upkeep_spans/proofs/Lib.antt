@@ -2,6 +2,7 @@
 pub mod Leaving
 pub mod Placing
 pub mod Seeing
+pub mod Rested
 -- Of this crate alone.
 mod Plans
 mod Kept

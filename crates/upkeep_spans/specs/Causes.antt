@@ -1,5 +1,5 @@
 -- What an upkeep comes to, by the events of its span.
-use Rattle.std.specs.Prelude.{◌≡◌, ℕ, Bool, true, false, not, List, [], ◌∷◌, Option, Some, None}
+use Rattle.std.specs.Prelude.{◌≡◌, ℕ, Bool, true, false, not, List, [], ◌∷◌, length, Option, Some, None}
 use Rattle.carriers.specs.declared.fate.Fate.{Fate}
 use Rattle.carriers.specs.declared.fate.Fate.TheVariants.{Late}
 use Rattle.lane_journals.specs.Readers.{or_else, only_if, returned}
@@ -37,3 +37,8 @@ cause_of None None = Rested
 -- the answer is what the events of the journal behind the first so many tell
 abbrev pub IsCause : List Fate → ℕ → List LaneEvent → Upkeep → Type 0
 IsCause given from J answer = answer ≡ cause_of (first_late given (later from J)) (first_absent (λ n. returned n (history J)) (later from J))
+
+-- behind the first journal no late message was delivered, and each that was sent was returned
+pub record IsUndisturbed (given : List Fate) (J K : List LaneEvent) : Type 0 where
+  pub unlate : first_late given (later (length J) K) ≡ None
+  pub back : first_absent (λ n. returned n (history K)) (later (length J) K) ≡ None

@@ -11,6 +11,8 @@ ghost use Rattle.lane_journals.specs.Facts.{Idle};
 ghost use Rattle.lane_journals.specs.declared.event.LaneEvent.{LaneEvent};
 ghost use Rattle.lane_carriage.specs.Carriage.{IsDealt, AreDelivered};
 ghost use Rattle.upkeep_spans.specs.Spans.{IsUpkeepEvent, AreUpkeep, later, earlier, OfUpkeep};
+ghost use Rattle.upkeep_spans.specs.Causes.{IsCause, IsUndisturbed};
+ghost use Rattle.upkeep_spans.specs.declared.answers.Upkeep.TheVariants.{Rested};
 
 /// An upkeep goes on event by event, and one behind another is one upkeep; what becomes of a message and the
 /// late ones that are due are such events. Its span is the events behind those that were there.
@@ -27,6 +29,14 @@ pub fn upkeep_goes_on()
     ensures span { OfUpkeep (λ J K. K ≡ later (length J) K ++ J) }
     ensures behind { (J span : List LaneEvent) → later (length J) (span ++ J) ≡ span }
     ensures before { (J span : List LaneEvent) → earlier (length J) (span ++ J) ≡ J }
+{}
+
+/// An upkeep rested exactly where nothing in its span was lost or late.
+pub fn undisturbed_spans_rest()
+    ensures rested { (given : List Fate) (J K : List LaneEvent) → IsCause given (length J) K Rested
+        → IsUndisturbed given J K }
+    ensures undisturbed { (given : List Fate) (J K : List LaneEvent) → IsUndisturbed given J K
+        → IsCause given (length J) K Rested }
 {}
 
 /// An upkeep begins, prepares, writes, refuses and closes no line, and acknowledges nothing.

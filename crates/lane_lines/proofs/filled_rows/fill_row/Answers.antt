@@ -1,6 +1,6 @@
 use Rattle.std.proofs.Common.{◌≡◌, ◌∙◌, ℕ, ap, refl, sym, subst}
 use Rattle.bucket_ids.specs.Buckets.{Low, IsIn}
-use Rattle.line_wants.specs.RuleBounds.{AreRules}
+use Rattle.operation_keeping.specs.RuleBounds.{AreRules}
 use Rattle.lane_states.specs.declared.lane_state.LaneState.{LaneState}
 use Rattle.round_keeping.specs.declared.round_run.RoundRun.{RoundRun}
 use Rattle.lane_states.specs.LaneStates.{journal_of, part_of, IsResting}

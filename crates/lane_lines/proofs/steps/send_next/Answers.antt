@@ -4,7 +4,7 @@ use Rattle.op_machine.specs.Outcomes.{Asks}
 use Rattle.op_machine.specs.Standings.{next_at}
 use Rattle.lane_states.specs.declared.lane_state.LaneState.{LaneState}
 use Rattle.lane_states.specs.LaneStates.{journal_of}
-use Rattle.line_wants.specs.Wants.{Same}
+use Rattle.operation_keeping.specs.Wants.{Same}
 use Rattle.lane_lines.specs.Steps.{SendsIn, SentIn, IsStandingTold}
 use Rattle.lane_lines.proofs.MessageKeys.{message-key}
 use Rattle.lane_lines.proofs.RunningSteps.{asks-of, run-same, going-of, wrote-in, sent-in, quiet-on, quiet-same}

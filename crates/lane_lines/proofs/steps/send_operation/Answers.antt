@@ -4,7 +4,7 @@ use Rattle.lane_keeping.specs.Replaying.{sending}
 use Rattle.lane_carriage.specs.Waits.{numbers}
 use Rattle.lane_states.specs.declared.lane_state.LaneState.{LaneState}
 use Rattle.lane_states.specs.LaneStates.{journal_of}
-use Rattle.line_wants.specs.Wants.{Same, More}
+use Rattle.operation_keeping.specs.Wants.{Same, More}
 use Rattle.lane_carriage.specs.Carrying.{met_at}
 use Rattle.lane_lines.specs.Steps.{GoesIn}
 use Rattle.lane_states.proofs.Going.{IsSentIn, went-by, went-carried}

@@ -2,7 +2,7 @@ use Rattle.std.proofs.Common.{Bool, ap, subst}
 use Rattle.lane_journals.specs.declared.event.LaneEvent.TheVariants.{Wrote}
 use Rattle.lane_states.specs.declared.lane_state.LaneState.{LaneState}
 use Rattle.lane_states.specs.LaneStates.{journal_of}
-use Rattle.line_wants.specs.Wants.{Same}
+use Rattle.operation_keeping.specs.Wants.{Same}
 use Rattle.lane_lines.specs.Steps.{StandsIn}
 use Rattle.lane_lines.proofs.RunningSteps.{unwritten, writes-on, quiet-wrote, quiet-same}
 use Rattle.lane_lines.proofs.Carrying.{carried-more}

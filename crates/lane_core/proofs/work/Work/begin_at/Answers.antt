@@ -1,5 +1,5 @@
 use Rattle.std.proofs.Common.{◌∙◌, ap}
-use Rattle.lane_values.specs.LaneValues.{LaneValue}
+use Rattle.lane_lives.specs.LaneValues.{LaneValue}
 use Rattle.lane_core.specs.Works.{begun_by}
 use Rattle.lane_core.proofs.work.Work.begin_at.Goals as goal
 

@@ -7,7 +7,7 @@ use Rattle.lane_keeping.specs.Acting.{IsActing}
 use Rattle.lane_core.specs.declared.work.Work.{Work}
 use Rattle.lane_keeping.specs.Tidings.{heard_next}
 use Rattle.lane_states.specs.LaneStates.{journal_of}
-use Rattle.lane_values.specs.LaneValues.{LaneValue}
+use Rattle.lane_lives.specs.LaneValues.{LaneValue}
 use Rattle.lane_core.specs.Works.{begun_by}
 use Rattle.lane_core.proofs.Idling.{fresh-heard}
 use Rattle.lane_core.proofs.work.Work.begin_at_owner.Goals as goal

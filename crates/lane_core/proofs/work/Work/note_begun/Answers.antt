@@ -5,7 +5,7 @@ use Rattle.lane_journals.specs.Facts.{AllClosed}
 use Rattle.operation_keeping.specs.Laws.{MayBeginNext}
 use Rattle.lane_states.specs.declared.lane_state.LaneState.{LaneState}
 use Rattle.lane_states.specs.LaneStates.{journal_of}
-use Rattle.lane_values.specs.LaneValues.{drawn}
+use Rattle.lane_lives.specs.LaneValues.{drawn}
 use Rattle.lane_core.specs.Works.{count_of, new_job, one_if, room_for}
 use Rattle.lane_lines.proofs.Carrying.{carried-more}
 use Rattle.lane_core.proofs.Working.{key-in, next-stamp, drawn-stamped, counts-begun, job-begun, work-noted}

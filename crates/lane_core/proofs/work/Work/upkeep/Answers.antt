@@ -6,7 +6,7 @@ use Rattle.lane_journals.specs.declared.event.LaneEvent.{LaneEvent}
 use Rattle.lane_keeping.specs.Tidings.{heard_next}
 use Rattle.lane_states.specs.LaneStates.{journal_of}
 use Rattle.lane_core.specs.declared.work.Work.{Work}
-use Rattle.lane_values.specs.LaneValues.{LaneValue}
+use Rattle.lane_lives.specs.LaneValues.{LaneValue}
 use Rattle.lane_core.proofs.Upkeeping.{maintains-by, opens-by, rests-by, on-any-ok, on-any-err}
 use Rattle.lane_core.proofs.work.Work.upkeep.Goals as goal
 

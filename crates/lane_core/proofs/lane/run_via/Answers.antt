@@ -1,0 +1,11 @@
+use Rattle.lane_core.proofs.LineRuns.{via_runs, at_via, refused_via}
+use Rattle.lane_core.proofs.lane.run_via.Goals as goal
+
+pub finish-outcome-requires : goal.finish-outcome-requires
+finish-outcome-requires g c = via_runs _ _ c.args.operation.now _ _ c.in-Begun.ensures
+
+pub returns-in-Refused-clause-ok : goal.returns-in-Refused-clause-ok
+returns-in-Refused-clause-ok g c = refused_via _ _ c.args.operation.now _ _ _ c.requires.fresh c.in-Refused.ensures c.journal-journal.ensures.lane
+
+pub returns-clause-ok : goal.returns-clause-ok
+returns-clause-ok g c = at_via _ _ c.args.operation.now _ _ _ _ c.requires.idle c.requires.fresh c.in-Begun.ensures c.finish-outcome.ensures c.journal-journal-2.ensures.lane

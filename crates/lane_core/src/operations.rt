@@ -1,0 +1,685 @@
+ghost use Rattle.std.specs.Prelude.{◌≡◌, ◌≤◌, ◌+◌, ◌≢◌, ℕ, None, IsSome, IfSome, IfOk, OnOk, OnErr, vec_len, vec_capacity, true, ◌<◌, ◌-◌};
+ghost use Rattle.std.specs.Ordering.{nat_cmp};
+ghost use Rattle.bucket_ids.specs.Buckets.{IsIn};
+ghost use Rattle.ideal_nodes.specs.Placement.{IsOwner};
+ghost use Rattle.op_machine.specs.Plans.{is_get, IsOwn, IsPlan, plan_of};
+ghost use Rattle.lane_journals.specs.Readers.{held, stamps_of};
+ghost use Rattle.lane_journals.specs.Meanings.{history};
+ghost use Rattle.lane_keeping.specs.Acting.{IsActing};
+ghost use Rattle.operation_keeping.specs.OperationKeeping.{IsFresh, IsPlainGet};
+ghost use Rattle.lane_states.specs.LaneStates.{journal_of, part_of, HasRoom, StaysCarried, IsCarriedBy, IsKept};
+ghost use Rattle.lane_lives.specs.LaneValues.{drawn, Begins, BeginsAtOwner, Refuses, IsBeginning};
+ghost use Rattle.lane_keeping.specs.Tidings.{last_state};
+ghost use Rattle.lane_core.specs.Works.{IsWork, OfValues, SameValue, count_of, count_after, begun_by};
+ghost use Rattle.lane_core.specs.Phases.{AdvancesBy, HasEnded, IsPhaseOf, OfPrepared, IsAtMessages, ComesTo, IsToStep};
+ghost use Rattle.lane_core.specs.Searching.{just_begun, is_begun, HasCall, spent, SearchesBy, ComesToRow, AdvancesFrom};
+ghost use Rattle.std.specs.BTreeMap as tree;
+ghost use Rattle.global_ids.specs.Keys as keys;
+ghost use Rattle.lane_journals.specs.Buckets as buckets;
+ghost use Rattle.lane_lives.specs.declared.answers.Advance.TheVariants as advance;
+ghost use Rattle.global_ids.specs.Keys.{key_of};
+ghost use Rattle.lane_lines.specs.Steps.{GoesIn, RunsIn, StandsIn, IsUneventful};
+ghost use Rattle.stamps.specs.Places.{place_of};
+ghost use Rattle.lane_states.specs.Written.{FindsEntries};
+ghost use Rattle.op_machine.specs.Standings.{IsBegun};
+ghost use Rattle.lane_core.specs.Preparations.{with_phase, IsReady, PreparesNext, MayFallShort, is_over};
+
+use crate::work::{Job, Phase, Work, put_job};
+use bucket_db::Row;
+use carriers::Carrier;
+use cluster_states::ClusterState;
+use document_ids::DocId;
+use lane_journals::LaneEvent;
+use lane_journals::active_copies::one_active_copy;
+use lane_journals::laws::kept_journals_mean_legal_ones;
+use lane_keeping::laws::owners_act;
+use lane_lines::readying::{Shortage, find_row, row_with};
+use lane_lines::steps::send_next;
+use lane_lives::answers::{Advance, Begin};
+use lane_states::known_owner::KnownOwner;
+use lane_states::lane_state::LaneState;
+use messages::{OpKind, Operation, Origin, Outcome, SharedOperation};
+use node_sets::NodeSet;
+use op_machine::OpMachine;
+use operation_keeping::laws::{
+    lines_are_refused, operations_begin, operations_end, operations_prepare, operations_shorten,
+};
+use stamps::{Stamp, StampPlaces};
+use std::alloc::Global;
+use std::collections::BTreeMap;
+use value_lists::{NoMemory, TryCopy};
+
+/// Whether an operation of this kind is a get.
+fn is_get(kind: &OpKind) -> bool
+    ensures { result ≡ is_get kind.now }
+{
+    match kind {
+        OpKind::Get => true,
+        OpKind::Put(_) | OpKind::Update(_) | OpKind::Remove => false,
+    }
+}
+
+/// A copy of the operation, which its lane and its machine share.
+fn shared_copy(alloc: Global, operation: &Operation) -> Result<SharedOperation, NoMemory>
+    ensures { IfOk result (λ copy. copy ≡ operation.now) }
+{
+    SharedOperation::new(alloc, operation.copy(alloc)?)
+}
+
+/// Begins to count the stamps of a version, if it isn't counted yet.
+fn make_count(counts: &mut BTreeMap<u32, u64>, version: u32) -> Result<(), NoMemory>
+    ensures same { (v : ℕ) → count_of counts.new v ≡ count_of counts.old v }
+    ensures there { OnOk result (IsSome (tree.get nat_cmp counts.new version)) }
+{
+    if counts.get(&version).is_none() {
+        counts.insert(version, 0)?;
+    }
+    Ok(())
+}
+
+/// Counts a stamp that is drawn, if one is.
+fn count_stamp(counts: &mut BTreeMap<u32, u64>, stamp: Option<Stamp>)
+    requires there { IfSome stamp (λ s. IsSome (tree.get nat_cmp counts.old s.version)) }
+    ensures { (v : ℕ) → count_of counts.new v ≡ count_after stamp (count_of counts.old) v }
+{
+    if let Some(stamp) = stamp {
+        match counts.insert(stamp.version, stamp.count) {
+            Ok(_) => {}
+            Err(_) => unreachable!(),
+        }
+    }
+}
+
+impl Work {
+    /// How many stamps of a version were drawn.
+    fn count(&self, version: u32) -> u64
+        requires keeps { IsWork self.now }
+        ensures { result ≡ stamps_of version (history (journal_of self.now.state)) }
+    {
+        match self.drawn.get(&version) {
+            Some(count) => *count,
+            None => 0,
+        }
+    }
+
+    /// The stamp that an operation draws under a version; a get draws none. Each stamp has an event.
+    fn next_stamp(&self, kind: &OpKind, version: u32) -> Option<Stamp>
+        requires keeps { IsWork self.now }
+        requires room { vec_len self.now.state.journal + 1 ≤ vec_capacity self.now.state.journal }
+        ensures { result ≡ drawn kind.now version (journal_of self.now.state) }
+    {
+        if is_get(kind) {
+            None
+        } else {
+            Some(Stamp {
+                version,
+                count: self.count(version) + 1,
+            })
+        }
+    }
+
+    /// Begins the operation of a line at a distributor; refused where that one doesn't own the lane under the
+    /// state that it holds. The owner may be known.
+    pub fn begin(
+        &mut self,
+        line: u32,
+        key: u64,
+        operation: &Operation,
+        via: u8,
+        known: Option<&KnownOwner>,
+    ) -> Begin
+        requires keeps { IsWork self.old }
+        requires key { key ≡ keys.key_of operation.now.id }
+        requires idle { self.old.job ≡ None }
+        requires fresh { IsFresh (history (journal_of self.old.state)) line }
+        requires holds { IsSome (held via (history (journal_of self.old.state))) }
+        requires in_lane { IsIn self.old.state.lane (buckets.key_of operation.now.id) }
+        requires own { IsOwn operation.now.id operation.now.kind }
+        requires plain { IsPlainGet operation.now }
+        ensures keeps { IsWork self.new }
+        ensures carried { StaysCarried self.old.state self.new.state }
+        ensures begins { OfValues (λ old new. IsBeginning line operation.now via old new result) self.old self.new }
+    {
+        let Some(state) = self.state.state_at(via) else {
+            unreachable!();
+        };
+        let owner = self.state.owner_by(known, &state);
+        if owner == via {
+            return match self.begin_at(line, key, operation, via, &state) {
+                Ok(()) => Begin::Begun,
+                Err(NoMemory) => Begin::NoMemory,
+            };
+        }
+        match self.refuse(line, via, owner, &state) {
+            Ok(outcome) => Begin::Refused { outcome },
+            Err(NoMemory) => Begin::NoMemory,
+        }
+    }
+
+    /// Begins it at the owner under the state that it holds.
+    fn begin_at(
+        &mut self,
+        line: u32,
+        key: u64,
+        operation: &Operation,
+        via: u8,
+        state: &ClusterState,
+    ) -> Result<(), NoMemory>
+        requires keeps { IsWork self.old }
+        requires key { key ≡ keys.key_of operation.now.id }
+        requires idle { self.old.job ≡ None }
+        requires fresh { IsFresh (history (journal_of self.old.state)) line }
+        requires holds { (part_of self.old.state via).state ≡ Some state.now }
+        requires owner { IsOwner self.old.state.lane state.now via }
+        requires in_lane { IsIn self.old.state.lane (buckets.key_of operation.now.id) }
+        requires own { IsOwn operation.now.id operation.now.kind }
+        requires plain { IsPlainGet operation.now }
+        ensures keeps { IsWork self.new }
+        ensures carried { StaysCarried self.old.state self.new.state }
+        ensures ok { OnOk result (OfValues (Begins line operation.now via) self.old self.new) }
+        ensures err { OnErr result (SameValue self.old self.new) }
+    {
+        owners_act();
+        let id = operation.id.copy(self.state.alloc)?;
+        let copy = shared_copy(self.state.alloc, operation)?;
+        self.room_to_begin(2, state.version())?;
+        self.note_begun(line, key, id, copy, via, state);
+        Ok(())
+    }
+
+    /// Begins the operation of a line at the owner under the newest state, which first hears that state. The
+    /// owner may be known.
+    pub fn begin_at_owner(
+        &mut self,
+        line: u32,
+        key: u64,
+        operation: &Operation,
+        known: Option<&KnownOwner>,
+    ) -> Result<(), NoMemory>
+        requires keeps { IsWork self.old }
+        requires key { key ≡ keys.key_of operation.now.id }
+        requires idle { self.old.job ≡ None }
+        requires fresh { IsFresh (history (journal_of self.old.state)) line }
+        requires published { IsSome (last_state (journal_of self.old.state)) }
+        requires in_lane { IsIn self.old.state.lane (buckets.key_of operation.now.id) }
+        requires own { IsOwn operation.now.id operation.now.kind }
+        requires plain { IsPlainGet operation.now }
+        ensures keeps { IsWork self.new }
+        ensures carried { StaysCarried self.old.state self.new.state }
+        ensures ok { OnOk result (OfValues (BeginsAtOwner line operation.now) self.old self.new) }
+        ensures err { OnErr result (SameValue self.old self.new) }
+    {
+        let Some(state) = self.state.newest else {
+            unreachable!();
+        };
+        let owner = self.state.owner_by(known, &state);
+        let id = operation.id.copy(self.state.alloc)?;
+        let copy = shared_copy(self.state.alloc, operation)?;
+        self.room_to_begin(3, state.version())?;
+        self.need_part(owner)?;
+        self.hear_within(owner, &state);
+        self.note_begun(line, key, id, copy, owner, &state);
+        Ok(())
+    }
+
+    /// Makes room for so many events, and for what is counted of the stamps of a version.
+    pub fn room_to_begin(&mut self, events: usize, version: u32) -> Result<(), NoMemory>
+        requires keeps { IsWork self.old }
+        requires few { events ≤ 3 }
+        ensures keeps { IsWork self.new }
+        ensures carried { StaysCarried self.old.state self.new.state }
+        ensures room { OnOk result (HasRoom events self.new.state) }
+        ensures counted { OnOk result (IsSome (tree.get nat_cmp self.new.drawn version)) }
+        ensures same { SameValue self.old self.new }
+        ensures items { self.new.state.journal.items ≡ self.old.state.journal.items }
+        ensures after { self.new ≡ record self.old {
+          state = record self.old.state { journal = self.new.state.journal };
+          drawn = self.new.drawn;
+        } }
+    {
+        self.state.journal.reserve(events + self.state.spare)?;
+        make_count(&mut self.drawn, version)
+    }
+
+    /// The operation of a line begins at the owner under the state that it holds. Room was made
+    /// for it, and for its close.
+    fn note_begun(
+        &mut self,
+        line: u32,
+        key: u64,
+        id: DocId,
+        operation: SharedOperation,
+        via: u8,
+        state: &ClusterState,
+    )
+        requires keeps { IsWork self.old }
+        requires key { key ≡ keys.key_of operation.id }
+        requires id { id ≡ operation.id }
+        requires idle { self.old.job ≡ None }
+        requires fresh { IsFresh (history (journal_of self.old.state)) line }
+        requires acting { IsActing self.old.state.lane (journal_of self.old.state) via state.now }
+        requires in_lane { IsIn self.old.state.lane (buckets.key_of operation.id) }
+        requires own { IsOwn operation.id operation.kind }
+        requires plain { IsPlainGet operation }
+        requires counted { IsSome (tree.get nat_cmp self.old.drawn state.now.version) }
+        requires room { HasRoom 2 self.old.state }
+        ensures keeps { IsWork self.new }
+        ensures carried { StaysCarried self.old.state self.new.state }
+        ensures begun { OfValues (λ old new. new ≡ begun_by line operation via state.now.version old) self.old self.new }
+    {
+        operations_begin();
+        let version = state.version();
+        let stamp = self.next_stamp(&operation.operation().kind, version);
+        count_stamp(&mut self.drawn, stamp);
+        self.state.note(LaneEvent::Begun {
+            line,
+            distributor: via,
+            version,
+            id,
+            stamp,
+        });
+        self.state.spare += 1;
+        put_job(
+            &mut self.job,
+            Job {
+                line,
+                operation,
+                key,
+                distributor: via,
+                stamp,
+                left: 65,
+                phase: Phase::Begun,
+            },
+        );
+    }
+
+    /// Refuses a line at a distributor that isn't the owner under the state that it holds.
+    fn refuse(
+        &mut self,
+        line: u32,
+        via: u8,
+        owner: u8,
+        state: &ClusterState,
+    ) -> Result<Outcome, NoMemory>
+        requires keeps { IsWork self.old }
+        requires idle { self.old.job ≡ None }
+        requires fresh { IsFresh (history (journal_of self.old.state)) line }
+        requires holds { (part_of self.old.state via).state ≡ Some state.now }
+        requires owner { IsOwner self.old.state.lane state.now owner }
+        requires other { owner ≢ via }
+        ensures keeps { IsWork self.new }
+        ensures carried { StaysCarried self.old.state self.new.state }
+        ensures ok { IfOk result (λ outcome. OfValues (Refuses line via outcome) self.old self.new) }
+        ensures err { OnErr result (SameValue self.old self.new) }
+    {
+        lines_are_refused();
+        let version = state.version();
+        self.state.journal.reserve(1 + self.state.spare)?;
+        self.state.note(LaneEvent::Refused {
+            line,
+            distributor: via,
+            outcome: Outcome::OwnedElsewhere { owner, version },
+        });
+        Ok(Outcome::OwnedElsewhere { owner, version })
+    }
+}
+
+/// Whether nothing was done of an operation since it was begun.
+fn is_begun(phase: &Phase) -> bool
+    ensures { result ≡ is_begun phase.now }
+{
+    match phase {
+        Phase::Begun => true,
+        Phase::Prepared { .. } | Phase::Over { .. } | Phase::Short => false,
+    }
+}
+
+/// Takes one call of the job, which wants memory until more is known of it.
+fn spend(place: &mut Option<Job>)
+    requires { HasCall place.old }
+    ensures { place.new ≡ spent place.old }
+{
+    let Some(job) = place else {
+        unreachable!();
+    };
+    job.left -= 1;
+    job.phase = Phase::Short;
+}
+
+impl Work {
+    /// Whether nothing was done for the operation under way since it was begun.
+    pub fn is_begun(&self) -> bool
+        ensures { result ≡ just_begun self.now.job }
+    {
+        match &self.job {
+            Some(job) => is_begun(&job.phase),
+            None => false,
+        }
+    }
+
+    /// Finds the row for the operation that was begun, or how it ends without one. The only error is want of
+    /// memory, and then the operation goes no further.
+    fn search<C: Carrier>(&mut self, carrier: &mut C) -> Result<Option<Shortage>, NoMemory>
+        requires keeps { IsWork self.old }
+        requires carried { IsCarriedBy self.old.state (C.given carrier.old) }
+        requires begun { just_begun self.old.job ≡ true }
+        ensures keeps { IsWork self.new }
+        ensures carried { IsCarriedBy self.new.state (C.given carrier.new) }
+        ensures planned { C.planned carrier.new ≡ C.planned carrier.old }
+        ensures kind { C.takes_plans carrier.new ≡ C.takes_plans carrier.old }
+        ensures searches { IfOk result
+            (λ end. SearchesBy self.old self.new (C.given carrier.old) (C.given carrier.new)) }
+        ensures comes { IfOk result (ComesToRow self.new) }
+        ensures cut { OnErr result
+            (AdvancesBy self.old self.new (C.given carrier.old) (C.given carrier.new) advance.NoMemory) }
+    {
+        owners_act();
+        let Some(job) = &self.job else {
+            unreachable!();
+        };
+        let distributor = job.distributor;
+        let key = job.key;
+        spend(&mut self.job);
+        find_row(&mut self.state, distributor, key, carrier)
+    }
+
+    /// Prepares the operation in the row that was found; where none was, it is over with the outcome of that.
+    fn come(&mut self, found: Option<Shortage>) -> Advance
+        requires keeps { IsWork self.old }
+        requires comes { ComesToRow self.old found }
+        ensures keeps { IsWork self.new }
+        ensures carried { StaysCarried self.old.state self.new.state }
+        ensures advances { AdvancesFrom self.old self.new result }
+    {
+        match found {
+            None => match self.prepare_in_row() {
+                Ok(()) => Advance::More,
+                Err(NoMemory) => Advance::NoMemory,
+            },
+            Some(shortage) => {
+                self.fall_short(shortage.outcome(), shortage.outcome());
+                Advance::Done
+            }
+        }
+    }
+
+    /// The first call of an operation that was begun: it is prepared in its row, or is over. It takes memory.
+    pub fn prepare<C: Carrier>(&mut self, carrier: &mut C) -> Advance
+        requires keeps { IsWork self.old }
+        requires carried { IsCarriedBy self.old.state (C.given carrier.old) }
+        requires begun { just_begun self.old.job ≡ true }
+        ensures keeps { IsWork self.new }
+        ensures carried { IsCarriedBy self.new.state (C.given carrier.new) }
+        ensures planned { C.planned carrier.new ≡ C.planned carrier.old }
+        ensures kind { C.takes_plans carrier.new ≡ C.takes_plans carrier.old }
+        ensures advances { AdvancesBy self.old self.new (C.given carrier.old) (C.given carrier.new) result }
+    {
+        match self.search(carrier) {
+            Ok(found) => self.come(found),
+            Err(NoMemory) => Advance::NoMemory,
+        }
+    }
+}
+
+/// The phase in which an operation is over, if its machine has an outcome.
+fn ended(alloc: Global, machine: &mut OpMachine) -> Result<Option<Phase>, NoMemory>
+    ensures ended { IfOk result (HasEnded machine.old) }
+    ensures kept { machine.new ≡ machine.old }
+{
+    let Some(outcome) = machine.outcome(alloc)? else {
+        return Ok(None);
+    };
+    let told = outcome.copy(alloc)?;
+    Ok(Some(Phase::Over {
+        outcome,
+        told,
+        answered: machine.stored(),
+    }))
+}
+
+/// Puts a phase into its place.
+fn put_phase(place: &mut Phase, phase: Phase)
+    ensures { place.new ≡ phase }
+{
+    *place = phase;
+}
+
+/// Brings the phase of an operation that is prepared to what follows from what its machine was told: it is over
+/// where the machine has an outcome.
+fn bring_on(alloc: Global, phase: &mut Phase) -> Advance
+    requires { IsAtMessages phase.old }
+    ensures { OfPrepared (λ row written machine. IsPhaseOf row written machine phase.new result) phase.old }
+{
+    let Phase::Prepared { machine, .. } = phase else {
+        unreachable!();
+    };
+    match ended(alloc, machine) {
+        Ok(None) => Advance::More,
+        Ok(Some(over)) => {
+            put_phase(phase, over);
+            Advance::Done
+        }
+        Err(NoMemory) => {
+            put_phase(phase, Phase::Short);
+            Advance::NoMemory
+        }
+    }
+}
+
+/// Sends the next message of an operation that is prepared, if one is left, and brings its phase to what
+/// follows.
+fn step_phase<C: Carrier>(
+    state: &mut LaneState,
+    line: u32,
+    key: u64,
+    phase: &mut Phase,
+    places: &mut StampPlaces,
+    carrier: &mut C,
+) -> Advance
+    requires keeps { IsKept state.old }
+    requires spare { HasRoom 0 state.old }
+    requires carried { IsCarriedBy state.old (C.given carrier.old) }
+    requires stands { OfPrepared (StandsIn state.old line) phase.old }
+    requires key { OfPrepared (λ row written machine. key ≡ key_of machine.plan.operation.id) phase.old }
+    requires finds { FindsEntries (place_of places.old) state.old.journal.items }
+    ensures keeps { IsKept state.new }
+    ensures spare { HasRoom 0 state.new }
+    ensures finds { FindsEntries (place_of places.new) state.new.journal.items }
+    ensures carried { IsCarriedBy state.new (C.given carrier.new) }
+    ensures planned { C.planned carrier.new ≡ C.planned carrier.old }
+    ensures kind { C.takes_plans carrier.new ≡ C.takes_plans carrier.old }
+    ensures quiet { IsUneventful (journal_of state.old) (journal_of state.new) }
+    ensures run { OfPrepared (λ row written machine. RunsIn state.old state.new line machine) phase.old }
+    ensures going { OfPrepared (λ row written machine. GoesIn state.new line machine.plan) phase.old }
+    ensures comes { OfPrepared (λ row written machine. ComesTo state.new line row machine phase.new result) phase.old }
+    ensures after { state.new ≡ record state.old {
+      journal = state.new.journal;
+      last = state.new.last;
+      nodes = state.new.nodes;
+      late = state.new.late;
+    } }
+{
+    operations_shorten();
+    let Phase::Prepared {
+        machine,
+        written,
+        ..
+    } = phase
+    else {
+        unreachable!();
+    };
+    match send_next(state, line, key, written, machine, places, carrier) {
+        Ok(_) => bring_on(state.alloc, phase),
+        Err(NoMemory) => {
+            put_phase(phase, Phase::Short);
+            Advance::NoMemory
+        }
+    }
+}
+
+/// One call of a job that is prepared: its next message is sent and dealt with, and its phase brought to what follows.
+fn step_job<C: Carrier>(
+    state: &mut LaneState,
+    job: &mut Job,
+    places: &mut StampPlaces,
+    carrier: &mut C,
+) -> Advance
+    requires keeps { IsKept state.old }
+    requires spare { HasRoom 0 state.old }
+    requires carried { IsCarriedBy state.old (C.given carrier.old) }
+    requires stands { OfPrepared (StandsIn state.old job.old.line) job.old.phase }
+    requires key { OfPrepared (λ row written machine. job.old.key ≡ key_of machine.plan.operation.id) job.old.phase }
+    requires left { 1 ≤ job.old.left }
+    requires finds { FindsEntries (place_of places.old) state.old.journal.items }
+    ensures keeps { IsKept state.new }
+    ensures spare { HasRoom 0 state.new }
+    ensures finds { FindsEntries (place_of places.new) state.new.journal.items }
+    ensures carried { IsCarriedBy state.new (C.given carrier.new) }
+    ensures planned { C.planned carrier.new ≡ C.planned carrier.old }
+    ensures kind { C.takes_plans carrier.new ≡ C.takes_plans carrier.old }
+    ensures quiet { IsUneventful (journal_of state.old) (journal_of state.new) }
+    ensures run { OfPrepared (λ row written machine. RunsIn state.old state.new job.old.line machine) job.old.phase }
+    ensures going { OfPrepared (λ row written machine. GoesIn state.new job.old.line machine.plan) job.old.phase }
+    ensures comes { OfPrepared (λ row written machine. ComesTo state.new job.old.line row machine job.new.phase result)
+        job.old.phase }
+    ensures job { job.new ≡ record job.old { left = job.old.left - 1; phase = job.new.phase } }
+    ensures after { state.new ≡ record state.old {
+      journal = state.new.journal;
+      last = state.new.last;
+      nodes = state.new.nodes;
+      late = state.new.late;
+    } }
+{
+    job.left -= 1;
+    step_phase(state, job.line, job.key, &mut job.phase, places, carrier)
+}
+
+impl Work {
+    /// One call of an operation that is prepared: its next message is sent and dealt with. It takes memory.
+    pub fn step<C: Carrier>(&mut self, carrier: &mut C) -> Advance
+        requires keeps { IsWork self.old }
+        requires carried { IsCarriedBy self.old.state (C.given carrier.old) }
+        requires prepared { IsToStep self.old.job }
+        ensures keeps { IsWork self.new }
+        ensures carried { IsCarriedBy self.new.state (C.given carrier.new) }
+        ensures planned { C.planned carrier.new ≡ C.planned carrier.old }
+        ensures kind { C.takes_plans carrier.new ≡ C.takes_plans carrier.old }
+        ensures advances { AdvancesBy self.old self.new (C.given carrier.old) (C.given carrier.new) result }
+    {
+        operations_end();
+        let Some(job) = &self.job else {
+            unreachable!();
+        };
+        let Phase::Prepared { .. } = &job.phase else {
+            unreachable!();
+        };
+        let Some(job) = &mut self.job else {
+            unreachable!();
+        };
+        step_job(&mut self.state, job, &mut self.places, carrier)
+    }
+}
+
+/// The machine of an operation that is prepared in a row.
+fn machine_of(
+    alloc: Global,
+    job: &Job,
+    origin: Origin,
+    row: &Row,
+    acks: u8,
+) -> Result<OpMachine, NoMemory>
+    requires key { job.now.key ≡ key_of job.now.operation.id }
+    requires plan { IsPlan (plan_of origin job.now.operation job.now.stamp row.now.complete row.now.active acks) }
+    ensures { IfOk result (IsBegun
+        (plan_of origin job.now.operation job.now.stamp row.now.complete row.now.active acks)) }
+{
+    let operation = job.operation.copy(alloc)?;
+    Ok(OpMachine::with_key(
+        job.key,
+        origin,
+        operation,
+        job.stamp,
+        row.complete,
+        row.active,
+        acks,
+    ))
+}
+
+/// Puts a job into another phase.
+pub fn set_phase(place: &mut Option<Job>, phase: Phase)
+    requires { IsSome place.old }
+    ensures { place.new ≡ with_phase phase place.old }
+{
+    let Some(job) = place else {
+        unreachable!();
+    };
+    job.phase = phase;
+}
+
+impl Work {
+    /// Prepares the operation under way in the row of its key, which has enough complete members.
+    pub fn prepare_in_row(&mut self) -> Result<(), NoMemory>
+        requires keeps { IsWork self.old }
+        requires ready { IsReady self.old.state self.old.job }
+        ensures keeps { IsWork self.new }
+        ensures carried { StaysCarried self.old.state self.new.state }
+        ensures ok { OnOk result (OfValues PreparesNext self.old self.new) }
+        ensures err { OnErr result (SameValue self.old self.new) }
+    {
+        owners_act();
+        operations_prepare();
+        operations_shorten();
+        one_active_copy();
+        kept_journals_mean_legal_ones();
+        let Some(job) = &self.job else {
+            unreachable!();
+        };
+        let Some(state) = self.state.state_at(job.distributor) else {
+            unreachable!();
+        };
+        let line = job.line;
+        let row = row_with(&self.state, job.distributor, job.key);
+        let origin = Origin {
+            version: state.version(),
+            lane: self.state.lane.low() as u8,
+            sender: job.distributor,
+        };
+        let machine = machine_of(self.state.alloc, job, origin, &row, self.state.rules.acks)?;
+        self.state.journal.reserve(1 + self.state.spare)?;
+        self.state.note(LaneEvent::Prepared {
+            line,
+            row: row.bucket,
+            recipients: row.complete,
+        });
+        set_phase(
+            &mut self.job,
+            Phase::Prepared {
+                machine,
+                row: row.bucket,
+                written: false,
+            },
+        );
+        Ok(())
+    }
+}
+
+impl Work {
+    /// The operation under way, which couldn't be prepared, is over with this outcome, which is handed over
+    /// for the journal and for the caller.
+    pub fn fall_short(&mut self, outcome: Outcome, told: Outcome)
+        requires keeps { IsWork self.old }
+        requires short { MayFallShort self.old.state self.old.job outcome told }
+        ensures keeps { IsWork self.new }
+        ensures carried { StaysCarried self.old.state self.new.state }
+        ensures over { OfValues (λ old new. new ≡ record old { under_way = is_over old.under_way }) self.old self.new }
+    {
+        set_phase(
+            &mut self.job,
+            Phase::Over {
+                outcome,
+                told,
+                answered: NodeSet::none(),
+            },
+        );
+    }
+}

@@ -1,5 +1,0 @@
--- Shared: other crates cite these.
-pub mod Sizes
-pub mod Receivers
--- Of this crate alone.
-mod Falling

@@ -1,0 +1,27 @@
+use Rattle.std.proofs.Common.{◌≡◌, true, None, subst, refl, arith}
+use Rattle.lane_lives.specs.LaneValues.{LaneValue, IsLaneValue}
+use Rattle.session_cluster.specs.Steps.{after_stop}
+use Rattle.session_cluster.proofs.Elements.{each_more, each_there, below_none, below_set, below_all}
+use Rattle.session_cluster.proofs.cluster.stop_all.Goals as goal
+
+pub loop-lane-init : goal.loop-lane-init
+loop-lane-init g c = (refl, below_none IsLaneValue _)
+
+pub stop-requires-clause-idle : goal.stop-requires-clause-idle
+stop-requires-clause-idle g c =
+    subst (λ (v : LaneValue). v.under_way ≡ None) c.lane-item.is
+    (c.requires.roomy _ _ (each_there (after_stop c.args.node) _ _ _ _ c.loop-lane-test.true c.loop-lane.invariant.0 c.lane-item.is)).idle
+
+pub stop-requires-clause-room : goal.stop-requires-clause-room
+stop-requires-clause-room g c =
+    subst (λ (v : LaneValue). v.has_room ≡ true) c.lane-item.is
+    (c.requires.roomy _ _ (each_there (after_stop c.args.node) _ _ _ _ c.loop-lane-test.true c.loop-lane.invariant.0 c.lane-item.is)).room
+
+pub loop-lane-preserved : goal.loop-lane-preserved
+loop-lane-preserved g c = (
+  each_more (after_stop c.args.node) _ _ _ _ _ c.loop-lane-test.true c.loop-lane.invariant.0 c.lane-item.is c.stop.ensures.after,
+  below_set IsLaneValue _ _ _ c.loop-lane.invariant.1 c.stop.ensures.holds,
+)
+
+pub returns-clause-holds : goal.returns-clause-holds
+returns-clause-holds g c = below_all IsLaneValue c.loop-lane.lane-index c.loop-lane.lanes c.loop-lane.invariant.1 (omega (arith, c.loop-lane-test.false, c.loop-lane.auto.lanes))

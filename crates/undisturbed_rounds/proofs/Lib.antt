@@ -1,6 +1,0 @@
-mod Rounding
-mod Uniting
-mod Noted
-mod Running
-mod Bounds
-mod Ended
