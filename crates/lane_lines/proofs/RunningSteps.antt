@@ -1,14 +1,14 @@
 -- How a journal grows by an operation that is prepared.
-use Rattle.std.proofs.Common.{◌≡◌, ◌+◌, ℕ, Bool, true, false, List, ◌∷◌, Option, Some, None, is_some, inl, inr, refl, sym, ap, ◌∙◌, subst}
+use Rattle.std.proofs.Common.{◌≡◌, ℕ, Bool, true, false, List, ◌∷◌, Option, Some, None, is_some, inl, inr, refl, sym, ap, ◌∙◌, subst}
 use Rattle.bucket_ids.specs.Buckets.{Low}
-use Rattle.carriers.specs.declared.fate.Fate.{Fate}
-use Rattle.carriers.specs.declared.fate.Fate.TheVariants as fate
 use Rattle.documents.specs.declared.entry.Entry.{Entry}
 use Rattle.messages.specs.declared.body.Body.{Body}
 use Rattle.messages.specs.declared.body.Body.TheVariants as body
 use Rattle.messages.specs.declared.message.Message.{Message}
 use Rattle.messages.specs.declared.noted.NotedReply.{NotedReply}
 use Rattle.messages.specs.declared.operation.Operation.{Operation}
+use Rattle.messages.specs.declared.reply.Reply.{Reply}
+use Rattle.service_layer.specs.Nodes.{Node}
 use Rattle.distributor_part.specs.declared.rules.Rules.{Rules}
 use Rattle.op_machine.specs.declared.plan.Plan.{Plan}
 use Rattle.op_machine.specs.declared.machine.Standing.{Standing}
@@ -17,7 +17,6 @@ use Rattle.op_machine.specs.Standings.{next_at, due_entry, IsTo}
 use Rattle.lane_journals.specs.KeptJournals.{IsLegal}
 use Rattle.lane_journals.specs.declared.event.LaneEvent.{LaneEvent}
 use Rattle.lane_journals.specs.declared.event.LaneEvent.TheVariants as event
-use Rattle.lane_carriage.specs.Carriage.{IsDealt, AreDelivered}
 use Rattle.lane_keeping.specs.Replaying.{sending}
 use Rattle.lane_keeping.specs.LaneKeeping.{setting_of}
 use Rattle.lane_keeping.specs.Laws.{IsNoAsk}
@@ -27,9 +26,10 @@ use Rattle.operation_keeping.proofs.Judged.{NextMessage, ARead, AStore, next-mes
 use Rattle.operation_keeping.specs.Wants.{Adds, BodyGives, NextGives, IsWanted, IsRun, Same, More}
 use Rattle.lane_states.specs.declared.lane_state.LaneState.{LaneState}
 use Rattle.lane_states.specs.LaneStates.{journal_of}
-use Rattle.lane_carriage.proofs.GivenOut.{over-all}
-use Rattle.lane_lines.proofs.Standing.{standing-delivered, awaiting-delivered, standing-late, standing-wrote}
-use Rattle.lane_lines.specs.Steps.{sender_of, IsGoing, IsStanding, IsAwaiting, StandsIn, AwaitsIn, RunsIn, GoesIn, WritesOn, HearsIn, SendsIn, SentIn, IsReady, IsUneventful}
+use Rattle.lane_states.specs.Exchanging.{Brought}
+use Rattle.lane_states.proofs.Exchanging.{over-brought}
+use Rattle.lane_lines.proofs.Standing.{standing-wrote}
+use Rattle.lane_lines.specs.Steps.{sender_of, IsGoing, IsStanding, StandsIn, RunsIn, GoesIn, WritesOn, SendsIn, IsReady, IsUneventful}
 
 -- ---- the next message
 
@@ -111,23 +111,7 @@ module _ (lane : Low) (rules : Rules) (J : List LaneEvent) (line : ℕ) (row : L
   wants-wrote e none is = wants (event.Wrote line e) (subst (λ (o : Option Entry). BodyGives line o m m.body (event.Wrote line e)) (sym none)
       (subst (λ (z : Body). BodyGives line None m z (event.Wrote line e)) (sym is) refl))
 
--- ---- runs
-
-module _ (lane : Low) (rules : Rules) (line : ℕ) (o : Operation) where
-  pub run-delivered : (ns : List ℕ) (I J K : List LaneEvent) → AreDelivered ns J K → IsRun lane rules line o I J → IsRun lane rules line o I K
-  run-delivered ns I J K h run = over-all (λ (X : List LaneEvent). IsRun lane rules line o I X) (λ n r X x. More (event.Delivered n r) X x (inl tt)) ns J K h run
-
-  pub run-dealt : (f : Fate) (n : ℕ) (I J K : List LaneEvent) → IsDealt f n J K → IsRun lane rules line o I J → IsRun lane rules line o I K
-  run-dealt fate.Deliver n I J K h run = subst (λ (X : List LaneEvent). IsRun lane rules line o I X) (sym h.1) (More (event.Returned n) _ (More (event.Delivered n h.0) J run (inl tt)) (inl tt))
-  run-dealt fate.LoseRequest n I J K h run = subst (λ (X : List LaneEvent). IsRun lane rules line o I X) (sym h) run
-  run-dealt fate.LoseReply n I J K h run = subst (λ (X : List LaneEvent). IsRun lane rules line o I X) (sym h.1) (More (event.Delivered n h.0) J run (inl tt))
-  run-dealt fate.Twice n I J K h run = subst (λ (X : List LaneEvent). IsRun lane rules line o I X) (sym h.2) (More (event.Delivered n h.1) _ (More (event.Returned n) _ (More (event.Delivered n h.0) J run (inl tt)) (inl tt)) (inl tt))
-  run-dealt (fate.Late k) n I J K h run = subst (λ (X : List LaneEvent). IsRun lane rules line o I X) (sym h) run
-
 -- ---- it stays under way
-
-going-by : (lane : Low) (J K : List LaneEvent) (line : ℕ) (p : Plan) → K ≡ J → IsGoing lane J line p → IsGoing lane K line p
-going-by lane J K line p e g = subst (λ (X : List LaneEvent). IsGoing lane X line p) (sym e) g
 
 module _ (lane : Low) (line : ℕ) (p : Plan) where
   going-delivered : (J : List LaneEvent) (n : ℕ) (r : NotedReply) → IsGoing lane J line p → IsGoing lane (event.Delivered n r ∷ J) line p
@@ -142,16 +126,6 @@ module _ (lane : Low) (line : ℕ) (p : Plan) where
   pub going-wrote : (J : List LaneEvent) (e : Entry) → IsGoing lane J line p → IsGoing lane (event.Wrote line e ∷ J) line p
   going-wrote J e g = record { state = g.state; acting = record { holds = (g.acting).holds; published = (g.acting).published; owner = (g.acting).owner }; under_way = g.under_way }
 
-  pub going-late : (ns : List ℕ) (J K : List LaneEvent) → AreDelivered ns J K → IsGoing lane J line p → IsGoing lane K line p
-  going-late ns J K h g = over-all (λ (X : List LaneEvent). IsGoing lane X line p) (λ n r X x. going-delivered X n r x) ns J K h g
-
-  pub going-dealt : (f : Fate) (n : ℕ) (J K : List LaneEvent) → IsDealt f n J K → IsGoing lane J line p → IsGoing lane K line p
-  going-dealt fate.Deliver n J K h g = going-by lane _ K line p h.1 (going-returned _ n (going-delivered J n h.0 g))
-  going-dealt fate.LoseRequest n J K h g = going-by lane J K line p h g
-  going-dealt fate.LoseReply n J K h g = going-by lane _ K line p h.1 (going-delivered J n h.0 g)
-  going-dealt fate.Twice n J K h g = going-by lane _ K line p h.2 (going-delivered _ n h.1 (going-returned _ n (going-delivered J n h.0 g)))
-  going-dealt (fate.Late k) n J K h g = going-by lane J K line p h g
-
 pub going-of : (lane : Low) (rules : Rules) (J : List LaneEvent) (line : ℕ) (row : Low) (written : Bool) (t : Standing) → IsStanding lane rules J line row written t → IsGoing lane J line t.plan
 going-of lane rules J line row written t x = record { state = x.state; acting = x.acting; under_way = (((x.stands).knows).plan).is_under_way }
 
@@ -165,37 +139,6 @@ pub stands-to : (c e : LaneState) (K : List LaneEvent) (line : ℕ) (row : Low) 
 stands-to c e K line row written t lane rules is h =
     subst (λ (b : Low). IsStanding b e.rules (journal_of e) line row written t) (sym lane) (subst (λ (r : Rules). IsStanding c.lane r (journal_of e) line row written t) (sym rules)
     (subst (λ (J : List LaneEvent). IsStanding c.lane c.rules J line row written t) (sym is) h))
-
-pub awaits-to : (c e : LaneState) (K : List LaneEvent) (line : ℕ) (row : Low) (written : Bool) (t : Standing) (number : ℕ) (m : Message) → e.lane ≡ c.lane → e.rules ≡ c.rules → journal_of e ≡ K → IsAwaiting c.lane c.rules K line row written t number m → AwaitsIn e line row written t number m
-awaits-to c e K line row written t number m lane rules is h =
-    subst (λ (b : Low). IsAwaiting b e.rules (journal_of e) line row written t number m) (sym lane) (subst (λ (r : Rules). IsAwaiting c.lane r (journal_of e) line row written t number m) (sym rules)
-    (subst (λ (J : List LaneEvent). IsAwaiting c.lane c.rules J line row written t number m) (sym is) h))
-
-pub hears-by : (c e : LaneState) (K : List LaneEvent) (number : ℕ) (m : Message) (t x : Standing) → e.lane ≡ c.lane → e.rules ≡ c.rules → journal_of e ≡ K
-    → ((line : ℕ) (row : Low) (written : Bool) → AwaitsIn c line row written t number m → IsStanding c.lane c.rules K line row written x) → HearsIn c e number m t x
-hears-by c e K number m t x lane rules is h = λ line row written w. stands-to c e K line row written x lane rules is (h line row written w)
-
--- it was delivered, and none came
-pub hears-lost : (c b : LaneState) (number : ℕ) (m : Message) (r : NotedReply) (t x : Standing) → b.lane ≡ c.lane → b.rules ≡ c.rules → journal_of b ≡ event.Delivered number r ∷ journal_of c → IsLegal (setting_of c.lane c.rules) (journal_of c)
-    → HearsIn b b number m t x → HearsIn c b number m t x
-hears-lost c b number m r t x lane rules is legal h = λ line row written w.
-    h line row written (awaits-to c b (event.Delivered number r ∷ journal_of c) line row written t number m lane rules is (awaiting-delivered c.lane c.rules (journal_of c) line row written t number r legal number m w))
-
--- it was heard, and delivered again
-pub hears-again : (c b e : LaneState) (number : ℕ) (m : Message) (r : NotedReply) (t x : Standing) → e.lane ≡ b.lane → e.rules ≡ b.rules → journal_of e ≡ event.Delivered number r ∷ journal_of b → IsLegal (setting_of b.lane b.rules) (journal_of b)
-    → HearsIn c b number m t x → HearsIn c e number m t x
-hears-again c b e number m r t x lane rules is legal h = λ line row written w.
-    stands-to b e (event.Delivered number r ∷ journal_of b) line row written x lane rules is (standing-delivered b.lane b.rules (journal_of b) line row written x number r legal (h line row written w))
-
--- a message is sent and dealt with, and late ones are delivered
-pub sent-on : (c b d e : LaneState) (m : Message) (t x : Standing) → b.lane ≡ c.lane → b.rules ≡ c.rules → d.lane ≡ b.lane → d.rules ≡ b.rules → e.lane ≡ d.lane → e.rules ≡ d.rules → b.last ≡ c.last + 1 → journal_of b ≡ sending (c.last + 1) m ∷ journal_of c
-    → ((line : ℕ) (row : Low) (written : Bool) → IsReady written m.body → StandsIn c line row written t → IsAwaiting c.lane c.rules (sending (c.last + 1) m ∷ journal_of c) line row written t (c.last + 1) m)
-    → HearsIn b d b.last m t x → (ns : List ℕ) → AreDelivered ns (journal_of d) (journal_of e) → IsLegal (setting_of e.lane e.rules) (journal_of e) → SentIn c e m t x
-sent-on c b d e m t x bl br dl dr el er last is asks h ns late legal = λ line row written ready st.
-    let at : AwaitsIn b line row written t (c.last + 1) m = awaits-to c b (sending (c.last + 1) m ∷ journal_of c) line row written t (c.last + 1) m bl br is (asks line row written ready st) in
-    let told : StandsIn d line row written x = h line row written (subst (λ (i : ℕ). AwaitsIn b line row written t i m) (sym last) at) in
-    let lawful : IsLegal (setting_of d.lane d.rules) (journal_of e) = subst (λ (l : Low). IsLegal (setting_of l d.rules) (journal_of e)) el (subst (λ (r : Rules). IsLegal (setting_of e.lane r) (journal_of e)) er legal) in
-    stands-to d e (journal_of e) line row written x el er refl (standing-late d.lane d.rules ns (journal_of d) (journal_of e) line row written x late lawful told)
 
 pub run-same : (c e : LaneState) (line : ℕ) (t : Standing) → journal_of e ≡ journal_of c → RunsIn c e line t
 run-same c e line t is = subst (λ (J : List LaneEvent). IsRun c.lane c.rules line t.plan.operation (journal_of c) J) (sym is) Same
@@ -229,9 +172,6 @@ sent-in c a e line now m t row lane rules sends ready w = let s = sends line row
 
 -- ---- nothing else happens
 
-quiet-by : (J K L : List LaneEvent) → L ≡ K → IsUneventful J K → IsUneventful J L
-quiet-by J K L e q = subst (λ (X : List LaneEvent). IsUneventful J X) (sym e) q
-
 pub quiet-on : (J K L : List LaneEvent) → IsUneventful J K → IsUneventful K L → IsUneventful J L
 quiet-on J K L p q = record { newest = q.newest ∙ p.newest; counted = λ v. q.counted v ∙ p.counted v; rounds = λ v b. q.rounds v b ∙ p.rounds v b }
 
@@ -251,12 +191,20 @@ module _ (J : List LaneEvent) where
   pub quiet-wrote : (line : ℕ) (e : Entry) → IsUneventful J (event.Wrote line e ∷ J)
   quiet-wrote line e = record { newest = refl; counted = λ v. refl; rounds = λ v b. refl }
 
-  pub quiet-late : (ns : List ℕ) (K L : List LaneEvent) → AreDelivered ns K L → IsUneventful J K → IsUneventful J L
-  quiet-late ns K L h q = over-all (λ (X : List LaneEvent). IsUneventful J X) (λ n r X x. quiet-delivered X n r x) ns K L h q
+-- ---- all that becomes of a message
 
-  pub quiet-dealt : (f : Fate) (n : ℕ) (K L : List LaneEvent) → IsDealt f n K L → IsUneventful J K → IsUneventful J L
-  quiet-dealt fate.Deliver n K L h q = quiet-by J _ L h.1 (quiet-returned _ n (quiet-delivered K n h.0 q))
-  quiet-dealt fate.LoseRequest n K L h q = quiet-by J K L h q
-  quiet-dealt fate.LoseReply n K L h q = quiet-by J _ L h.1 (quiet-delivered K n h.0 q)
-  quiet-dealt fate.Twice n K L h q = quiet-by J _ L h.2 (quiet-delivered _ n h.1 (quiet-returned _ n (quiet-delivered K n h.0 q)))
-  quiet-dealt (fate.Late k) n K L h q = quiet-by J K L h q
+module _ (number : ℕ) (J : List LaneEvent) (nodes : List Node) (m : Message) (y : Option Reply) (K : List LaneEvent) (back : Brought J nodes number m y K) where
+  pub run-brought : (lane : Low) (rules : Rules) (line : ℕ) (o : Operation) (I : List LaneEvent) → IsRun lane rules line o I J → IsRun lane rules line o I K
+  run-brought lane rules line o I run = over-brought (λ (X : List LaneEvent). IsRun lane rules line o I X) (λ n r X x. More (event.Delivered n r) X x (inl tt)) number (λ X x. More (event.Returned number) X x (inl tt)) J nodes m y K back run
+
+  pub going-brought : (lane : Low) (line : ℕ) (p : Plan) → IsGoing lane J line p → IsGoing lane K line p
+  going-brought lane line p g = over-brought (λ (X : List LaneEvent). IsGoing lane X line p) (λ n r X x. going-delivered lane line p X n r x) number (λ X x. going-returned lane line p X number x) J nodes m y K back g
+
+  pub quiet-brought : (I : List LaneEvent) → IsUneventful I J → IsUneventful I K
+  quiet-brought I q = over-brought (λ (X : List LaneEvent). IsUneventful I X) (λ n r X x. quiet-delivered I X n r x) number (λ X x. quiet-returned I X number x) J nodes m y K back q
+
+-- and the machine is told of it
+pub told-in : (c e : LaneState) (line : ℕ) (row : Low) (written : Bool) (x : Standing) → e.lane ≡ c.lane → e.rules ≡ c.rules → IsLegal (setting_of e.lane e.rules) (journal_of e)
+    → (IsLegal (setting_of c.lane c.rules) (journal_of e) → IsStanding c.lane c.rules (journal_of e) line row written x) → StandsIn e line row written x
+told-in c e line row written x lane rules legal h = stands-to c e (journal_of e) line row written x lane rules refl
+    (h (subst (λ (l : Low). IsLegal (setting_of l c.rules) (journal_of e)) lane (subst (λ (r : Rules). IsLegal (setting_of e.lane r) (journal_of e)) rules legal)))

@@ -53,9 +53,6 @@ pub record IsAwaiting (lane : Low) (rules : Rules) (J : List LaneEvent) (line : 
 abbrev pub StandsIn : LaneState → ℕ → Low → Bool → Standing → Type 0
 StandsIn c line row written t = IsStanding c.lane c.rules (journal_of c) line row written t
 
-abbrev pub AwaitsIn : LaneState → ℕ → Low → Bool → Standing → ℕ → Message → Type 0
-AwaitsIn c line row written t number m = IsAwaiting c.lane c.rules (journal_of c) line row written t number m
-
 abbrev pub RunsIn : LaneState → LaneState → ℕ → Standing → Type 0
 RunsIn c e line t = IsRun c.lane c.rules line t.plan.operation (journal_of c) (journal_of e)
 
@@ -93,10 +90,6 @@ StandsOn c e line written now t x = (row : Low) → StandsIn c line row written 
 -- and the same with any machine whose message comes next, by which the journal grows
 abbrev pub WritesOn : LaneState → LaneState → ℕ → Bool → Bool → Message → Type 0
 WritesOn c e line written now m = (row : Low) (t : Standing) → next_at t ≡ Asks m → StandsIn c line row written t → StandsIn e line row now t × RunsIn c e line t
-
--- the answer that was awaited is told, or that none came
-abbrev pub HearsIn : LaneState → LaneState → ℕ → Message → Standing → Standing → Type 0
-HearsIn c e number m t x = (line : ℕ) (row : Low) (written : Bool) → AwaitsIn c line row written t number m → StandsIn e line row written x
 
 -- the message that comes next is sent: the journal grows by what the operation wants, and it stays under way
 abbrev pub SendsIn : LaneState → LaneState → Message → Standing → Type 0

@@ -1,33 +1,23 @@
-ghost use Rattle.std.specs.Prelude.{◌≡◌, ◌≤◌, ◌<◌, ◌+◌, ◌∷◌, ℕ, true, false, None, OnOk, OnErr, IfOk, length, vec_len, vec_capacity};
-ghost use Rattle.carriers.specs.declared.fate.Fate.TheVariants as fate;
+ghost use Rattle.std.specs.Prelude.{◌≡◌, ◌∷◌, true, false, None, OnOk, OnErr, IfOk};
 ghost use Rattle.global_ids.specs.Keys.{key_of};
-ghost use Rattle.messages.specs.Noting.{noted_body};
 ghost use Rattle.service_layer.specs.Takes.{IsKeyOf};
 ghost use Rattle.op_machine.specs.Outcomes.{Asks, message_in};
 ghost use Rattle.op_machine.specs.Standings.{next_at};
-ghost use Rattle.messages.specs.Waiting.{AreSentBefore};
 ghost use Rattle.lane_journals.specs.KeptJournals.{IsLegalStep};
 ghost use Rattle.lane_journals.specs.declared.event.LaneEvent.TheVariants as event;
-ghost use Rattle.lane_carriage.specs.Carriage.{IsDealt};
-ghost use Rattle.lane_carriage.specs.Readers.{IsPrompt};
-ghost use Rattle.lane_carriage.specs.Waits.{kept_by};
-ghost use Rattle.lane_keeping.specs.Flights.{IsInFlight};
 ghost use Rattle.lane_keeping.specs.LaneKeeping.{setting_of};
-ghost use Rattle.lane_keeping.specs.Asking.{IsJustSent};
-ghost use Rattle.lane_states.specs.LaneStates.{journal_of, IsKept, HasRoom, Receives, IsCarriedBy, StaysCarried};
-ghost use Rattle.lane_lines.specs.Steps.{HearsIn, IsToWrite, IsToSend, IsReady, WritesOn, SendsIn, SentIn, IsPreparedIn, StandsOn, GoesIn, RunsIn, IsStandingTold, TellsOne, IsUneventful};
+ghost use Rattle.lane_states.specs.LaneStates.{journal_of, IsKept, HasRoom, IsCarriedBy, StaysCarried};
+ghost use Rattle.lane_lines.specs.Steps.{IsToWrite, IsToSend, IsReady, WritesOn, SendsIn, SentIn, IsPreparedIn, StandsOn, GoesIn, RunsIn, IsStandingTold, TellsOne, IsUneventful};
 ghost use Rattle.stamps.specs.Places.{place_of};
 ghost use Rattle.lane_states.specs.Written.{FindsEntries, AddsNoEntry};
 
-use carriers::{Carrier, Fate};
+use carriers::Carrier;
 use documents::SharedEntry;
-use lane_carriage::laws::late_messages_wait;
 use lane_journals::LaneEvent;
-use lane_keeping::laws::events_are_kept;
-use lane_keeping::node_laws::{entries_are_written, messages_fly};
-use lane_states::lane_state::{LaneState, push_within};
+use lane_keeping::node_laws::entries_are_written;
+use lane_states::lane_state::LaneState;
 use lane_states::written::keep_place;
-use messages::{Body, Message, NotedBody};
+use messages::{Body, Message};
 use op_machine::OpMachine;
 use operation_keeping::laws::{operations_hear, operations_send, operations_write};
 use stamps::StampPlaces;
@@ -104,122 +94,21 @@ fn write_wanted(
     }
 }
 
-/// Delivers the message of an operation, the key of whose document is known, notes that its reply is returned,
-/// and tells the machine.
-fn bring_back_operation(
-    lane: &mut LaneState,
-    machine: &mut OpMachine,
-    number: u64,
-    key: u64,
-    message: &Message,
-)
-    requires keeps { IsKept lane.old }
-    requires just { IsJustSent (journal_of lane.old) number message.now }
-    requires receives { Receives lane.old message.now.receiver }
-    requires key { IsKeyOf message.now.body key }
-    requires next { next_at machine.old ≡ Asks message.now }
-    requires node { message.now.receiver < vec_len lane.old.nodes }
-    requires room { vec_len lane.old.journal + 2 ≤ vec_capacity lane.old.journal }
-    ensures keeps { IsKept lane.new }
-    ensures dealt { IsDealt fate.Deliver number (journal_of lane.old) (journal_of lane.new) }
-    ensures flight { IsInFlight (journal_of lane.new) number message.now }
-    ensures stands { HearsIn lane.old lane.new number message.now machine.old machine.new }
-    ensures told { IsStandingTold message.now machine.old machine.new }
-    ensures after { lane.new ≡ record lane.old { journal = lane.new.journal; nodes = lane.new.nodes } }
-    ensures nodes { vec_len lane.new.nodes ≡ vec_len lane.old.nodes }
-    ensures len { vec_len lane.new.journal ≡ vec_len lane.old.journal + 2 }
-    ensures capacity { vec_capacity lane.old.journal ≤ vec_capacity lane.new.journal }
-{
-    events_are_kept();
-    messages_fly();
-    operations_hear();
-    let reply = lane.deliver(number, Some(key), message);
-    push_within(&mut lane.journal, LaneEvent::Returned { number });
-    machine.take_reply(message.receiver, Some(reply));
-}
-
-/// Tells the machine that no reply to its message comes.
-fn bring_none_operation(lane: &LaneState, machine: &mut OpMachine, message: &Message)
-    requires keeps { IsKept lane.now }
-    requires next { next_at machine.old ≡ Asks message.now }
-    ensures stands { (number : ℕ) → HearsIn lane.now lane.now number message.now machine.old machine.new }
-    ensures told { IsStandingTold message.now machine.old machine.new }
-{
-    operations_hear();
-    machine.take_reply(message.receiver, None);
-}
-
-/// Deals with the message of an operation that was just sent, by its fate; the machine is told the reply, or
-/// that none comes. There is room for its events, and a place for a late message.
-fn deal_operation(
-    lane: &mut LaneState,
-    machine: &mut OpMachine,
-    fate: Fate,
-    key: u64,
-    message: Message,
-)
-    requires keeps { IsKept lane.old }
-    requires just { IsJustSent (journal_of lane.old) lane.old.last message }
-    requires receives { IsPrompt fate → Receives lane.old message.receiver }
-    requires key { IsKeyOf message.body key }
-    requires before { AreSentBefore lane.old.last lane.old.late.late }
-    requires next { next_at machine.old ≡ Asks message }
-    requires node { message.receiver < vec_len lane.old.nodes }
-    requires room { vec_len lane.old.journal + 3 ≤ vec_capacity lane.old.journal }
-    requires place { lane.old.late.room ≡ true }
-    ensures keeps { IsKept lane.new }
-    ensures dealt { IsDealt fate lane.old.last (journal_of lane.old) (journal_of lane.new) }
-    ensures late { lane.new.late.late ≡ kept_by fate lane.old.last message lane.old.late.late }
-    ensures stands { HearsIn lane.old lane.new lane.old.last message machine.old machine.new }
-    ensures told { IsStandingTold message machine.old machine.new }
-    ensures after { lane.new ≡ record lane.old {
-      journal = lane.new.journal;
-      nodes = lane.new.nodes;
-      late = lane.new.late;
-    } }
-    ensures nodes { vec_len lane.new.nodes ≡ vec_len lane.old.nodes }
-    ensures len { vec_len lane.new.journal + length lane.new.late.late
-        ≤ vec_len lane.old.journal + length lane.old.late.late + 3 }
-    ensures capacity { vec_capacity lane.old.journal ≤ vec_capacity lane.new.journal }
-{
-    let number = lane.last;
-    match fate {
-        Fate::Deliver => bring_back_operation(lane, machine, number, key, &message),
-        Fate::LoseRequest => bring_none_operation(lane, machine, &message),
-        Fate::LoseReply => {
-            lane.deliver(number, Some(key), &message);
-            bring_none_operation(lane, machine, &message);
-        }
-        Fate::Twice => {
-            bring_back_operation(lane, machine, number, key, &message);
-            lane.deliver(number, Some(key), &message);
-        }
-        Fate::Late(later) => {
-            bring_none_operation(lane, machine, &message);
-            lane.keep_late(later, message);
-        }
-    }
-}
-
-/// Sends the message that comes next, for which there is room, and deals with it by its fate; the late
-/// messages that are due then are delivered.
-fn send_operation<C: Carrier>(
+/// Exchanges the message that comes next, the key of whose document is known, and tells the machine the reply that
+/// came back, or that none did. The only error is want of memory, and then nothing is sent.
+fn exchange_operation<C: Carrier>(
     lane: &mut LaneState,
     machine: &mut OpMachine,
     key: u64,
     message: Message,
     carrier: &mut C,
-    body: NotedBody,
-)
+) -> Result<(), NoMemory>
     requires keeps { IsKept lane.old }
+    requires spare { HasRoom 0 lane.old }
     requires carried { IsCarriedBy lane.old (C.given carrier.old) }
     requires key { IsKeyOf message.body key }
     requires sends { IsToSend lane.old message }
     requires next { next_at machine.old ≡ Asks message }
-    requires noted { body ≡ noted_body message.body }
-    requires room { HasRoom (length lane.old.late.late + 4) lane.old }
-    requires node { message.receiver < vec_len lane.old.nodes }
-    requires place { lane.old.late.room ≡ true }
     ensures keeps { IsKept lane.new }
     ensures spare { HasRoom 0 lane.new }
     ensures carried { IsCarriedBy lane.new (C.given carrier.new) }
@@ -227,9 +116,10 @@ fn send_operation<C: Carrier>(
     ensures kind { C.takes_plans carrier.new ≡ C.takes_plans carrier.old }
     ensures quiet { IsUneventful (journal_of lane.old) (journal_of lane.new) }
     ensures entries { AddsNoEntry (journal_of lane.old) (journal_of lane.new) }
-    ensures runs { SendsIn lane.old lane.new message machine.old }
-    ensures stands { SentIn lane.old lane.new message machine.old machine.new }
-    ensures told { IsStandingTold message machine.old machine.new }
+    ensures runs { OnOk result (SendsIn lane.old lane.new message machine.old) }
+    ensures stands { OnOk result (SentIn lane.old lane.new message machine.old machine.new) }
+    ensures told { OnOk result (IsStandingTold message machine.old machine.new) }
+    ensures err { OnErr result (journal_of lane.new ≡ journal_of lane.old) }
     ensures after { lane.new ≡ record lane.old {
       journal = lane.new.journal;
       last = lane.new.last;
@@ -237,13 +127,12 @@ fn send_operation<C: Carrier>(
       late = lane.new.late;
     } }
 {
-    late_messages_wait();
     operations_send();
-    lane.send_message(&message, body);
-    let fate = carrier.fate(lane.last);
-    let met = lane.met(message.receiver, fate);
-    deal_operation(lane, machine, met, key, message);
-    lane.deliver_due();
+    operations_hear();
+    let node = message.receiver;
+    let reply = lane.exchange(message, Some(key), carrier)?;
+    machine.take_reply(node, reply);
+    Ok(())
 }
 
 /// Sends the next message of an operation that is prepared, if one is left, and deals with it; the entry of
@@ -287,10 +176,8 @@ pub fn send_next<C: Carrier>(
     let Some(message) = machine.send(lane.alloc)? else {
         return Ok(false);
     };
-    let body = message.body.noted(lane.alloc)?;
     let ready = write_wanted(lane, places, line, *written, &message)?;
     *written = ready;
-    lane.room_for_message(message.receiver)?;
-    send_operation(lane, machine, key, message, carrier, body);
+    exchange_operation(lane, machine, key, message, carrier)?;
     Ok(true)
 }

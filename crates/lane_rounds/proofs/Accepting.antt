@@ -2,8 +2,6 @@
 use Rattle.std.proofs.Common.{◌≡◌, ℕ, ◌<◌, true, false, List, [], ◌∷◌, map, length, Option, Some, slice_set, sym, ap, subst}
 use Rattle.bucket_ids.specs.Buckets.{Low}
 use Rattle.cluster_states.specs.declared.cluster_state.ClusterState.{ClusterState}
-use Rattle.messages.specs.declared.reply.Reply.{Reply}
-use Rattle.messages.specs.declared.reply.Reply.TheVariants as reply
 use Rattle.bucket_db.specs.Answers.{new_row}
 use Rattle.bucket_db.specs.Rows.{Rows}
 use Rattle.bucket_db.specs.Changes.{at_row}
@@ -15,25 +13,11 @@ use Rattle.lane_journals.specs.Readers.{Journal}
 use Rattle.lane_journals.specs.Meanings.{history}
 use Rattle.lane_journals.specs.declared.event.LaneEvent.{LaneEvent}
 use Rattle.lane_keeping.specs.LaneKeeping.{part_in}
-use Rattle.lane_keeping.specs.Asking.{IsPartTold}
 use Rattle.lane_states.specs.Accepting.{IsAccepted, AreRowsAccepted, IsPartAccepted, AreAccepted}
-use Rattle.lane_states.proofs.Accepting.{accepted-at}
+use Rattle.lane_states.proofs.Accepting.{accepted-at, accepted-alike}
 use Rattle.lane_rounds.proofs.RowLists.{all-at}
 
 module _ (H : Journal) (p q : Part) where
-  -- the state and the rows are the same
-  pub accepted-alike : q.state ≡ p.state → q.rows ≡ p.rows → IsPartAccepted H p → IsPartAccepted H q
-  accepted-alike state rows h =
-      subst (λ (o : Option ClusterState). AreRowsAccepted (version_of o) H (rows_of q.rows)) (sym state)
-      (subst (λ (o : Option Rows). AreRowsAccepted (version_of p.state) H (rows_of o)) (sym rows) h)
-
-  pub accepted-told : (node : ℕ) (r : Reply) → IsPartTold p q node r → IsPartAccepted H p → IsPartAccepted H q
-  accepted-told node (reply.Answer pieces entries) t = accepted-alike (t.alike).state_is (t.alike).rows_are
-  accepted-told node (reply.Newer v) t = accepted-alike (t.alike).state_is (t.alike).rows_are
-  accepted-told node reply.NoBucket t = accepted-alike (t.alike).state_is (t.alike).rows_are
-  accepted-told node reply.Differs t = accepted-alike (t.alike).state_is (t.alike).rows_are
-  accepted-told node reply.NoMemory t = accepted-alike (t.alike).state_is (t.alike).rows_are
-
   -- a row has other complete members
   pub accepted-marks : (rows : Rows) (at marks : ℕ) → q.state ≡ p.state → p.rows ≡ Some rows → rows_of q.rows ≡ at_row at (λ r. record r { complete = marks }) rows.rows → IsPartAccepted H p → IsPartAccepted H q
   accepted-marks rows at marks state opened now h =

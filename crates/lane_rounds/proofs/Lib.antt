@@ -6,10 +6,12 @@ pub mod RowLists
 pub mod Shortages
 pub mod Staying
 -- Of this crate alone.
+mod AskExchanges
 mod Going
 mod LaneRuns
 mod NodeSpans
 mod Opened
+mod RoundExchanges
 mod RowKeys
 mod Settled
 mod Telling

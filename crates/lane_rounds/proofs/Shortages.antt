@@ -82,10 +82,6 @@ module _ (k : ℕ) (short : Bool) where
 pub settled-as : (k : ℕ) (J : List LaneEvent) (a b : Bool) → b ≡ a → IsSettled k J a → IsSettled k J b
 settled-as k J a b e s = subst (λ (t : Bool). IsSettled k J t) (sym e) s
 
--- it is delivered, and its reply is lost
-pub settled-again : (k n : ℕ) (J K : List LaneEvent) (short : Bool) → IsDealt fate.LoseReply n J K → IsSettled k J short → IsSettled k K short
-settled-again k n J K short d s = subst (λ (X : List LaneEvent). IsSettled k X short) (sym d.1) (settled-stays k n J d.0 short s)
-
 -- ---- of all of them
 
 pub none-nothing : (last now : ℕ) (J : List LaneEvent) → now ≡ last → NoneIsShort last now J

@@ -2,7 +2,9 @@
 use Rattle.std.specs.Prelude.{◌≡◌, ◌||◌, ◌+◌, ℕ, Bool, false, List, ◌∷◌, Option, None, Some}
 use Rattle.bucket_ids.specs.Buckets.{Low}
 use Rattle.carriers.specs.declared.fate.Fate.{Fate}
+use Rattle.messages.specs.Noting.{noted_reply}
 use Rattle.messages.specs.declared.message.Message.{Message}
+use Rattle.messages.specs.declared.reply.Reply.{Reply}
 use Rattle.distributor_part.specs.declared.rules.Rules.{Rules}
 use Rattle.distributor_part.specs.declared.stage.Stage.TheVariants.{Before}
 use Rattle.distributor_part.specs.Parts.{Part, IsOwning}
@@ -21,7 +23,7 @@ use Rattle.lane_rounds.specs.declared.opening.OpeningEnd.{OpeningEnd}
 use Rattle.lane_rounds.specs.declared.opening.OpeningStep.{OpeningStep}
 use Rattle.lane_rounds.specs.declared.opening.OpeningStep.TheVariants as step
 use Rattle.lane_states.specs.LaneStates.{journal_of, part_of, Asks}
-use Rattle.lane_states.specs.Growing.{HasHeard, IsSettled}
+use Rattle.lane_states.specs.Growing.{HasHeard, is_short, IsSettled}
 
 -- the part of an owner whose state isn't opened, between its steps
 pub record IsOpening (p : Part) : Type 0 where
@@ -31,6 +33,11 @@ pub record IsOpening (p : Part) : Type 0 where
   pub no_round : p.stage ≡ Before
 
 -- ---- one step
+
+-- a reply came, and says that the node wants memory
+abbrev pub came_short : Option Reply → Bool
+came_short None = false
+came_short (Some reply) = is_short (noted_reply reply)
 
 -- the next Ask, of which nothing is sent yet
 pub record IsAskNext (c e : LaneState) (d : ℕ) (m : Message) : Type 0 where

@@ -1,28 +1,20 @@
-ghost use Rattle.std.specs.Prelude.{◌≡◌, ◌≤◌, ℕ, ◌<◌, ◌+◌, ◌||◌, true, false, None, Some, OnOk, OnErr, IfOk, length, vec_len, vec_capacity};
-ghost use Rattle.carriers.specs.declared.fate.Fate.TheVariants as fate;
-ghost use Rattle.messages.specs.Waiting.{AreSentBefore};
-ghost use Rattle.lane_carriage.specs.Carriage.{IsDealt};
-ghost use Rattle.lane_carriage.specs.Readers.{IsPrompt};
-ghost use Rattle.lane_carriage.specs.Waits.{kept_by};
-ghost use Rattle.lane_keeping.specs.Flights.{IsInFlight};
-ghost use Rattle.lane_keeping.specs.Asking.{IsJustSent, OthersStay};
-ghost use Rattle.lane_states.specs.LaneStates.{journal_of, IsKept, HasRoom, Receives, part_of, Asks, IsCarriedBy, IsResting, Stays, Went, NodesOn};
-ghost use Rattle.lane_states.specs.Growing.{HasHeard, is_short, IsSettled};
-ghost use Rattle.lane_rounds.specs.Openings.{IsOpening, IsNext, AsksOn, StopsAsking, EndsAsking, StopsAfter, GivesUp, EndsOpening, StopsOpening};
+ghost use Rattle.std.specs.Prelude.{◌≡◌, ℕ, ◌<◌, ◌+◌, ◌||◌, false, Some, OnOk, OnErr, IfOk, vec_len};
+ghost use Rattle.lane_keeping.specs.Asking.{OthersStay};
+ghost use Rattle.lane_states.specs.LaneStates.{journal_of, IsKept, HasRoom, part_of, Asks, IsCarriedBy, IsResting, Stays, Went, NodesOn};
+ghost use Rattle.lane_states.specs.Growing.{HasHeard, IsSettled};
+ghost use Rattle.lane_rounds.specs.Openings.{came_short, IsOpening, IsNext, AsksOn, StopsAsking, EndsAsking, StopsAfter, GivesUp, EndsOpening, StopsOpening};
 ghost use Rattle.bucket_ids.specs.Buckets.{Low, IsIn};
 ghost use Rattle.lane_journals.specs.Readers.{running};
 ghost use Rattle.lane_journals.specs.Facts.{Idle};
 ghost use Rattle.lane_journals.specs.Meanings.{history};
 ghost use Rattle.lane_states.specs.Shortages.{WhereItEnds, NoneIsShort, EndsAtOnce};
 
-use carriers::{Carrier, Fate};
-use lane_carriage::laws::late_messages_wait;
+use carriers::Carrier;
 use lane_journals::LaneEvent;
 use lane_keeping::laws::{asks_are_kept, openings_are_kept, parts_are_told};
-use lane_keeping::node_laws::{messages_fly, nodes_hold};
 use lane_states::at_shortage::AtShortage;
 use lane_states::lane_state::{LaneState, push_within};
-use messages::{Job, Message, NotedReply, Step};
+use messages::{Job, Message, Reply, Step};
 use node_sets::NodeSet;
 use value_lists::NoMemory;
 
@@ -63,134 +55,19 @@ fn either(one: bool, other: bool) -> bool
     one || other
 }
 
-/// Whether a node wants memory.
-fn is_short(reply: &NotedReply) -> bool
-    ensures { result ≡ is_short reply.now }
+/// Whether a reply came that says that the node wants memory.
+fn is_short(reply: &Option<Reply>) -> bool
+    ensures { result ≡ came_short reply.now }
 {
     match reply {
-        NotedReply::NoMemory => true,
+        Some(Reply::NoMemory) => true,
         _ => false,
     }
 }
 
-/// Delivers the Ask of a distributor, which is told the reply, and notes that it is returned; takes no memory.
-fn bring_back(lane: &mut LaneState, distributor: u8, number: u64, message: &Message) -> bool
-    requires keeps { IsKept lane.old }
-    requires just { IsJustSent (journal_of lane.old) number message.now }
-    requires receives { Receives lane.old message.now.receiver }
-    requires asks { Asks lane.old distributor message.now }
-    requires awaited { (part_of lane.old distributor).awaited ≡ Some message.now.receiver }
-    requires node { message.now.receiver < vec_len lane.old.nodes }
-    requires part { distributor < vec_len lane.old.parts }
-    requires room { vec_len lane.old.journal + 2 ≤ vec_capacity lane.old.journal }
-    ensures keeps { IsKept lane.new }
-    ensures took { NodesOn lane.old lane.new }
-    ensures dealt { IsDealt fate.Deliver number (journal_of lane.old) (journal_of lane.new) }
-    ensures settled { IsSettled number (journal_of lane.new) result }
-    ensures flight { IsInFlight (journal_of lane.new) number message.now }
-    ensures told { HasHeard (part_of lane.old distributor) (part_of lane.new distributor) }
-    ensures others { OthersStay lane.old.lane lane.old.rules lane.old.parts.items lane.new.parts.items distributor }
-    ensures after { lane.new
-        ≡ record lane.old { journal = lane.new.journal; nodes = lane.new.nodes; parts = lane.new.parts } }
-    ensures nodes { vec_len lane.new.nodes ≡ vec_len lane.old.nodes }
-    ensures parts { vec_len lane.new.parts ≡ vec_len lane.old.parts }
-    ensures len { vec_len lane.new.journal ≡ vec_len lane.old.journal + 2 }
-    ensures capacity { vec_capacity lane.old.journal ≤ vec_capacity lane.new.journal }
-{
-    asks_are_kept();
-    parts_are_told();
-    messages_fly();
-    nodes_hold();
-    let taken = lane.nodes[usize::from(message.receiver)].take(message);
-    let short = is_short(&taken.noted);
-    push_within(
-        &mut lane.journal,
-        LaneEvent::Delivered {
-            number,
-            reply: taken.noted,
-        },
-    );
-    push_within(&mut lane.journal, LaneEvent::Returned { number });
-    let part = &mut lane.parts[usize::from(distributor)];
-    part.take_reply(message.receiver, Some(taken.reply));
-    short
-}
-
-/// Tells a distributor that no reply to its Ask comes.
-fn bring_none(lane: &mut LaneState, distributor: u8, node: u8)
-    requires keeps { IsKept lane.old }
-    requires awaited { (part_of lane.old distributor).awaited ≡ Some node }
-    requires part { distributor < vec_len lane.old.parts }
-    ensures keeps { IsKept lane.new }
-    ensures told { HasHeard (part_of lane.old distributor) (part_of lane.new distributor) }
-    ensures others { OthersStay lane.old.lane lane.old.rules lane.old.parts.items lane.new.parts.items distributor }
-    ensures after { lane.new ≡ record lane.old { parts = lane.new.parts } }
-    ensures parts { vec_len lane.new.parts ≡ vec_len lane.old.parts }
-{
-    parts_are_told();
-    lane.parts[usize::from(distributor)].take_reply(node, None);
-}
-
-/// Deals with an Ask that was just sent, by its fate; the distributor is told the reply, or that none comes.
-/// There is room for its events, and a place for a late message.
-fn deal_ask(lane: &mut LaneState, distributor: u8, fate: Fate, message: Message) -> bool
-    requires keeps { IsKept lane.old }
-    requires just { IsJustSent (journal_of lane.old) lane.old.last message }
-    requires receives { IsPrompt fate → Receives lane.old message.receiver }
-    requires before { AreSentBefore lane.old.last lane.old.late.late }
-    requires asks { Asks lane.old distributor message }
-    requires awaited { (part_of lane.old distributor).awaited ≡ Some message.receiver }
-    requires node { message.receiver < vec_len lane.old.nodes }
-    requires part { distributor < vec_len lane.old.parts }
-    requires room { vec_len lane.old.journal + 3 ≤ vec_capacity lane.old.journal }
-    requires place { lane.old.late.room ≡ true }
-    ensures keeps { IsKept lane.new }
-    ensures took { NodesOn lane.old lane.new }
-    ensures dealt { IsDealt fate lane.old.last (journal_of lane.old) (journal_of lane.new) }
-    ensures settled { IsSettled lane.old.last (journal_of lane.new) result }
-    ensures late { lane.new.late.late ≡ kept_by fate lane.old.last message lane.old.late.late }
-    ensures told { HasHeard (part_of lane.old distributor) (part_of lane.new distributor) }
-    ensures others { OthersStay lane.old.lane lane.old.rules lane.old.parts.items lane.new.parts.items distributor }
-    ensures after { lane.new ≡ record lane.old {
-      journal = lane.new.journal;
-      nodes = lane.new.nodes;
-      parts = lane.new.parts;
-      late = lane.new.late;
-    } }
-    ensures nodes { vec_len lane.new.nodes ≡ vec_len lane.old.nodes }
-    ensures parts { vec_len lane.new.parts ≡ vec_len lane.old.parts }
-    ensures len { vec_len lane.new.journal + length lane.new.late.late
-        ≤ vec_len lane.old.journal + length lane.old.late.late + 3 }
-    ensures capacity { vec_capacity lane.old.journal ≤ vec_capacity lane.new.journal }
-{
-    let number = lane.last;
-    match fate {
-        Fate::Deliver => bring_back(lane, distributor, number, &message),
-        Fate::LoseRequest => {
-            bring_none(lane, distributor, message.receiver);
-            false
-        }
-        Fate::LoseReply => {
-            lane.deliver(number, None, &message);
-            bring_none(lane, distributor, message.receiver);
-            false
-        }
-        Fate::Twice => {
-            let short = bring_back(lane, distributor, number, &message);
-            lane.deliver(number, None, &message);
-            short
-        }
-        Fate::Late(later) => {
-            bring_none(lane, distributor, message.receiver);
-            lane.keep_late(later, message);
-            false
-        }
-    }
-}
-
-/// Sends the Ask of a distributor, and deals with it by its fate; the late messages that are due then are
-/// given out. The only error is want of memory, and then the journal is the same.
-pub fn ask<C: Carrier>(
+/// Exchanges the Ask of a distributor, and tells it the reply that came back, or that none did; answers whether the
+/// node wants memory. The only error is want of memory, and then nothing is sent.
+fn ask<C: Carrier>(
     lane: &mut LaneState,
     distributor: u8,
     message: Message,
@@ -201,6 +78,7 @@ pub fn ask<C: Carrier>(
     requires carried { IsCarriedBy lane.old (C.given carrier.old) }
     requires asks { Asks lane.old distributor message }
     requires awaited { (part_of lane.old distributor).awaited ≡ Some message.receiver }
+    requires small { message.receiver < 32 }
     requires part { distributor < vec_len lane.old.parts }
     ensures planned { C.planned carrier.new ≡ C.planned carrier.old }
     ensures kind { C.takes_plans carrier.new ≡ C.takes_plans carrier.old }
@@ -223,13 +101,12 @@ pub fn ask<C: Carrier>(
     } }
     ensures parts { vec_len lane.new.parts ≡ vec_len lane.old.parts }
 {
-    late_messages_wait();
-    lane.room_for_message(message.receiver)?;
-    lane.send(distributor, &message);
-    let fate = carrier.fate(lane.last);
-    let met = lane.met(message.receiver, fate);
-    let short = deal_ask(lane, distributor, met, message);
-    lane.deliver_due();
+    asks_are_kept();
+    parts_are_told();
+    let node = message.receiver;
+    let reply = lane.exchange(message, None, carrier)?;
+    let short = is_short(&reply);
+    lane.parts[usize::from(distributor)].take_reply(node, reply);
     Ok(short)
 }
 

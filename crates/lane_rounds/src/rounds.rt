@@ -1,44 +1,35 @@
 ghost use Rattle.std.specs.Prelude.{◌≡◌, ◌≤◌, ◌<◌, ◌+◌, ◌↔◌, ◌&&◌, ◌||◌, ℕ, List, true, false, None, Some, IsSome, OnOk, OnErr, IfOk, IfSome, IfNone, length, vec_len, vec_capacity};
 ghost use Rattle.bucket_ids.specs.Buckets.{Low, IsIn};
 ghost use Rattle.node_sets.specs.Members.{has_node};
-ghost use Rattle.messages.specs.Noting.{noted_body, noted_reply};
+ghost use Rattle.messages.specs.Noting.{noted_reply};
 ghost use Rattle.carriers.specs.declared.fate.Fate.{Fate};
-ghost use Rattle.carriers.specs.declared.fate.Fate.TheVariants as fate;
 ghost use Rattle.distributor_part.specs.declared.stage.Stage.TheVariants as stage;
 ghost use Rattle.distributor_part.specs.Parts.{IsOwning, rows_of};
 ghost use Rattle.distributor_part.specs.Upkeep.{BeginsRoundAt};
 ghost use Rattle.distributor_part.specs.Steps.{BeginsRound};
 ghost use Rattle.distributor_part.specs.Steps as steps;
 ghost use Rattle.merge_rounds.specs.Rounds.{HaveAllShown, IsOver};
-ghost use Rattle.messages.specs.Waiting.{AreSentBefore};
-ghost use Rattle.lane_carriage.specs.Carriage.{IsDealt};
-ghost use Rattle.lane_carriage.specs.Readers.{IsPrompt};
-ghost use Rattle.lane_carriage.specs.Waits.{kept_by};
 ghost use Rattle.lane_journals.specs.Facts.{Idle};
 ghost use Rattle.lane_journals.specs.Meanings.{history};
-ghost use Rattle.lane_keeping.specs.Flights.{IsInFlight};
-ghost use Rattle.lane_keeping.specs.Replaying.{sending};
 ghost use Rattle.lane_keeping.specs.Asking.{OthersStay};
-ghost use Rattle.round_keeping.specs.RoundKeeping.{IsAwaited};
-ghost use Rattle.lane_states.specs.LaneStates.{journal_of, IsKept, HasRoom, Receives, part_of, IsCarriedBy, NodesOn};
-ghost use Rattle.round_keeping.specs.RoundRuns.{IsAfterReply, is_refusal, NoneRuns, IsRunning, IsToSend, IsCutOff, GoesOn, IsRunToldBy, left, IsRunBy, MayBegin, MayBeginAt, LowIsThere, IsNewRun, EndsEnough, Begins, RunsOn, EndsWith, IsStageOver, IsToldOver, EndsJob, EndsRun, are_missing, is_short, IsEnd, IsWholeRun, IsCutShort};
+ghost use Rattle.lane_states.specs.LaneStates.{journal_of, IsKept, HasRoom, part_of, IsCarriedBy, NodesOn};
+ghost use Rattle.round_keeping.specs.RoundRuns.{IsAfterReply, is_refusal, NoneRuns, IsRunning, IsCutOff, GoesOn, IsRunToldBy, left, IsRunBy, MayBegin, MayBeginAt, LowIsThere, IsNewRun, EndsEnough, Begins, RunsOn, EndsWith, IsStageOver, IsToldOver, EndsJob, EndsRun, are_missing, is_short, IsEnd, IsWholeRun, IsCutShort};
 ghost use Rattle.lane_states.specs.Growing.{IsSettled};
+ghost use Rattle.lane_rounds.specs.RoundSteps.{IsRunTold};
 ghost use Rattle.lane_states.specs.Shortages.{WhereItEnds, NoneIsShort, EndsAtOnce};
 ghost use Rattle.round_keeping.specs.RoundShortages.{wants_memory, HadMemory};
 
 use bucket_db::Row;
 use bucket_ids::Bucket;
-use carriers::{Carrier, Fate};
+use carriers::Carrier;
 use cluster_states::ClusterState;
 use distributor_part::DistributorPart;
-use lane_carriage::laws::late_messages_wait;
 use lane_journals::LaneEvent;
 use lane_keeping::laws::{events_are_kept, marks_are_kept, owners_act, parts_are_told};
-use lane_keeping::node_laws::{messages_fly, nodes_hold};
 use lane_states::at_shortage::AtShortage;
 use lane_states::lane_state::{LaneState, push_within};
 use merge_rounds::Round;
-use messages::{Decision, Job, Message, NotedBody, NotedReply, Origin, Reply, Step};
+use messages::{Decision, Job, Origin, Reply, Step};
 use node_sets::NodeSet;
 use round_keeping::laws::{rounds_begin, rounds_end, rounds_hear, rounds_send};
 use round_keeping::{RoundEnd, RoundRun};
@@ -53,11 +44,11 @@ pub struct RoundPlan {
 }
 
 /// Whether a node replied that it wants memory.
-fn is_refusal(reply: &NotedReply) -> bool
-    ensures { result ≡ is_refusal reply.now }
+fn is_refusal(reply: &Reply) -> bool
+    ensures { result ≡ is_refusal (noted_reply reply.now) }
 {
     match reply {
-        NotedReply::NoMemory => true,
+        Reply::NoMemory => true,
         _ => false,
     }
 }
@@ -79,16 +70,28 @@ fn tell(round: &mut Round, node: u8, reply: Option<Reply>)
 }
 
 /// Tells a round the reply of a node, and keeps in mind that the node wants memory.
-fn tell_run(run: &mut RoundRun, node: u8, reply: Reply, refused: bool)
+fn tell_run(run: &mut RoundRun, node: u8, reply: Reply)
     requires awaited { run.old.round.awaited ≡ Some node }
     requires small { node < 32 }
-    requires refused { refused ≡ is_refusal (noted_reply reply) }
     ensures { IsRunToldBy run.old run.new node reply }
 {
+    let refused = is_refusal(&reply);
     let reading = run.round.is_reading();
     tell(&mut run.round, node, Some(reply));
     run.unread = raised(run.unread, reading, refused);
     run.unapplied = raised(run.unapplied, !reading, refused);
+}
+
+/// Tells a round what came back of the message to a node.
+fn tell_back(run: &mut RoundRun, node: u8, reply: Option<Reply>)
+    requires awaited { run.old.round.awaited ≡ Some node }
+    requires small { node < 32 }
+    ensures { IsRunTold run.old run.new node reply }
+{
+    match reply {
+        Some(reply) => tell_run(run, node, reply),
+        None => tell(&mut run.round, node, None),
+    }
 }
 
 /// Whether a node has wanted memory for a round so far.
@@ -218,185 +221,8 @@ fn end_of(run: &RoundRun, row: Row) -> RoundEnd
 
 // ---- one message
 
-/// Delivers the message of a round that is waited for, notes that the reply is returned, and tells the round; takes no
-/// memory.
-fn bring_back_round(lane: &mut LaneState, run: &mut RoundRun, number: u64, message: &Message)
-    requires keeps { IsKept lane.old }
-    requires runs { IsRunning lane.old.lane (journal_of lane.old) run.old }
-    requires awaited { IsAwaited (journal_of lane.old) run.old.round number message.now }
-    requires receives { Receives lane.old message.now.receiver }
-    requires small { message.now.receiver < 32 }
-    requires node { message.now.receiver < vec_len lane.old.nodes }
-    requires room { vec_len lane.old.journal + 2 ≤ vec_capacity lane.old.journal }
-    ensures keeps { IsKept lane.new }
-    ensures took { NodesOn lane.old lane.new }
-    ensures runs { IsRunning lane.old.lane (journal_of lane.new) run.new }
-    ensures told { run.new.round.awaited ≡ None }
-    ensures left { left run.new.round ≡ left run.old.round }
-    ensures same { GoesOn run.old run.new }
-    ensures dealt { IsDealt fate.Deliver number (journal_of lane.old) (journal_of lane.new) }
-    ensures flight { IsInFlight (journal_of lane.new) number message.now }
-    ensures settled { HadMemory run.old → IsSettled number (journal_of lane.new) (wants_memory run.new) }
-    ensures after { lane.new ≡ record lane.old { journal = lane.new.journal; nodes = lane.new.nodes } }
-    ensures nodes { vec_len lane.new.nodes ≡ vec_len lane.old.nodes }
-    ensures len { vec_len lane.new.journal ≡ vec_len lane.old.journal + 2 }
-    ensures capacity { vec_capacity lane.old.journal ≤ vec_capacity lane.new.journal }
-{
-    events_are_kept();
-    messages_fly();
-    nodes_hold();
-    rounds_hear();
-    let taken = lane.nodes[usize::from(message.receiver)].take(message);
-    let refused = is_refusal(&taken.noted);
-    push_within(
-        &mut lane.journal,
-        LaneEvent::Delivered {
-            number,
-            reply: taken.noted,
-        },
-    );
-    push_within(&mut lane.journal, LaneEvent::Returned { number });
-    tell_run(run, message.receiver, taken.reply, refused);
-}
-
-/// Tells a round that no reply to its message comes.
-fn bring_none_round(lane: &LaneState, run: &mut RoundRun, node: u8)
-    requires keeps { IsKept lane.now }
-    requires runs { IsRunning lane.now.lane (journal_of lane.now) run.old }
-    requires awaited { run.old.round.awaited ≡ Some node }
-    requires small { node < 32 }
-    ensures runs { IsRunning lane.now.lane (journal_of lane.now) run.new }
-    ensures told { run.new.round.awaited ≡ None }
-    ensures left { left run.new.round ≡ left run.old.round }
-    ensures same { GoesOn run.old run.new }
-    ensures minds { run.new ≡ record run.old { round = run.new.round } }
-{
-    rounds_hear();
-    tell(&mut run.round, node, None);
-}
-
-/// Delivers a message while a round is under way, and its reply is lost.
-fn deliver_round(lane: &mut LaneState, run: &RoundRun, number: u64, message: &Message)
-    requires keeps { IsKept lane.old }
-    requires runs { IsRunning lane.old.lane (journal_of lane.old) run.now }
-    requires flight { IsInFlight (journal_of lane.old) number message.now }
-    requires receives { Receives lane.old message.now.receiver }
-    requires there { message.now.receiver < vec_len lane.old.nodes }
-    requires room { vec_len lane.old.journal + 1 ≤ vec_capacity lane.old.journal }
-    ensures keeps { IsKept lane.new }
-    ensures took { NodesOn lane.old lane.new }
-    ensures runs { IsRunning lane.old.lane (journal_of lane.new) run.now }
-    ensures flight { IsInFlight (journal_of lane.new) number message.now }
-    ensures grows { IsDealt fate.LoseReply number (journal_of lane.old) (journal_of lane.new) }
-    ensures after { lane.new ≡ record lane.old { journal = lane.new.journal; nodes = lane.new.nodes } }
-    ensures nodes { vec_len lane.new.nodes ≡ vec_len lane.old.nodes }
-    ensures len { vec_len lane.new.journal ≡ vec_len lane.old.journal + 1 }
-    ensures capacity { vec_capacity lane.old.journal ≤ vec_capacity lane.new.journal }
-{
-    messages_fly();
-    lane.deliver(number, None, message);
-}
-
-/// Deals with a round's message that was just sent, by its fate; the round is told the reply, or that none
-/// comes. There is room for its events, and a place for a late message.
-fn deal_round(lane: &mut LaneState, run: &mut RoundRun, fate: Fate, message: Message)
-    requires keeps { IsKept lane.old }
-    requires runs { IsRunning lane.old.lane (journal_of lane.old) run.old }
-    requires awaited { IsAwaited (journal_of lane.old) run.old.round lane.old.last message }
-    requires receives { IsPrompt fate → Receives lane.old message.receiver }
-    requires before { AreSentBefore lane.old.last lane.old.late.late }
-    requires small { message.receiver < 32 }
-    requires node { message.receiver < vec_len lane.old.nodes }
-    requires room { vec_len lane.old.journal + 3 ≤ vec_capacity lane.old.journal }
-    requires place { lane.old.late.room ≡ true }
-    ensures keeps { IsKept lane.new }
-    ensures took { NodesOn lane.old lane.new }
-    ensures runs { IsRunning lane.old.lane (journal_of lane.new) run.new }
-    ensures told { run.new.round.awaited ≡ None }
-    ensures left { left run.new.round ≡ left run.old.round }
-    ensures same { GoesOn run.old run.new }
-    ensures dealt { IsDealt fate lane.old.last (journal_of lane.old) (journal_of lane.new) }
-    ensures settled { HadMemory run.old
-        → IsSettled lane.old.last (journal_of lane.new) (wants_memory run.new) }
-    ensures late { lane.new.late.late ≡ kept_by fate lane.old.last message lane.old.late.late }
-    ensures after { lane.new
-        ≡ record lane.old { journal = lane.new.journal; nodes = lane.new.nodes; late = lane.new.late } }
-    ensures nodes { vec_len lane.new.nodes ≡ vec_len lane.old.nodes }
-    ensures len { vec_len lane.new.journal + length lane.new.late.late
-        ≤ vec_len lane.old.journal + length lane.old.late.late + 3 }
-    ensures capacity { vec_capacity lane.old.journal ≤ vec_capacity lane.new.journal }
-{
-    let number = lane.last;
-    match fate {
-        Fate::Deliver => {
-            bring_back_round(lane, run, number, &message);
-        }
-        Fate::LoseRequest => {
-            bring_none_round(lane, run, message.receiver);
-        }
-        Fate::LoseReply => {
-            deliver_round(lane, run, number, &message);
-            bring_none_round(lane, run, message.receiver);
-        }
-        Fate::Twice => {
-            bring_back_round(lane, run, number, &message);
-            deliver_round(lane, run, number, &message);
-        }
-        Fate::Late(later) => {
-            bring_none_round(lane, run, message.receiver);
-            lane.keep_late(later, message);
-        }
-    }
-}
-
-/// Sends the next message of a round, for which there is room, and deals with it and with the late ones that
-/// fall due; takes no memory.
-fn send_round<C: Carrier>(
-    lane: &mut LaneState,
-    carrier: &mut C,
-    run: &mut RoundRun,
-    message: Message,
-    body: NotedBody,
-)
-    requires keeps { IsKept lane.old }
-    requires sends { IsToSend lane.old.lane (journal_of lane.old) run.old message }
-    requires numbered { lane.old.last ≡ length (C.given carrier.old) }
-    requires noted { body ≡ noted_body message.body }
-    requires node { message.receiver < vec_len lane.old.nodes }
-    requires room { HasRoom (length lane.old.late.late + 4) lane.old }
-    requires place { lane.old.late.room ≡ true }
-    ensures planned { C.planned carrier.new ≡ C.planned carrier.old }
-    ensures kind { C.takes_plans carrier.new ≡ C.takes_plans carrier.old }
-    ensures keeps { IsKept lane.new }
-    ensures took { NodesOn lane.old lane.new }
-    ensures spare { HasRoom 0 lane.new }
-    ensures runs { IsRunning lane.old.lane (journal_of lane.new) run.new }
-    ensures told { run.new.round.awaited ≡ None }
-    ensures left { left run.new.round ≡ left run.old.round }
-    ensures on { RunsOn lane.old.lane run.old.distributor run.old.state (C.given carrier.old) (C.given carrier.new)
-        lane.old.last lane.new.last lane.old.late.late lane.new.late.late (journal_of lane.old)
-        (journal_of lane.new) }
-    ensures same { GoesOn run.old run.new }
-    ensures next { lane.new.last ≡ lane.old.last + 1 }
-    ensures settled { HadMemory run.old
-        → IsSettled lane.new.last (journal_of lane.new) (wants_memory run.new) }
-    ensures after { lane.new ≡ record lane.old {
-      journal = lane.new.journal;
-      nodes = lane.new.nodes;
-      late = lane.new.late;
-      last = lane.new.last;
-    } }
-{
-    rounds_send();
-    lane.send_message(&message, body);
-    let fate = carrier.fate(lane.last);
-    let met = lane.met(message.receiver, fate);
-    deal_round(lane, run, met, message);
-    lane.deliver_due();
-}
-
-/// Sends the next message of a round, and deals with it; answers whether there was one. The only error is want
-/// of memory, and then nothing is sent.
+/// Exchanges the next message of a round, and tells the round what came back; answers whether there was one. The only
+/// error is want of memory, and then nothing is sent.
 fn step_round<C: Carrier>(
     lane: &mut LaneState,
     carrier: &mut C,
@@ -406,12 +232,13 @@ fn step_round<C: Carrier>(
     requires spare { HasRoom 0 lane.old }
     requires runs { IsRunning lane.old.lane (journal_of lane.old) run.old }
     requires told { run.old.round.awaited ≡ None }
-    requires numbered { lane.old.last ≡ length (C.given carrier.old) }
+    requires carried { IsCarriedBy lane.old (C.given carrier.old) }
     ensures planned { C.planned carrier.new ≡ C.planned carrier.old }
     ensures kind { C.takes_plans carrier.new ≡ C.takes_plans carrier.old }
     ensures keeps { IsKept lane.new }
     ensures took { NodesOn lane.old lane.new }
     ensures spare { HasRoom 0 lane.new }
+    ensures carried { IsCarriedBy lane.new (C.given carrier.new) }
     ensures runs { OnOk result (IsRunning lane.old.lane (journal_of lane.new) run.new) }
     ensures told { OnOk result (run.new.round.awaited ≡ None) }
     ensures less { IfOk result (λ some. some ≡ true → left run.new.round < left run.old.round) }
@@ -434,12 +261,15 @@ fn step_round<C: Carrier>(
       last = lane.new.last;
     } }
 {
+    events_are_kept();
+    rounds_hear();
+    rounds_send();
     let Some(message) = run.round.send(lane.alloc)? else {
         return Ok(false);
     };
-    let body = message.body.noted(lane.alloc)?;
-    lane.room_for_message(message.receiver)?;
-    send_round(lane, carrier, run, message, body);
+    let node = message.receiver;
+    let reply = lane.exchange(message, None, carrier)?;
+    tell_back(run, node, reply);
     Ok(true)
 }
 
@@ -455,12 +285,13 @@ fn send_all<C: Carrier>(
     requires spare { HasRoom 0 lane.old }
     requires runs { IsRunning lane.old.lane (journal_of lane.old) run.old }
     requires told { run.old.round.awaited ≡ None }
-    requires numbered { lane.old.last ≡ length (C.given carrier.old) }
+    requires carried { IsCarriedBy lane.old (C.given carrier.old) }
     ensures planned { C.planned carrier.new ≡ C.planned carrier.old }
     ensures kind { C.takes_plans carrier.new ≡ C.takes_plans carrier.old }
     ensures keeps { IsKept lane.new }
     ensures took { NodesOn lane.old lane.new }
     ensures spare { HasRoom 0 lane.new }
+    ensures carried { IsCarriedBy lane.new (C.given carrier.new) }
     ensures cut { IsCutOff lane.old.lane (journal_of lane.new) run.new }
     ensures runs { OnOk result (IsRunning lane.old.lane (journal_of lane.new) run.new) }
     ensures over { OnOk result (IsOver run.new.round) }
@@ -683,7 +514,6 @@ pub fn run_round<C: Carrier>(
     } }
     ensures parts { vec_len lane.new.parts ≡ vec_len lane.old.parts }
 {
-    late_messages_wait();
     owners_act();
     let spare = lane.spare;
     lane.spare = spare + 1;

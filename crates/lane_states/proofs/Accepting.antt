@@ -5,6 +5,9 @@ use Rattle.bucket_ids.specs.Buckets.{Low}
 use Rattle.cluster_states.specs.declared.cluster_state.ClusterState.{ClusterState}
 use Rattle.proof_basics.proofs.Lists.{all_map}
 use Rattle.bucket_db.specs.declared.row.Row.{Row}
+use Rattle.bucket_db.specs.Rows.{Rows}
+use Rattle.messages.specs.declared.reply.Reply.{Reply}
+use Rattle.messages.specs.declared.reply.Reply.TheVariants as reply
 use Rattle.distributor_part.specs.declared.rules.Rules.{Rules}
 use Rattle.distributor_part.specs.Parts.{Part, rows_of, version_of, new_part}
 use Rattle.lane_journals.specs.Events.{Event}
@@ -14,8 +17,8 @@ use Rattle.lane_journals.specs.Meanings.{history, meaning}
 use Rattle.lane_journals.specs.declared.event.LaneEvent.{LaneEvent}
 use Rattle.lane_journals.proofs.Basics.{sent-stays, Accepted-stays}
 use Rattle.lane_keeping.specs.LaneKeeping.{part_in}
-use Rattle.lane_keeping.specs.Asking.{OthersStay}
-use Rattle.lane_states.specs.Accepting.{IsAccepted, IsPartAccepted, AreAccepted}
+use Rattle.lane_keeping.specs.Asking.{OthersStay, IsPartTold}
+use Rattle.lane_states.specs.Accepting.{IsAccepted, AreRowsAccepted, IsPartAccepted, AreAccepted}
 use Rattle.lane_keeping.proofs.Parts.{part-own, part-others}
 
 -- ---- one more event
@@ -70,3 +73,16 @@ module _ (H : Journal) (p q : Part) where
   -- without rows
   pub accepted-fresh : (number : ℕ) (lane : Low) (rules : Rules) (state : Option ClusterState) → q ≡ new_part number lane rules state → IsPartAccepted H q
   accepted-fresh number lane rules state is = subst (IsPartAccepted H) (sym is) tt
+
+  -- the state and the rows are the same
+  pub accepted-alike : q.state ≡ p.state → q.rows ≡ p.rows → IsPartAccepted H p → IsPartAccepted H q
+  accepted-alike state rows h =
+      subst (λ (o : Option ClusterState). AreRowsAccepted (version_of o) H (rows_of q.rows)) (sym state)
+      (subst (λ (o : Option Rows). AreRowsAccepted (version_of p.state) H (rows_of o)) (sym rows) h)
+
+  pub accepted-told : (node : ℕ) (r : Reply) → IsPartTold p q node r → IsPartAccepted H p → IsPartAccepted H q
+  accepted-told node (reply.Answer pieces entries) t = accepted-alike (t.alike).state_is (t.alike).rows_are
+  accepted-told node (reply.Newer v) t = accepted-alike (t.alike).state_is (t.alike).rows_are
+  accepted-told node reply.NoBucket t = accepted-alike (t.alike).state_is (t.alike).rows_are
+  accepted-told node reply.Differs t = accepted-alike (t.alike).state_is (t.alike).rows_are
+  accepted-told node reply.NoMemory t = accepted-alike (t.alike).state_is (t.alike).rows_are

@@ -13,7 +13,7 @@ use Rattle.node_sets.specs.Members.{has_node}
 use Rattle.lane_journals.specs.Readers.{stopped}
 use Rattle.lane_journals.specs.Meanings.{history}
 use Rattle.lane_journals.specs.declared.event.LaneEvent.{LaneEvent}
-use Rattle.lane_journals.specs.declared.event.LaneEvent.TheVariants.{Sent, Delivered, Returned}
+use Rattle.lane_journals.specs.declared.event.LaneEvent.TheVariants.{Sent, Delivered}
 use Rattle.lane_keeping.specs.Flights.{IsInFlight}
 use Rattle.lane_keeping.proofs.Flying.{flight-stays}
 use Rattle.lane_keeping.specs.NodeKeeping.{NodeKeeps}
@@ -64,10 +64,6 @@ module _ {lane : Low} {rules : Rules} {J : List LaneEvent} {newest : Option Clus
   -- a node took a message
   pub kept_taken : {n : ℕ} {r : NotedReply} {nodes2 : List Node} → length nodes ≤ length nodes2 → Keeps lane rules (Delivered n r ∷ J) newest last nodes2 parts → IsKeptBy lane rules (Delivered n r ∷ J) newest last nodes2 parts late stops
   kept_taken {n} {r} {nodes2} more keeps = record { small = k.small; keeps = keeps; coming = coming-stays J (Delivered n r) nodes2 late (still-coming J nodes nodes2 late more k.coming); counted = (let le = k.counted in omega arith); stops_are = k.stops_are; accepted = accepted-stays lane rules J (Delivered n r) parts k.accepted }
-
-  -- and its reply was returned and told
-  pub kept_back : {n i : ℕ} {r : NotedReply} {nodes2 : List Node} {parts2 : List Part} → length nodes ≤ length nodes2 → Keeps lane rules (Returned i ∷ Delivered n r ∷ J) newest last nodes2 parts2 → AreAccepted lane rules J parts2 → IsKeptBy lane rules (Returned i ∷ Delivered n r ∷ J) newest last nodes2 parts2 late stops
-  kept_back {n} {i} {r} {nodes2} {parts2} more keeps accepted = record { small = k.small; keeps = keeps; coming = coming-stays (Delivered n r ∷ J) (Returned i) nodes2 late (coming-stays J (Delivered n r) nodes2 late (still-coming J nodes nodes2 late more k.coming)); counted = (let le = k.counted in omega arith); stops_are = k.stops_are; accepted = accepted-stays lane rules (Delivered n r ∷ J) (Returned i) parts2 (accepted-stays lane rules J (Delivered n r) parts2 accepted) }
 
   -- a message is sent
   pub kept_sent : {n v d to : ℕ} {body : NotedBody} → Keeps lane rules (Sent n v d to body ∷ J) newest (last + 1) nodes parts → IsKeptBy lane rules (Sent n v d to body ∷ J) newest (last + 1) nodes parts late stops

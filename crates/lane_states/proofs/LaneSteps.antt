@@ -1,18 +1,15 @@
 -- The events and the nodes of a lane, as lists.
-use Rattle.std.proofs.Common.{◌≡◌, ℕ, ◌<◌, ◌-◌, ◌^◌, List, [], ◌∷◌, ◌++◌, length, slice_set, get_or, refl, sym, ap, subst}
+use Rattle.std.proofs.Common.{◌≡◌, ℕ, ◌<◌, ◌-◌, ◌^◌, List, [], ◌∷◌, ◌++◌, length, slice_set, get_or, refl, sym, subst}
 use Rattle.std.proofs.lemmas.List.{reverse-append, length-reverse}
 use Rattle.messages.specs.declared.message.Message.{Message}
 use Rattle.messages.specs.declared.body.Body.{Body}
 use Rattle.messages.specs.declared.body.Body.TheVariants as body
 use Rattle.messages.specs.declared.noted.NotedBody.TheVariants as noted
 use Rattle.messages.specs.declared.reply.Reply.{Reply}
-use Rattle.messages.specs.Noting.{noted_body}
 use Rattle.service_layer.specs.Nodes.{Node, new_node}
 use Rattle.service_layer.specs.Takes.{Takes, HasRoom}
 use Rattle.lane_journals.specs.KeptJournals.{past}
 use Rattle.lane_journals.specs.declared.event.LaneEvent.{LaneEvent}
-use Rattle.lane_journals.specs.declared.event.LaneEvent.TheVariants.{Sent}
-use Rattle.lane_keeping.specs.Replaying.{sending}
 use Rattle.proof_basics.proofs.Lists.{set-own, set-other}
 use Rattle.lane_states.proofs.Places.{default-any}
 use Rattle.lane_keeping.specs.LaneKeeping.{node_in}
@@ -29,9 +26,6 @@ past-length events = length-reverse events
 pub past-nil : past [] ≡ []
 unfolding past
 past-nil = refl
-
-pub sending-ask : (number : ℕ) (m : Message) → m.body ≡ body.Ask → Sent number m.version m.sender m.receiver noted.Ask ≡ sending number m
-sending-ask number m e = ap (λ (b : Body). Sent number m.version m.sender m.receiver (noted_body b)) (sym e)
 
 -- the receiver takes the message in its place
 pub taken-at : (xs : List Node) (m : Message) (x y : Node) (r : Reply) → m.receiver < length xs → x ≡ get_or xs m.receiver x → Takes x m y r → IsTakenBy xs (slice_set xs m.receiver y) m r

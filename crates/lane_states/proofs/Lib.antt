@@ -1,14 +1,15 @@
 -- Shared: other crates cite these.
 pub mod Accepting
+pub mod Exchanging
 pub mod Going
 pub mod Hearings
 pub mod Kept
 pub mod LaneSteps
 pub mod NodeSpans
 pub mod Places
-pub mod Replied
 pub mod SameStates
 pub mod Tellings
+pub mod TellingBack
 -- Of this crate alone.
 mod Dues
 mod KnownOwners

@@ -1,5 +1,5 @@
 -- A message that says something of a row comes back, and that it did stays known.
-use Rattle.std.proofs.Common.{◌≡◌, ◌+◌, ℕ, Bool, true, false, cond, eqb, eq-eqb, List, ◌∷◌, Option, Some, None, IfSome, IfNone, refl, sym, ap, subst, ◌∙◌}
+use Rattle.std.proofs.Common.{◌≡◌, ◌+◌, ℕ, Bool, true, false, cond, eqb, eq-eqb, List, ◌∷◌, Option, Some, None, IfSome, IfNone, refl, ap, ◌∙◌}
 use Rattle.carriers.specs.declared.fate.Fate.{Fate}
 use Rattle.messages.specs.Noting.{noted_reply}
 use Rattle.messages.specs.declared.body.Body.{Body}
@@ -13,7 +13,6 @@ use Rattle.lane_journals.specs.declared.event.LaneEvent.{LaneEvent}
 use Rattle.lane_journals.specs.declared.event.LaneEvent.TheVariants.{Delivered, Returned}
 use Rattle.lane_journals.proofs.Basics.{sent-stays, first_reply-stays, returned-stays}
 use Rattle.lane_keeping.specs.Replaying.{sending, delivered}
-use Rattle.lane_carriage.specs.Carriage.{AreDelivered}
 use Rattle.lane_carriage.specs.Waits.{numbers}
 use Rattle.lane_keeping.specs.Asking.{IsJustSent}
 use Rattle.lane_keeping.specs.Laws.{IsNoAsk}
@@ -21,7 +20,8 @@ use Rattle.lane_states.specs.declared.lane_state.LaneState.{LaneState}
 use Rattle.lane_carriage.specs.Carrying.{met_at}
 use Rattle.lane_states.specs.LaneStates.{journal_of, Went}
 use Rattle.lane_states.specs.Tellings.{IsRowBody, IsAnsweredBy, IsFirstReply}
-use Rattle.lane_carriage.proofs.GivenOut.{over-all}
+use Rattle.lane_states.specs.Exchanging.{Exchanged}
+use Rattle.lane_states.proofs.Exchanging.{over-deliveries}
 use Rattle.lane_carriage.proofs.Staying.{IsOfMessage, stays-delivered, stays-dealt}
 
 pub row-no-ask : (b : Body) → IsRowBody b → IsNoAsk b
@@ -37,8 +37,8 @@ row-no-ask (body.Activate b) h = tt
 
 -- ---- it comes back
 
-pub came-back : (J K : List LaneEvent) (number : ℕ) (m : Message) (r : Reply) → IsJustSent J number m → K ≡ Returned number ∷ delivered number r ∷ J → IsAnsweredBy K m.version m.receiver m.body r
-came-back J K number m r just is = subst (λ (X : List LaneEvent). IsAnsweredBy X m.version m.receiver m.body r) (sym is) (record {
+came-back : (J : List LaneEvent) (number : ℕ) (m : Message) (r : Reply) → IsJustSent J number m → IsAnsweredBy (Returned number ∷ delivered number r ∷ J) m.version m.receiver m.body r
+came-back J number m r just = record {
   number = number;
   message = (just.flight).sending;
   was_sent = was;
@@ -48,7 +48,7 @@ came-back J K number m r just is = subst (λ (X : List LaneEvent). IsAnsweredBy 
   before = J;
   replied = first;
   back = back;
-})
+}
   where
     was : sent number (history (Returned number ∷ delivered number r ∷ J)) ≡ Some (just.flight).sending
     was = (just.flight).was_sent
@@ -61,7 +61,7 @@ came-back J K number m r just is = subst (λ (X : List LaneEvent). IsAnsweredBy 
         ∙ ap (λ (t : Bool). only_if t (meaning_reply J (noted_reply r))) (eq-eqb number number refl)
 
 -- it stays known
-pub came-stays : (v node : ℕ) (b : Body) (r : Reply) (e : LaneEvent) (J : List LaneEvent) → IsAnsweredBy J v node b r → IsAnsweredBy (e ∷ J) v node b r
+came-stays : (v node : ℕ) (b : Body) (r : Reply) (e : LaneEvent) (J : List LaneEvent) → IsAnsweredBy J v node b r → IsAnsweredBy (e ∷ J) v node b r
 came-stays v node b r e J h = record {
   number = h.number;
   message = h.message;
@@ -74,14 +74,6 @@ came-stays v node b r e J h = record {
   back = returned-stays h.number (history J) (meaning J e) h.back;
 }
 
-pub came-late : (v node : ℕ) (b : Body) (r : Reply) (ns : List ℕ) (J K : List LaneEvent) → AreDelivered ns J K → IsAnsweredBy J v node b r → IsAnsweredBy K v node b r
-came-late v node b r ns J K d h = over-all (λ (X : List LaneEvent). IsAnsweredBy X v node b r) (λ n y X x. came-stays v node b r (Delivered n y) X x) ns J K d h
-
--- ---- it doesn't
-
-pub silent-late : (number : ℕ) (ns : List ℕ) (J K : List LaneEvent) → AreDelivered ns J K → returned number (history J) ≡ false → returned number (history K) ≡ false
-silent-late number ns J K d h = over-all (λ (X : List LaneEvent). returned number (history X) ≡ false) (λ n y X x. x) ns J K d h
-
 -- ---- what stays over the events of messages stays over all events of one
 
 pub stays-went : (P : List LaneEvent → Type 0) → ((e : LaneEvent) (J : List LaneEvent) → IsOfMessage e → P J → P (e ∷ J)) → (c e : LaneState) (m : Message) (given now : List Fate) → Went c e m given now → P (journal_of c) → P (journal_of e)
@@ -89,28 +81,32 @@ stays-went P stays c e m given now w p =
     stays-delivered P stays (numbers (w.late).taken) w.between (journal_of e) (w.late).delivered
     (stays-dealt P stays (met_at (journal_of c) m w.fate) (c.last + 1) (sending (c.last + 1) m ∷ journal_of c) w.between w.dealt (stays (sending (c.last + 1) m) (journal_of c) tt p))
 
--- ---- whether it did or not
-
-pub some-late : (v node : ℕ) (b : Body) (o : Option Reply) (ns : List ℕ) (J K : List LaneEvent) → AreDelivered ns J K → IfSome o (IsAnsweredBy J v node b) → IfSome o (IsAnsweredBy K v node b)
-some-late v node b None ns J K d h = tt
-some-late v node b (Some r) ns J K d h = came-late v node b r ns J K d h
-
-pub none-late : (o : Option Reply) (n k : ℕ) (ns : List ℕ) (J K : List LaneEvent) → n ≡ k → AreDelivered ns J K → IfNone o (returned n (history J) ≡ false) → IfNone o (returned k (history K) ≡ false)
-none-late None n k ns J K e d h = silent-late k ns J K d (subst (λ (i : ℕ). returned i (history J) ≡ false) e h)
-none-late (Some r) n k ns J K e d h = tt
-
 -- ---- which reply it is
 
-pub first-back : (J K : List LaneEvent) (number : ℕ) (m : Message) (r : Reply) → IsJustSent J number m → K ≡ Returned number ∷ delivered number r ∷ J → IsFirstReply K number r
-first-back J K number m r just is = subst (λ (X : List LaneEvent). IsFirstReply X number r) (sym is) (record {
+first-back : (J : List LaneEvent) (number : ℕ) (m : Message) (r : Reply) → IsJustSent J number m → IsFirstReply (Returned number ∷ delivered number r ∷ J) number r
+first-back J number m r just = record {
   before = J;
   is = ap (λ (o : Option plain.Reply). or_else o (only_if (eqb number number) (meaning_reply J (noted_reply r)))) just.unreplied
       ∙ ap (λ (t : Bool). only_if t (meaning_reply J (noted_reply r))) (eq-eqb number number refl);
-})
+}
 
-pub first-stays : (number : ℕ) (r : Reply) (e : LaneEvent) (J : List LaneEvent) → IsFirstReply J number r → IsFirstReply (e ∷ J) number r
+first-stays : (number : ℕ) (r : Reply) (e : LaneEvent) (J : List LaneEvent) → IsFirstReply J number r → IsFirstReply (e ∷ J) number r
 first-stays number r e J h = record { before = h.before; is = first_reply-stays number (history J) (meaning_reply h.before (noted_reply r)) (meaning J e) h.is }
 
-pub first-late : (o : Option Reply) (n k : ℕ) (ns : List ℕ) (J K : List LaneEvent) → n ≡ k → AreDelivered ns J K → IfSome o (IsFirstReply J n) → IfSome o (IsFirstReply K k)
-first-late None n k ns J K e d h = tt
-first-late (Some r) n k ns J K e d h = over-all (λ (X : List LaneEvent). IsFirstReply X k r) (λ i y X x. first-stays k r (Delivered i y) X x) ns J K d (subst (λ (i : ℕ). IsFirstReply J i r) e h)
+-- ---- an exchange
+
+module _ (c e : LaneState) (m : Message) (given now : List Fate) where
+  -- its reply came, or not
+  pub answered-by : (o : Option Reply) → Exchanged c e m given now o → IfSome o (IsAnsweredBy (journal_of e) m.version m.receiver m.body)
+  answered-by None h = tt
+  answered-by (Some r) h = over-deliveries (λ (X : List LaneEvent). IsAnsweredBy X m.version m.receiver m.body r) (λ n y X x. came-stays m.version m.receiver m.body r (Delivered n y) X x) _ (journal_of e) h.brought.delivers
+      (came-back (sending (c.last + 1) m ∷ journal_of c) (c.last + 1) m r h.sent.just)
+
+  pub first-by : (o : Option Reply) → Exchanged c e m given now o → IfSome o (IsFirstReply (journal_of e) (c.last + 1))
+  first-by None h = tt
+  first-by (Some r) h = over-deliveries (λ (X : List LaneEvent). IsFirstReply X (c.last + 1) r) (λ n y X x. first-stays (c.last + 1) r (Delivered n y) X x) _ (journal_of e) h.brought.delivers
+      (first-back (sending (c.last + 1) m ∷ journal_of c) (c.last + 1) m r h.sent.just)
+
+  pub silent-by : (o : Option Reply) → Exchanged c e m given now o → IfNone o (returned (c.last + 1) (history (journal_of e)) ≡ false)
+  silent-by None h = over-deliveries (λ (X : List LaneEvent). returned (c.last + 1) (history X) ≡ false) (λ n y X x. x) (sending (c.last + 1) m ∷ journal_of c) (journal_of e) h.brought h.sent.just.unreturned
+  silent-by (Some r) h = tt

@@ -59,8 +59,20 @@ pub record IsKeptBy (lane : Low) (rules : Rules) (J : List LaneEvent) (newest : 
   pub stops_are : AreStopped (λ n. stopped n (history J)) stops
   pub accepted : AreAccepted lane rules J parts
 
+-- with these parts in the place of its own, and with its own
+abbrev pub IsKeptWith : List Part → LaneState → Type 0
+IsKeptWith parts c = IsKeptBy c.lane c.rules (journal_of c) c.newest c.last c.nodes.items parts c.late.late c.stopped
+
 abbrev pub IsKept : LaneState → Type 0
-IsKept c = IsKeptBy c.lane c.rules (journal_of c) c.newest c.last c.nodes.items c.parts.items c.late.late c.stopped
+IsKept c = IsKeptWith c.parts.items c
+
+-- with some parts
+abbrev pub IsKeptWithSome : LaneState → Type 0
+IsKeptWithSome c = (parts : List Part) × IsKeptWith parts c
+
+-- with whatever parts it was kept, it still is
+abbrev pub StaysKept : LaneState → LaneState → Type 0
+StaysKept c e = (parts : List Part) → IsKeptWith parts c → IsKeptWith parts e
 
 -- the node runs
 abbrev pub Receives : LaneState → ℕ → Type 0

@@ -5,6 +5,7 @@ pub mod LaneStates
 pub mod Growing
 pub mod Written
 pub mod Tellings
+pub mod Exchanging
 pub mod KnownOwners
 pub mod Accepting
 pub mod Shortages

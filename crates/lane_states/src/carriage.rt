@@ -1,4 +1,4 @@
-ghost use Rattle.std.specs.Prelude.{◌≡◌, ◌≤◌, ◌<◌, ◌+◌, ◌∷◌, ℕ, true, false, OnOk, OnErr, IfSome, length, vec_len, vec_capacity};
+ghost use Rattle.std.specs.Prelude.{◌≡◌, ◌≤◌, ◌<◌, ◌+◌, ◌∷◌, ℕ, true, false, OnOk, IfSome, length, vec_len, vec_capacity};
 ghost use Rattle.messages.specs.Noting.{noted_body};
 ghost use Rattle.service_layer.specs.Takes.{IsKeyOf};
 ghost use Rattle.messages.specs.Waiting.{NoneIsDue, AreSentBefore};
@@ -11,7 +11,7 @@ ghost use Rattle.lane_keeping.specs.Flights.{Brings, IsWhole, IsInFlight};
 ghost use Rattle.lane_keeping.specs.Replaying.{sending, delivered};
 ghost use Rattle.lane_keeping.specs.LaneKeeping.{setting_of, node_in};
 ghost use Rattle.lane_keeping.specs.Asking.{IsJustSent, IsTakenBy};
-ghost use Rattle.lane_states.specs.LaneStates.{journal_of, IsKept, IsComing, HasRoom, Receives, NodesOn};
+ghost use Rattle.lane_states.specs.LaneStates.{journal_of, IsKept, IsKeptWithSome, StaysKept, IsComing, HasRoom, Receives, NodesOn};
 ghost use Rattle.lane_states.specs.Growing.{DeliversOne};
 ghost use Rattle.lane_carriage.specs.Carrying.{DeliversSome};
 
@@ -25,7 +25,7 @@ use value_lists::NoMemory;
 
 impl LaneState {
     /// Notes that a message is sent with the next number.
-    pub fn send_message(&mut self, message: &Message, body: NotedBody)
+    pub(crate) fn send_message(&mut self, message: &Message, body: NotedBody)
         requires keeps { IsKept self.old }
         requires legal { IsLegalStep (setting_of self.old.lane self.old.rules) (journal_of self.old)
             (sending (self.old.last + 1) message.now) }
@@ -57,14 +57,14 @@ impl LaneState {
 
     /// Delivers a message that is on its way to a node that runs, and notes the reply. The key of the
     /// document that the message names may be known, so that nothing is digested.
-    pub fn deliver(&mut self, number: u64, key: Option<u64>, message: &Message) -> Reply
-        requires keeps { IsKept self.old }
+    pub(crate) fn deliver(&mut self, number: u64, key: Option<u64>, message: &Message) -> Reply
+        requires keeps { IsKeptWithSome self.old }
         requires flight { IsInFlight (journal_of self.old) number message.now }
         requires receives { Receives self.old message.now.receiver }
         requires key { IfSome key (IsKeyOf message.now.body) }
         requires there { message.now.receiver < vec_len self.old.nodes }
         requires room { vec_len self.old.journal + 1 ≤ vec_capacity self.old.journal }
-        ensures keeps { IsKept self.new }
+        ensures keeps { StaysKept self.old self.new }
         ensures took { NodesOn self.old self.new }
         ensures taken { IsTakenBy self.old.nodes.items self.new.nodes.items message.now result }
         ensures grows { journal_of self.new ≡ delivered number result ∷ journal_of self.old }
@@ -88,7 +88,7 @@ impl LaneState {
 
     /// Makes room for a message to a node: for its own events and those of the late messages that may fall due
     /// with it, for its node, and for one more late message.
-    pub fn room_for_message(&mut self, node: u8) -> Result<(), NoMemory>
+    pub(crate) fn room_for_message(&mut self, node: u8) -> Result<(), NoMemory>
         requires keeps { IsKept self.old }
         requires spare { HasRoom 0 self.old }
         ensures keeps { IsKept self.new }
@@ -109,7 +109,7 @@ impl LaneState {
     }
 
     /// Keeps the message that was sent last, to be delivered after so many further ones.
-    pub fn keep_late(&mut self, later: u32, message: Message)
+    pub(crate) fn keep_late(&mut self, later: u32, message: Message)
         requires keeps { IsKept self.old }
         requires flight { IsInFlight (journal_of self.old) self.old.last message }
         requires there { message.receiver < vec_len self.old.nodes }
@@ -128,9 +128,9 @@ impl LaneState {
     /// Takes the first late message out, if it is due, and gives it out: it is delivered, or lost where its receiver is
     /// stopped.
     fn deliver_first(&mut self) -> bool
-        requires keeps { IsKept self.old }
+        requires keeps { IsKeptWithSome self.old }
         requires room { vec_len self.old.journal + length self.old.late.late ≤ vec_capacity self.old.journal }
-        ensures keeps { IsKept self.new }
+        ensures keeps { StaysKept self.old self.new }
         ensures took { NodesOn self.old self.new }
         ensures some { result ≡ true → DeliversOne self.old.last self.old.late.late self.new.late.late
             (journal_of self.old) (journal_of self.new) }
@@ -153,10 +153,10 @@ impl LaneState {
 
     /// Delivers a late message that is due, or loses it where its receiver is stopped.
     fn give_out(&mut self, late: &Late)
-        requires keeps { IsKept self.old }
+        requires keeps { IsKeptWithSome self.old }
         requires coming { IsComing (journal_of self.old) self.old.nodes.items late.now }
         requires room { vec_len self.old.journal + 1 ≤ vec_capacity self.old.journal }
-        ensures keeps { IsKept self.new }
+        ensures keeps { StaysKept self.old self.new }
         ensures took { NodesOn self.old self.new }
         ensures given_out { IsGivenOut (is_cut_off late.now.number (journal_of self.old)) late.now.number
             (journal_of self.old) (journal_of self.new) }
@@ -171,10 +171,10 @@ impl LaneState {
     }
 
     /// Gives out the late messages that are due, in their order.
-    pub fn deliver_due(&mut self)
-        requires keeps { IsKept self.old }
+    pub(crate) fn deliver_due(&mut self)
+        requires keeps { IsKeptWithSome self.old }
         requires room { vec_len self.old.journal + length self.old.late.late ≤ vec_capacity self.old.journal }
-        ensures keeps { IsKept self.new }
+        ensures keeps { StaysKept self.old self.new }
         ensures took { NodesOn self.old self.new }
         ensures due { DeliversSome self.old.last self.old.late.late self.new.late.late
             (journal_of self.old) (journal_of self.new) }

@@ -1,22 +1,20 @@
-ghost use Rattle.std.specs.Prelude.{◌≡◌, ◌≤◌, ◌<◌, ◌+◌, ◌-◌, ◌^◌, ◌∷◌, [], None, Some, OnOk, vec_len, vec_capacity};
+ghost use Rattle.std.specs.Prelude.{◌≡◌, ◌≤◌, ◌+◌, ◌∷◌, [], None, Some, OnOk, vec_len, vec_capacity};
 ghost use Rattle.cluster_states.specs.Publishing.{publish_fault};
 ghost use Rattle.lane_journals.specs.Places.{told};
 ghost use Rattle.lane_journals.specs.KeptJournals.{past, IsLegalStep};
 ghost use Rattle.lane_journals.specs.declared.event.LaneEvent.TheVariants as event;
-ghost use Rattle.lane_keeping.specs.Replaying.{sending};
 ghost use Rattle.lane_keeping.specs.LaneKeeping.{setting_of};
 ghost use Rattle.lane_keeping.specs.Laws.{IsQuietEvent};
 ghost use Rattle.lane_keeping.specs.Tidings.{IsNoStop};
-ghost use Rattle.lane_states.specs.LaneStates.{journal_of, IsKept, Asks};
-ghost use Rattle.lane_keeping.specs.Asking.{IsJustSent};
+ghost use Rattle.lane_states.specs.LaneStates.{journal_of, IsKept};
 
 use bucket_ids::Bucket;
 use cluster_states::ClusterState;
 use distributor_part::{DistributorPart, Rules};
 use lane_journals::LaneEvent;
 use lane_journals::laws::states_are_published;
-use lane_keeping::laws::{asks_are_kept, events_are_kept, lanes_begin, states_are_kept};
-use messages::{LateList, Message, NotedBody};
+use lane_keeping::laws::{events_are_kept, lanes_begin, states_are_kept};
+use messages::LateList;
 use node_sets::NodeSet;
 use service_layer::NodePart;
 use std::alloc::Global;
@@ -118,32 +116,6 @@ impl LaneState {
         self.newest = Some(*state);
     }
 
-    /// Notes that the Ask of a distributor is sent.
-    pub fn send(&mut self, distributor: u8, message: &Message)
-        requires keeps { IsKept self.old }
-        requires asks { Asks self.old distributor message.now }
-        requires few { self.old.last < 2 ^ 64 - 1 }
-        requires room { vec_len self.old.journal + 1 ≤ vec_capacity self.old.journal }
-        ensures keeps { IsKept self.new }
-        ensures grows { journal_of self.new ≡ sending (self.old.last + 1) message.now ∷ journal_of self.old }
-        ensures sent { IsJustSent (journal_of self.new) (self.old.last + 1) message.now }
-        ensures after { self.new ≡ record self.old { journal = self.new.journal; last = self.old.last + 1 } }
-        ensures len { vec_len self.new.journal ≡ vec_len self.old.journal + 1 }
-        ensures capacity { vec_capacity self.old.journal ≤ vec_capacity self.new.journal }
-    {
-        asks_are_kept();
-        self.last += 1;
-        push_within(
-            &mut self.journal,
-            LaneEvent::Sent {
-                number: self.last,
-                version: message.version,
-                sender: message.sender,
-                receiver: message.receiver,
-                body: NotedBody::Ask,
-            },
-        );
-    }
     /// Notes an event that leaves nodes and parts as they are, and by which no node stops or starts.
     pub fn note(&mut self, event: LaneEvent)
         requires keeps { IsKept self.old }

@@ -8,8 +8,8 @@
 //!
 //! Each call says by which events the journal grows. A distributor hears the newest state (`parts`). Nodes stop and
 //! start (`stopping`); a message to a stopped node is not delivered. A message is delivered, or kept and delivered
-//! when it falls due (`carriage`); one that says something of a row is sent and dealt with by the fate that the
-//! carrier gives (`saying`). What an owner does in several messages stands above: openings and rounds in
+//! when it falls due (`carriage`). It is sent, dealt with by the fate that the carrier gives, and its reply is handed
+//! back in one place (`exchange`). What an owner does in several messages stands above: openings and rounds in
 //! `lane_rounds`, the operation of a line in `lane_lines`.
 //!
 //! ```text
@@ -17,16 +17,16 @@
 //! lane.room()?;
 //! lane.publish(&state);                   // Published { .. }
 //! lane.hear(distributor)?;                // Heard { .. }
-//! lane.tell(message, &mut carrier)?;      // Sent { .. }, Delivered { .. }, Returned { .. }
+//! lane.exchange(message, None, &mut carrier)?;    // Sent { .. }, Delivered { .. }, Returned { .. }
 //! ```
 #![tactic(auto)]
 
 pub mod at_shortage;
 pub mod carriage;
+pub mod exchange;
 pub mod known_owner;
 pub mod lane_state;
 pub mod parts;
-pub mod saying;
 pub mod shown;
 pub mod stopping;
 pub mod written;

@@ -5,7 +5,7 @@ ghost use Rattle.lane_journals.specs.declared.event.LaneEvent.TheVariants as eve
 ghost use Rattle.lane_carriage.specs.Carriage.{met};
 ghost use Rattle.lane_carriage.specs.Readers.{IsPrompt};
 ghost use Rattle.lane_keeping.specs.Tidings.{stopped_next, started_next};
-ghost use Rattle.lane_states.specs.LaneStates.{journal_of, IsKept, AreResting, Receives};
+ghost use Rattle.lane_states.specs.LaneStates.{journal_of, IsKept, AreStopped, AreResting, Receives};
 
 use crate::lane_state::{LaneState, push_within};
 use carriers::Fate;
@@ -30,7 +30,7 @@ fn met(stopped: bool, fate: Fate) -> Fate
 impl LaneState {
     /// Whether a node is stopped.
     pub fn is_stopped(&self, node: u8) -> bool
-        requires keeps { IsKept self.now }
+        requires stops { AreStopped (λ n. stopped n (history (journal_of self.now))) self.now.stopped }
         ensures stopped { result ≡ stopped node (history (journal_of self.now)) }
         ensures receives { result ≡ false → Receives self.now node }
     {
@@ -38,7 +38,7 @@ impl LaneState {
     }
 
     /// What becomes of a message to a node by its fate: nothing is delivered to one that is stopped.
-    pub fn met(&self, receiver: u8, fate: Fate) -> Fate
+    pub(crate) fn met(&self, receiver: u8, fate: Fate) -> Fate
         requires keeps { IsKept self.now }
         ensures fate { result ≡ met (stopped receiver (history (journal_of self.now))) fate }
         ensures receives { IsPrompt result → Receives self.now receiver }

@@ -83,6 +83,6 @@ pub fn tell_node<C: Carrier>(
     late_messages_wait();
     undisturbed_tellings_are_told();
     let message = message_to(lane.lane, owner, node, body);
-    let reply = lane.tell(message, carrier)?;
+    let reply = lane.exchange(message, None, carrier)?;
     unless_short(reply)
 }

@@ -1,94 +1,84 @@
-use Rattle.std.proofs.Common.{◌≡◌, ◌∙◌, ◌+◌, ◌∷◌, ℕ, List, length, ap, refl, sym, subst, arith}
-use Rattle.messages.specs.Waiting.{AreSentBefore}
-use Rattle.messages.specs.declared.late.Late.{Late}
+use Rattle.std.proofs.Common.{rules, ◌≡◌, ◌<◌, ◌+◌, ◌∷◌, inr, length, Some, refl, sym, subst}
+use Rattle.messages.specs.declared.body.Body.{Body}
+use Rattle.distributor_part.specs.Parts.{Part}
+use Rattle.lane_journals.specs.Meanings.{entry_at}
+use Rattle.lane_keeping.specs.Flights.{Brings, IsWhole}
 use Rattle.lane_keeping.specs.Replaying.{sending}
+use Rattle.lane_keeping.specs.LaneKeeping.{part_in}
+use Rattle.lane_keeping.proofs.Parts.{part-others}
 use Rattle.lane_states.specs.declared.lane_state.LaneState.{LaneState}
 use Rattle.lane_states.specs.LaneStates.{journal_of}
-use Rattle.lane_states.proofs.Kept.{sent-before}
-use Rattle.lane_states.proofs.LaneSteps.{past-length}
-use Rattle.lane_carriage.specs.Waits.{numbers}
-use Rattle.lane_states.specs.Growing.{IsSettled}
-use Rattle.lane_rounds.proofs.Settled.{settled-delivered}
-use Rattle.lane_states.proofs.Going.{IsSentIn, went-by, went-carried}
-use Rattle.lane_rounds.proofs.Going.{stays-carried}
-use Rattle.lane_states.proofs.NodeSpans.{on-same, on-event, on-then}
-use Rattle.lane_keeping.specs.LaneKeeping.{node_in}
+use Rattle.lane_states.proofs.Places.{part-at}
+use Rattle.lane_rounds.proofs.AskExchanges.{settled-came, heard-came, others-came, kept-came, went-told}
+use Rattle.lane_rounds.proofs.Telling.{awaited-at}
 use Rattle.lane_rounds.proofs.opening.ask.Goals as goal
 
-pub send-requires-clause-few : goal.send-requires-clause-few
-send-requires-clause-few g c =
-    let a = c.room_for_message.new.self in
-    let same : length (journal_of a) ≡ length a.journal.items = past-length a.journal.items in
-    omega (arith, same, a.journal.ok.0, a.journal.small, c.in_ok-room_for_message.ensures.keeps.counted)
+pub exchange-requires-clause-may : goal.exchange-requires-clause-may
+exchange-requires-clause-may g c =
+    let x = c.args.lane.now in
+    let d = c.args.distributor in
+    let m = c.args.message in
+    let a = c.requires.asks in
+    let within : d < length x.parts.items = search rules in
+    record {
+      legal = (c.asks_are_kept.ensures.sent _ _ _ _ _ _ _ c.requires.keeps.keeps d m a).legal;
+      brings = subst (λ (b : Body). Brings (λ t. entry_at t (journal_of x)) b) (sym a.body_is) tt;
+      whole = subst (λ (b : Body). IsWhole b) (sym a.body_is) (record { bucket = tt; inside = tt });
+      asker = inr (record { distributor = d; asks = a; there = within; small = c.requires.small });
+    }
 
-pub deal_ask-short-requires-clause-before : goal.deal_ask-short-requires-clause-before
-deal_ask-short-requires-clause-before g c =
-    let a = c.room_for_message.new.self in
-    let b = c.send.new.self in
-    subst (λ (i : ℕ). AreSentBefore i b.late.late) (sym (ap (λ (z : LaneState). z.last) c.send.ensures.after))
-    (subst (λ (late : List Late). AreSentBefore (a.last + 1) late) (sym (ap (λ (z : LaneState). z.late.late) c.send.ensures.after)) (sent-before c.in_ok-room_for_message.ensures.keeps))
+pub take_reply-requires : goal.take_reply-requires
+take_reply-requires g c =
+    let x = c.args.lane.now in
+    let e = c.exchange.new.self in
+    let d = c.args.distributor in
+    let p : Part = c.index_mut.result.now in
+    let here : d < length e.parts.items = search rules in
+    awaited-at e.lane e.rules e.parts.items d c.args.message.receiver p (part-at e.lane e.rules e.parts.items d p here (rw c.from.ensures at c.index_mut.ensures.value))
+    (subst (λ (z : LaneState). (part_in z.lane z.rules z.parts.items d).awaited ≡ Some c.args.message.receiver) (sym c.exchange.ensures.after) c.requires.awaited)
+
+pub returns-clause-keeps : goal.returns-clause-keeps
+returns-clause-keeps g c =
+    let x = c.args.lane.now in
+    let e = c.exchange.new.self in
+    let d = c.args.distributor in
+    let m = c.args.message in
+    let p : Part = c.index_mut.result.now in
+    let q : Part = c.take_reply.new.self in
+    let here : d < length e.parts.items = search rules in
+    let is : part_in e.lane e.rules e.parts.items d ≡ p = part-at e.lane e.rules e.parts.items d p here (rw c.from.ensures at c.index_mut.ensures.value) in
+    rw c.from.ensures
+    (kept-came x e m d p q here is c.exchange.ensures.after c.requires.asks
+    (λ r told. c.parts_are_told.ensures.told p q m.receiver r told) (λ told. c.parts_are_told.ensures.silent p q m.receiver told)
+    (λ keep same. c.parts_are_told.ensures.known _ _ _ _ _ _ _ keep d _ same (part-others e.lane e.rules e.parts.items d q))
+    c.in_ok-reply.reply c.in_ok-reply.ensures.keeps c.take_reply.ensures)
+
+pub returns-clause-told : goal.returns-clause-told
+returns-clause-told g c =
+    let x = c.args.lane.now in
+    let e = c.exchange.new.self in
+    let d = c.args.distributor in
+    let p : Part = c.index_mut.result.now in
+    let here : d < length e.parts.items = search rules in
+    let is : part_in e.lane e.rules e.parts.items d ≡ p = part-at e.lane e.rules e.parts.items d p here (rw c.from.ensures at c.index_mut.ensures.value) in
+    rw c.from.ensures (heard-came x e c.args.message d p c.take_reply.new.self here is c.exchange.ensures.after c.in_ok-reply.reply c.take_reply.ensures)
+
+pub returns-clause-others : goal.returns-clause-others
+returns-clause-others g c =
+    let x = c.args.lane.now in
+    let e = c.exchange.new.self in
+    let d = c.args.distributor in
+    let p : Part = c.index_mut.result.now in
+    let here : d < length e.parts.items = search rules in
+    let is : part_in e.lane e.rules e.parts.items d ≡ p = part-at e.lane e.rules e.parts.items d p here (rw c.from.ensures at c.index_mut.ensures.value) in
+    rw c.from.ensures (others-came x e c.args.message d p c.take_reply.new.self here is c.exchange.ensures.after)
 
 pub returns-clause-went : goal.returns-clause-went
-returns-clause-went g c =
-    let x = c.args.lane.now in
-    let a = c.room_for_message.new.self in
-    let b = c.send.new.self in
-    let d = c.deal_ask-short.new.lane in
-    let e = c.deliver_due.new.self in
-    let al : a.last ≡ x.last = ap (λ (z : LaneState). z.last) c.in_ok-room_for_message.ensures.after in
-    let aj : journal_of a ≡ journal_of x = rw c.in_ok-room_for_message.ensures.same refl in
-    let sent : IsSentIn x b c.args.message = record {
-      last = ap (λ (z : LaneState). z.last) c.send.ensures.after ∙ ap (λ (i : ℕ). i + 1) al;
-      journal = c.send.ensures.grows ∙ ap (λ (i : ℕ). sending (i + 1) c.args.message ∷ journal_of a) al ∙ ap (λ J. sending (x.last + 1) c.args.message ∷ J) aj;
-      late = ap (λ (z : LaneState). z.late.late) c.send.ensures.after ∙ c.in_ok-room_for_message.ensures.late;
-    } in
-    went-by c.fate-fate.result c.met-met.result x b d e c.args.message _ _ c.fate-fate.ensures.given sent c.met-met.ensures.fate c.deal_ask-short.ensures.dealt c.deal_ask-short.ensures.late
-    (ap (λ (z : LaneState). z.last) c.deal_ask-short.ensures.after) c.deliver_due.ensures.due c.deliver_due.ensures.none_left (ap (λ (z : LaneState). z.last) c.deliver_due.ensures.after)
-
-pub returns-clause-carried : goal.returns-clause-carried
-returns-clause-carried g c =
-    let x = c.args.lane.now in
-    let a = c.room_for_message.new.self in
-    let b = c.send.new.self in
-    let d = c.deal_ask-short.new.lane in
-    let e = c.deliver_due.new.self in
-    let al : a.last ≡ x.last = ap (λ (z : LaneState). z.last) c.in_ok-room_for_message.ensures.after in
-    let aj : journal_of a ≡ journal_of x = rw c.in_ok-room_for_message.ensures.same refl in
-    let sent : IsSentIn x b c.args.message = record {
-      last = ap (λ (z : LaneState). z.last) c.send.ensures.after ∙ ap (λ (i : ℕ). i + 1) al;
-      journal = c.send.ensures.grows ∙ ap (λ (i : ℕ). sending (i + 1) c.args.message ∷ journal_of a) al ∙ ap (λ J. sending (x.last + 1) c.args.message ∷ J) aj;
-      late = ap (λ (z : LaneState). z.late.late) c.send.ensures.after ∙ c.in_ok-room_for_message.ensures.late;
-    } in
-    let w = went-by c.fate-fate.result c.met-met.result x b d e c.args.message _ _ c.fate-fate.ensures.given sent c.met-met.ensures.fate c.deal_ask-short.ensures.dealt c.deal_ask-short.ensures.late
-    (ap (λ (z : LaneState). z.last) c.deal_ask-short.ensures.after) c.deliver_due.ensures.due c.deliver_due.ensures.none_left (ap (λ (z : LaneState). z.last) c.deliver_due.ensures.after) in
-    went-carried c.late_messages_wait.ensures.waiting c.late_messages_wait.ensures.taken x e c.args.message _ _ w c.requires.carried
-
-pub returns-in_err-room_for_message-clause-carried : goal.returns-in_err-room_for_message-clause-carried
-returns-in_err-room_for_message-clause-carried g c =
-    let x = c.args.lane.now in
-    let a = c.room_for_message.new.self in
-    stays-carried x a _ _ (rw c.in_err-room_for_message.ensures.same refl) c.in_err-room_for_message.ensures.late (ap (λ (z : LaneState). z.last) c.in_err-room_for_message.ensures.after) refl c.requires.carried
+returns-clause-went g c = went-told c.args.lane.now c.exchange.new.self _ c.args.message _ _ refl refl refl c.in_ok-reply.ensures.exchanged.went
 
 pub returns-clause-settled : goal.returns-clause-settled
 returns-clause-settled g c =
     let x = c.args.lane.now in
-    let b = c.send.new.self in
-    let d = c.deal_ask-short.new.lane in
-    let e = c.deliver_due.new.self in
-    let al : b.last ≡ x.last + 1 = ap (λ (z : LaneState). z.last) c.send.ensures.after ∙ ap (λ (i : ℕ). i + 1) (ap (λ (z : LaneState). z.last) c.in_ok-room_for_message.ensures.after) in
-    settled-delivered (x.last + 1) (numbers c.deliver_due.ensures.due.taken) (journal_of d) (journal_of e) c.deal_ask-short.result c.deliver_due.ensures.due.delivered
-    (subst (λ (i : ℕ). IsSettled i (journal_of d) c.deal_ask-short.result) al c.deal_ask-short.ensures.settled)
-
-pub returns-in_err-room_for_message-clause-took : goal.returns-in_err-room_for_message-clause-took
-returns-in_err-room_for_message-clause-took g c = on-same c.args.lane.now c.room_for_message.new.self (rw c.in_err-room_for_message.ensures.same refl) c.in_err-room_for_message.ensures.nodes
-
-pub returns-clause-took : goal.returns-clause-took
-returns-clause-took g c =
-    let x = c.args.lane.now in
-    let a = c.room_for_message.new.self in
-    let b = c.send.new.self in
-    let d = c.deal_ask-short.new.lane in
-    let e = c.deliver_due.new.self in
-    on-then x d e (on-then x b d (on-then x a b (on-same x a (rw c.in_ok-room_for_message.ensures.same refl) c.in_ok-room_for_message.ensures.nodes)
-    (on-event a b (sending (a.last + 1) c.args.message) tt c.send.ensures.grows (λ n. ap (λ (w : LaneState). node_in w.nodes.items n) c.send.ensures.after))) c.deal_ask-short.ensures.took)
-    c.deliver_due.ensures.took
+    let m = c.args.message in
+    let h = c.in_ok-reply.ensures.exchanged in
+    rw c.is_short-short.ensures (settled-came (x.last + 1) (sending (x.last + 1) m ∷ journal_of x) x.nodes.items m h.sent.just c.in_ok-reply.reply (journal_of c.exchange.new.self) h.brought)

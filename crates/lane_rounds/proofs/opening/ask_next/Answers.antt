@@ -4,6 +4,7 @@ use Rattle.lane_rounds.specs.declared.opening.OpeningStep.{OpeningStep}
 use Rattle.lane_states.specs.LaneStates.{journal_of, part_of}
 use Rattle.lane_states.specs.Growing.{IsSettled}
 use Rattle.lane_rounds.specs.Openings.{IsNext, IsAskNext, IsOpenedNow}
+use Rattle.lane_rounds.proofs.AskExchanges.{asked-small}
 use Rattle.lane_rounds.proofs.Going.{stays-carried, other-carried, gone-by}
 use Rattle.lane_rounds.proofs.Opened.{more-asked, opening-after}
 use Rattle.lane_states.proofs.NodeSpans.{on-same, on-then}
@@ -17,6 +18,13 @@ ask-requires-clause-carried g c =
     let y = c.opening_step.new.lane in
     let a : IsAskNext x y c.args.distributor c.in-Asks.message = subst (λ (s : OpeningStep). IsNext x y c.args.distributor s) c.in-Asks.is c.in_ok-message.ensures.next in
     stays-carried x y _ _ a.same (ap (λ (z : LaneState). z.late.late) c.in_ok-message.ensures.after) (ap (λ (z : LaneState). z.last) c.in_ok-message.ensures.after) refl c.requires.carried
+
+pub ask-requires-clause-small : goal.ask-requires-clause-small
+ask-requires-clause-small g c =
+    let x = c.args.lane.now in
+    let y = c.opening_step.new.lane in
+    let a : IsAskNext x y c.args.distributor c.in-Asks.message = subst (λ (s : OpeningStep). IsNext x y c.args.distributor s) c.in-Asks.is c.in_ok-message.ensures.next in
+    asked-small (part_of x c.args.distributor) (part_of y c.args.distributor) c.in-Asks.message a.asks
 
 pub returns-in_ok-short-in-Asks-clause-asks : goal.returns-in_ok-short-in-Asks-clause-asks
 returns-in_ok-short-in-Asks-clause-asks g c =

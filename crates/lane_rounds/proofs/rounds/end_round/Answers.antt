@@ -22,8 +22,8 @@ use Rattle.lane_keeping.proofs.Parts.{part-own, part-others}
 use Rattle.round_keeping.proofs.Refusals.{refusals-decided}
 use Rattle.round_keeping.proofs.RoundEnds.{both-at, alike-at, others-then, ended-as, over-owning, over-inside, end-by, none-then, answers-as, same-row}
 use Rattle.round_keeping.proofs.Runs.{carried-decided}
-use Rattle.lane_states.proofs.Accepting.{accepted-at}
-use Rattle.lane_rounds.proofs.Accepting.{accepted-alike, accepted-ended}
+use Rattle.lane_states.proofs.Accepting.{accepted-at, accepted-alike}
+use Rattle.lane_rounds.proofs.Accepting.{accepted-ended}
 use Rattle.lane_rounds.proofs.rounds.end_round.Goals as goal
 
 pub tell_over-requires : goal.tell_over-requires

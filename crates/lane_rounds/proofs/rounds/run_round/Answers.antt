@@ -6,7 +6,6 @@ use Rattle.round_keeping.specs.declared.round_run.RoundRun.{RoundRun}
 use Rattle.lane_states.specs.LaneStates.{journal_of, part_of}
 use Rattle.round_keeping.specs.RoundRuns.{IsCutOff, IsRunBy, EndsRun}
 use Rattle.round_keeping.proofs.RoundEnds.{run-by-goes, whole-of, cut-of}
-use Rattle.round_keeping.proofs.Runs.{runs-carried}
 use Rattle.lane_rounds.proofs.Shortages.{none-ended, once-ended}
 use Rattle.lane_states.proofs.NodeSpans.{on-event, on-then}
 use Rattle.lane_keeping.specs.LaneKeeping.{node_in}
@@ -107,19 +106,10 @@ returns-in-Err-clause-cut g c =
     cut-of x.lane c.args.run.now y _ _ x.last f.last e.last x.late.late f.late.late e.late.late (journal_of x) (journal_of e) (journal_of f) last late same c.send_all-sent.ensures.on c.send_all-sent.ensures.cut c.end_round-end.ensures.grows
 
 pub returns-in-Ok-clause-carried : goal.returns-in-Ok-clause-carried
-returns-in-Ok-clause-carried g c =
-    let x = c.args.lane.now in
-    let e = c.send_all-sent.new.lane in
-    c.end_round-end.ensures.carried _ (runs-carried c.late_messages_wait.ensures.waiting c.late_messages_wait.ensures.taken x.lane c.args.run.now.distributor c.args.run.now.state _ _ x.last e.last x.late.late e.late.late (journal_of x) (journal_of e) c.send_all-sent.ensures.on c.requires.carried)
+returns-in-Ok-clause-carried g c = c.end_round-end.ensures.carried _ c.send_all-sent.ensures.carried
 
 pub returns-in-Err-clause-carried : goal.returns-in-Err-clause-carried
-returns-in-Err-clause-carried g c =
-    let x = c.args.lane.now in
-    let e = c.send_all-sent.new.lane in
-    c.end_round-end.ensures.carried _ (runs-carried c.late_messages_wait.ensures.waiting c.late_messages_wait.ensures.taken x.lane c.args.run.now.distributor c.args.run.now.state _ _ x.last e.last x.late.late e.late.late (journal_of x) (journal_of e) c.send_all-sent.ensures.on c.requires.carried)
-
-pub send_all-sent-requires-clause-numbered : goal.send_all-sent-requires-clause-numbered
-send_all-sent-requires-clause-numbered g c = c.requires.carried.waiting.counted
+returns-in-Err-clause-carried g c = c.end_round-end.ensures.carried _ c.send_all-sent.ensures.carried
 
 pub returns-in-Ok-clause-took : goal.returns-in-Ok-clause-took
 returns-in-Ok-clause-took g c =

@@ -7,7 +7,7 @@ use Rattle.round_keeping.specs.RoundShortages.{wants_memory}
 use Rattle.lane_rounds.proofs.Shortages.{not-ended, had-as, settled-as, none-nothing, none-step, once-step, none-idle, once-none}
 use Rattle.round_keeping.proofs.Running.{goes-none, goes-on}
 use Rattle.round_keeping.proofs.RoundTelling.{cut-as}
-use Rattle.round_keeping.proofs.Runs.{runs-nothing, runs-then, runs-of, runs-numbered}
+use Rattle.round_keeping.proofs.Runs.{runs-nothing, runs-then, runs-of}
 use Rattle.lane_states.proofs.NodeSpans.{on-same, on-then}
 use Rattle.lane_rounds.proofs.rounds.send_all.Goals as goal
 
@@ -21,7 +21,7 @@ sending-init g c =
       told = c.requires.told;
       planned = refl;
       kind = refl;
-      numbered = c.requires.numbered;
+      carried = c.requires.carried;
       on = runs-nothing _ _ _ _ _ _ _;
       same = goes-none _;
       fine = λ it had. had;
@@ -42,7 +42,7 @@ sending-preserved g c =
       told = n.told;
       planned = n.planned ∙ l.invariant.planned;
       kind = n.kind ∙ l.invariant.kind;
-      numbered = runs-numbered _ _ _ _ _ _ _ _ _ _ _ l.invariant.numbered n.on;
+      carried = n.carried;
       on = runs-then _ _ _ _ _ _ _ _ _ _ _ _ _ _ _ l.invariant.on
           (runs-of l.lane.lane c.args.lane.now.lane l.run c.args.run.now _ _ _ _ _ _ _ _ (ap (λ (z : LaneState). z.lane) l.invariant.after) l.invariant.same n.on);
       same = goes-on _ _ _ l.invariant.same n.same;

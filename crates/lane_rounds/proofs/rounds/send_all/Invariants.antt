@@ -1,5 +1,5 @@
-use Rattle.std.proofs.Common.{◌≡◌, None, length}
-use Rattle.lane_states.specs.LaneStates.{journal_of, IsKept, HasRoom, NodesOn}
+use Rattle.std.proofs.Common.{◌≡◌, None}
+use Rattle.lane_states.specs.LaneStates.{journal_of, IsKept, HasRoom, IsCarriedBy, NodesOn}
 use Rattle.round_keeping.specs.RoundRuns.{IsRunning, GoesOn, RunsOn, left}
 use Rattle.lane_states.specs.Shortages.{WhereItEnds, NoneIsShort}
 use Rattle.round_keeping.specs.RoundShortages.{HadMemory}
@@ -15,7 +15,7 @@ invariant-sending g l = record {
   told : l.run.round.awaited ≡ None;
   planned : g.C.Carrier.planned l.carrier ≡ g.C.Carrier.planned l.initial.carrier;
   kind : g.C.Carrier.takes_plans l.carrier ≡ g.C.Carrier.takes_plans l.initial.carrier;
-  numbered : l.lane.last ≡ length (g.C.Carrier.given l.carrier);
+  carried : IsCarriedBy l.lane (g.C.Carrier.given l.carrier);
   on : RunsOn l.initial.lane.lane l.initial.run.distributor l.initial.run.state (g.C.Carrier.given l.initial.carrier) (g.C.Carrier.given l.carrier) l.initial.lane.last l.lane.last l.initial.lane.late.late l.lane.late.late (journal_of l.initial.lane) (journal_of l.lane);
   same : GoesOn l.initial.run l.run;
   fine : WhereItEnds l.at_shortage (HadMemory l.initial.run → HadMemory l.run);

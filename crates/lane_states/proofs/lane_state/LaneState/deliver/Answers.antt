@@ -14,16 +14,16 @@ take_at-taken-requires-clause-room c =
     let n = c.args.message.now.receiver in
     let within : n < length x.nodes.items = search rules in
     let is : node_in x.nodes.items n ≡ c.index_mut.result.now = node-at x.nodes.items n c.index_mut.result.now within (rw c.from.ensures at c.index_mut.ensures.value) in
-    let few : c.index_mut.result.now.serial ≤ length (journal_of x) = c.nodes_hold.ensures.serials (journal_of x) n c.index_mut.result.now (subst (λ (y : Node). NodeKeeps (journal_of x) n y) is (c.requires.keeps.keeps.nodes_are n)) in
+    let few : c.index_mut.result.now.serial ≤ length (journal_of x) = c.nodes_hold.ensures.serials (journal_of x) n c.index_mut.result.now (subst (λ (y : Node). NodeKeeps (journal_of x) n y) is (c.requires.keeps.1.keeps.nodes_are n)) in
     let same : length (journal_of x) ≡ length x.journal.items = past-length x.journal.items in
     has-room c.args.message.now.body c.index_mut.result.now.serial (omega (arith, few, same, x.journal.ok.0, x.journal.small))
 
 pub returns-clause-keeps : goal.returns-clause-keeps
-returns-clause-keeps c =
+returns-clause-keeps c parts k =
     let within : c.args.message.now.receiver < length c.args.self.now.nodes.items = search rules in
     rw (c.push_within.ensures.past, c.take_at-taken.ensures.noted, c.from.ensures)
-    (kept_taken c.requires.keeps (search rules) (c.events_are_kept.ensures.taken _ _ _ _ _ _ _ c.requires.keeps.keeps c.args.number c.args.message.now c.take_at-taken.result.reply
-    (slice_set c.args.self.now.nodes.items c.args.message.now.receiver c.take_at-taken.new.self) c.requires.flight (kept_runs c.requires.keeps c.args.message.now.receiver c.requires.receives)
+    (kept_taken k (search rules) (c.events_are_kept.ensures.taken _ _ _ _ _ _ _ k.keeps c.args.number c.args.message.now c.take_at-taken.result.reply
+    (slice_set c.args.self.now.nodes.items c.args.message.now.receiver c.take_at-taken.new.self) c.requires.flight (kept_runs k c.args.message.now.receiver c.requires.receives)
     (taken-at c.args.self.now.nodes.items c.args.message.now c.index_mut.result.now c.take_at-taken.new.self c.take_at-taken.result.reply within
     (rw c.from.ensures at c.index_mut.ensures.value) c.take_at-taken.ensures.takes)))
 
@@ -39,6 +39,6 @@ returns-clause-took c =
     let x = c.args.self.now in
     let within : c.args.message.now.receiver < length x.nodes.items = search rules in
     rw (c.push_within.ensures.past, c.take_at-taken.ensures.noted, c.from.ensures)
-    (go-one (journal_of x) x.nodes.items (slice_set x.nodes.items c.args.message.now.receiver c.take_at-taken.new.self) c.args.number c.args.message.now c.take_at-taken.result.reply c.requires.flight c.requires.keeps.keeps.nodes_are
+    (go-one (journal_of x) x.nodes.items (slice_set x.nodes.items c.args.message.now.receiver c.take_at-taken.new.self) c.args.number c.args.message.now c.take_at-taken.result.reply c.requires.flight c.requires.keeps.1.keeps.nodes_are
     (taken-at x.nodes.items c.args.message.now c.index_mut.result.now c.take_at-taken.new.self c.take_at-taken.result.reply within
     (rw c.from.ensures at c.index_mut.ensures.value) c.take_at-taken.ensures.takes))

@@ -1,12 +1,12 @@
 use Rattle.std.proofs.Common.{◌≡◌, ◌≤◌, ◌+◌, length, vec_len, vec_capacity}
-use Rattle.lane_states.specs.LaneStates.{journal_of, IsKept, NodesOn}
+use Rattle.lane_states.specs.LaneStates.{journal_of, StaysKept, NodesOn}
 use Rattle.lane_carriage.specs.Carrying.{DeliversSome}
 use Rattle.lane_states.proofs.lane_state.LaneState.deliver_due.Given as goal
 
 -- some of those that are due are given out, and there is room for all that are left
 abbrev pub invariant-loop : goal.invariant-loop
 invariant-loop l = record {
-  keeps : IsKept l.self;
+  keeps : StaysKept l.fn.self l.self;
   took : NodesOn l.fn.self l.self;
   due : DeliversSome l.fn.self.last l.fn.self.late.late l.self.late.late (journal_of l.fn.self) (journal_of l.self);
   after : l.self ≡ record l.fn.self { journal = l.self.journal; nodes = l.self.nodes; late = l.self.late };

@@ -1,8 +1,19 @@
+use Rattle.std.proofs.Common.{List, sym, subst}
+use Rattle.messages.specs.declared.late.Late.{Late}
+use Rattle.lane_states.specs.LaneStates.{journal_of, IsKeptBy}
 use Rattle.lane_states.proofs.Kept.{kept_first, first_coming}
 use Rattle.lane_states.proofs.lane_state.LaneState.deliver_first.Goals as goal
 
 pub give_out-requires-clause-coming : goal.give_out-requires-clause-coming
-give_out-requires-clause-coming c = first_coming c.requires.keeps c.in-Some.ensures.taken.1
+give_out-requires-clause-coming c = first_coming c.requires.keeps.1 c.in-Some.ensures.taken.1
 
 pub give_out-requires-clause-keeps : goal.give_out-requires-clause-keeps
-give_out-requires-clause-keeps c = kept_first c.requires.keeps c.in-Some.ensures.taken.1
+give_out-requires-clause-keeps c = (c.requires.keeps.0, kept_first c.requires.keeps.1 c.in-Some.ensures.taken.1)
+
+pub returns-clause-keeps : goal.returns-clause-keeps
+returns-clause-keeps c parts k = c.give_out.ensures.keeps parts (kept_first k c.in-Some.ensures.taken.1)
+
+pub returns-in_default-clause-keeps : goal.returns-in_default-clause-keeps
+returns-in_default-clause-keeps c parts k =
+    let x = c.args.self.now in
+    subst (λ (late : List Late). IsKeptBy x.lane x.rules (journal_of x) x.newest x.last x.nodes.items parts late x.stopped) (sym c.in_default.ensures.taken.1) k
