@@ -9,9 +9,11 @@ use Rattle.std.proofs.lemmas.Bool.Decides.{nat_tests}
 use Rattle.proof_basics.proofs.Numbers.{same-nat}
 use Rattle.proof_basics.proofs.Tests.{clash}
 use Rattle.doc_types.specs.declared.values.FieldValue.{FieldValue}
-use Rattle.local_ids.specs.Rising.{IsRising, with_local, without_local}
+use Rattle.local_ids.specs.Rising.{IsRising, with_local, without_local, moved_local}
+use Rattle.local_ids.specs.Places.{moved}
 use Rattle.local_ids.proofs.RisingLaws.{filter_rises, filter_has, with_rises, without_rises, with_has, without_has}
 use Rattle.local_ids.proofs.KeyLaws.{keys_rise, has_key, get_with, get_without, same_ids}
+use Rattle.local_ids.proofs.MoveLaws.{moved_rises, moved_has, get_moved}
 use Rattle.attribute_columns.specs.Columns.{ValueMap, numbers_of, has_number, numbers_at, locals_with}
 
 pub rising : (q : ℤ) (m : ValueMap) → IsRising (locals_with q m)
@@ -105,3 +107,37 @@ pub no_lists : (q : ℤ) → [] ≡ locals_with q fin.empty
 no_lists q = same_ids [] (locals_with q fin.empty) tt (rising q fin.empty)
     (λ n h. absurd (let l = h.1 in omega (arith, l)))
     (λ n h. clash ((told q fin.empty n).0 h) (ap (λ o. has_number q (option_map_or numbers_of o [])) (get-empty nat_cmp n)))
+
+-- ---- a value that becomes another document's
+
+numbers_moved : (m : ValueMap) (x z n : ℕ) → fin.get m z ≡ None → z ≢ x → numbers_at (moved x z m) n ≡ cond (n == z) (numbers_at m x) (cond (n == x) [] (numbers_at m n))
+numbers_moved m x z n free other = ap (λ o. option_map_or numbers_of o []) (get_moved m x z n free other) ∙ by_test (n == z) (n == x)
+  where
+    by_test : (t u : Bool) → option_map_or numbers_of (cond t (fin.get m x) (cond u None (fin.get m n))) [] ≡ cond t (numbers_at m x) (cond u [] (numbers_at m n))
+    by_test true u = refl
+    by_test false true = refl
+    by_test false false = refl
+
+pub list_moved : (q : ℤ) (m : ValueMap) (x z : ℕ) → fin.get m z ≡ None → z ≢ x → locals_with q (moved x z m) ≡ moved_local x z (locals_with q m)
+list_moved q m x z free other = same_ids _ _ (rising q (moved x z m)) (moved_rises x z (locals_with q m) (rising q m)) there back
+  where
+    seen : (n : ℕ) (t u : Bool) → (n == z) ≡ t → (n == x) ≡ u → has_number q (cond t (numbers_at m x) (cond u [] (numbers_at m n))) ≡ true → ((n ≡ z) × Contains (locals_with q m) x) ⊎ (Contains (locals_with q m) n × (n ≢ x))
+    seen n true u e f h = inl (grind (arith, nat_tests), (told q m x).1 h)
+    seen n false true e f h = clash h refl
+    seen n false false e f h = inr ((told q m n).1 h, λ g. clash (ap (λ w. w == x) g ∙ same-nat x) f)
+
+    none : has_number q (numbers_at m z) ≡ false
+    none = ap (λ o. has_number q (option_map_or numbers_of o [])) free
+
+    shown : (n : ℕ) (t u : Bool) → (n == z) ≡ t → (n == x) ≡ u → ((n ≡ z) × Contains (locals_with q m) x) ⊎ (Contains (locals_with q m) n × (n ≢ x)) → has_number q (cond t (numbers_at m x) (cond u [] (numbers_at m n))) ≡ true
+    shown n true u e f (inl h) = (told q m x).0 h.1
+    shown n true u e f (inr h) = (let same : n ≡ z = grind (arith, nat_tests) in clash (ap (λ k. has_number q (numbers_at m k)) (sym same) ∙ (told q m n).0 h.0) none)
+    shown n false u e f (inl h) = clash (ap (λ w. w == z) h.0 ∙ same-nat z) e
+    shown n false true e f (inr h) = absurd (h.1 (grind (arith, nat_tests)))
+    shown n false false e f (inr h) = (told q m n).0 h.0
+
+    there : (n : ℕ) → Contains (locals_with q (moved x z m)) n → Contains (moved_local x z (locals_with q m)) n
+    there n h = (moved_has x z n (locals_with q m) (rising q m) other).1 (seen n (n == z) (n == x) refl refl (sym (ap (has_number q) (numbers_moved m x z n free other)) ∙ (told q (moved x z m) n).0 h))
+
+    back : (n : ℕ) → Contains (moved_local x z (locals_with q m)) n → Contains (locals_with q (moved x z m)) n
+    back n h = (told q (moved x z m) n).1 (ap (has_number q) (numbers_moved m x z n free other) ∙ shown n (n == z) (n == x) refl refl ((moved_has x z n (locals_with q m) (rising q m) other).0 h))

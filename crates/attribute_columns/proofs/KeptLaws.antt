@@ -1,14 +1,16 @@
 -- A dictionary stays that of its values.
-use Rattle.std.proofs.Common.{◌≡◌, ℕ, ℤ, ◌&&◌, Bool, true, false, cond, not, List, [], Vec, refl, sym, ap, subst, ◌∙◌}
+use Rattle.std.proofs.Common.{◌≡◌, ◌≢◌, None, ℕ, ℤ, ◌&&◌, Bool, true, false, cond, not, List, [], Vec, refl, sym, ap, subst, ◌∙◌}
 use Rattle.std.specs.List.{Contains}
 use Rattle.std.specs.BTreeMap.{BTreeMap}
 use Rattle.std.specs.FinMap as fin
 use Rattle.proof_basics.proofs.Tests.{clash}
 use Rattle.doc_types.specs.declared.values.FieldValue.{FieldValue}
-use Rattle.local_ids.specs.Rising.{IsRising, with_local, without_local}
+use Rattle.local_ids.specs.Rising.{IsRising, with_local, without_local, moved_local}
+use Rattle.local_ids.specs.Places.{moved}
+use Rattle.local_ids.proofs.MoveLaws.{moved_missing}
 use Rattle.attribute_columns.specs.Columns.{ValueMap, numbers_of, has_number, numbers_at, locals_with}
 use Rattle.attribute_columns.specs.Dictionary.{ids_at, HasNoEmpty, IsKept}
-use Rattle.attribute_columns.proofs.ColumnLaws.{rising, told, list_with, list_without, no_lists}
+use Rattle.attribute_columns.proofs.ColumnLaws.{rising, told, list_with, list_without, list_moved, no_lists}
 use Rattle.attribute_columns.proofs.ListLaws.{with_there, without_missing, with_part_rises, undone, set_case}
 
 pub kept_new : {Y : Type 0} (m : ValueMap) (lists : BTreeMap ℤ (Vec ℕ Y)) → m ≡ fin.empty → lists.entries ≡ [] → IsKept m lists
@@ -34,6 +36,17 @@ kept_without m new lists after l numbers k e f g some = record {
     by_test : (q : ℤ) (t : Bool) → has_number q numbers ≡ t → cond t (without_local l (ids_at lists q)) (ids_at lists q) ≡ without_local l (ids_at lists q)
     by_test q true h = refl
     by_test q false h = sym (without_missing l (ids_at lists q) (rises_of m lists k q) (lacks m lists k l q (ap (has_number q) (sym e) ∙ h)))
+
+pub kept_moved : {Y : Type 0} (m new : ValueMap) (lists after : BTreeMap ℤ (Vec ℕ Y)) (x z : ℕ) (numbers : List ℤ) → IsKept m lists → numbers ≡ numbers_at m x → fin.get m z ≡ None → z ≢ x
+    → new ≡ moved x z m → ((q : ℤ) → ids_at after q ≡ cond (has_number q numbers) (moved_local x z (ids_at lists q)) (ids_at lists q)) → (HasNoEmpty lists → HasNoEmpty after) → IsKept new after
+kept_moved m new lists after x z numbers k e free other f g some = record {
+  ids = λ q. g q ∙ by_test q (has_number q numbers) refl ∙ ap (moved_local x z) (k.ids q) ∙ sym (list_moved q m x z free other) ∙ ap (locals_with q) (sym f);
+  some = some k.some;
+}
+  where
+    by_test : (q : ℤ) (t : Bool) → has_number q numbers ≡ t → cond t (moved_local x z (ids_at lists q)) (ids_at lists q) ≡ moved_local x z (ids_at lists q)
+    by_test q true h = refl
+    by_test q false h = sym (moved_missing x z (ids_at lists q) (lacks m lists k x q (ap (has_number q) (sym e) ∙ h)))
 
 and_left : (a b : Bool) → (a && not b) ≡ true → b ≡ false
 and_left true true h = sym h

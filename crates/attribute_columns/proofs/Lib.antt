@@ -1,4 +1,4 @@
-mod ColumnLaws
+pub mod ColumnLaws
 mod ListLaws
 mod NumberLaws
 mod KeptLaws

@@ -1,5 +1,5 @@
 -- Rising lists at numbers, number by number.
-use Rattle.std.proofs.Common.{◌≡◌, ℕ, ℤ, zero, suc, Vec, Option, Some, None, take, ◌&&◌, ◌||◌, inl, inr, Bool, true, false, cond, not, List, [], ◌∷◌, refl, sym, ap, subst, ◌∙◌, arith}
+use Rattle.std.proofs.Common.{◌≡◌, ◌≢◌, ℕ, ℤ, zero, suc, Vec, Option, Some, None, take, ◌&&◌, ◌||◌, inl, inr, Bool, true, false, cond, not, List, [], ◌∷◌, refl, sym, ap, subst, ◌∙◌, arith}
 use Rattle.std.specs.List.{Contains, list_any}
 use Rattle.std.specs.Option.{option_map_or, IsSome}
 use Rattle.std.specs.Ordering.{int_eq, int_cmp, is_gt, MatchOrdering}
@@ -13,9 +13,10 @@ use Rattle.std.specs.BTreeMap.{BTreeMap}
 use Rattle.proof_basics.proofs.Tests.{clash}
 use Rattle.attribute_columns.specs.Dictionary.{ids_at}
 use Rattle.std.proofs.lemmas.Bool.Decides.{Decides-int_eq}
-use Rattle.local_ids.specs.Rising.{IsRising, with_local, without_local}
+use Rattle.local_ids.specs.Rising.{IsRising, with_local, without_local, moved_local}
 use Rattle.local_ids.proofs.RisingLaws.{with_rises, without_rises, with_has, without_has, there_with, new_without, at_has, has_at}
 use Rattle.local_ids.proofs.KeyLaws.{same_ids}
+use Rattle.local_ids.proofs.MoveLaws.{moved_rises, moved_twice}
 use Rattle.attribute_columns.proofs.NumberLaws.{turned}
 
 pub with_there : (x : ℕ) (xs : List ℕ) → IsRising xs → Contains xs x → with_local x xs ≡ xs
@@ -69,6 +70,10 @@ pub step_without : (x : ℕ) (z q : ℤ) (before : Bool) (ids old : ℤ → List
     → ids q ≡ cond before (without_local x (old q)) (old q) → new ≡ cond (before || int_eq q z) (without_local x (old q)) (old q)
 step_without x z q before ids old new r e i = step_is (without_local x) z q before ids old new e i (without_twice x (old q) r)
 
+pub step_moved : (x w : ℕ) → w ≢ x → (z q : ℤ) (before : Bool) (ids old : ℤ → List ℕ) (new : List ℕ) → IsRising (old q) → new ≡ cond (int_eq z q) (moved_local x w (ids z)) (ids q)
+    → ids q ≡ cond before (moved_local x w (old q)) (old q) → new ≡ cond (before || int_eq q z) (moved_local x w (old q)) (old q)
+step_moved x w other z q before ids old new r e i = step_is (moved_local x w) z q before ids old new e i (moved_twice x w (old q) r other)
+
 either_rises : (t : Bool) (xs ys zs : List ℕ) → zs ≡ cond t xs ys → IsRising xs → IsRising ys → IsRising zs
 either_rises true xs ys zs e r s = subst IsRising (sym e) r
 either_rises false xs ys zs e r s = subst IsRising (sym e) s
@@ -78,6 +83,9 @@ with_part_rises x t xs zs r e = either_rises t _ _ zs e (with_rises x xs r) r
 
 pub without_part_rises : (x : ℕ) (t : Bool) (xs zs : List ℕ) → IsRising xs → zs ≡ cond t (without_local x xs) xs → IsRising zs
 without_part_rises x t xs zs r e = either_rises t _ _ zs e (without_rises x xs r) r
+
+pub moved_part_rises : (x w : ℕ) (t : Bool) (xs zs : List ℕ) → IsRising xs → zs ≡ cond t (moved_local x w xs) xs → IsRising zs
+moved_part_rises x w t xs zs r e = either_rises t _ _ zs e (moved_rises x w xs r) r
 
 -- what was added goes again, where the list lacked it
 pub undone : (x : ℕ) (t : Bool) (xs ys zs : List ℕ) → IsRising xs → (t ≡ true → Contains xs x → ⊥) → ys ≡ cond t (with_local x xs) xs → zs ≡ cond t (without_local x ys) ys → zs ≡ xs

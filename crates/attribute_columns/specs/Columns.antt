@@ -1,12 +1,12 @@
 -- The values of a field, by local id.
-use Rattle.std.specs.Prelude.{◌≡◌, ◌⊎◌, ℕ, ℤ, Bool, List, [], ◌∷◌, filter, refl}
+use Rattle.std.specs.Prelude.{ℕ, ℤ, Bool, List, [], ◌∷◌, filter, refl}
 use Rattle.std.specs.Coded.{Coded, code_by, coded×, coded_ℕ}
 use Rattle.std.specs.List.{list_any}
 use Rattle.std.specs.Option.{option_map_or}
 use Rattle.std.specs.Ordering.{nat_cmp, int_eq}
 use Rattle.std.specs.FinMap as fin
+use Rattle.local_ids.specs.Places.{moved}
 use Rattle.doc_types.specs.declared.values.FieldType.{FieldType}
-use Rattle.doc_types.specs.declared.values.FieldType.TheVariants as kind
 use Rattle.doc_types.specs.declared.values.FieldValue.{FieldValue}
 use Rattle.doc_types.specs.declared.values.FieldValue.TheVariants.{Int, Text, Ints, Texts}
 use Rattle.doc_types.specs.contracts.values.FieldValue as value
@@ -31,10 +31,11 @@ with_value local value column = record { kind = column.kind; values = fin.insert
 abbrev pub without_value : ℕ → Held → Held
 without_value local column = record { kind = column.kind; values = fin.remove column.values local }
 
--- ---- numbers
+-- the value of a document becomes another's
+abbrev pub with_moved : ℕ → ℕ → Held → Held
+with_moved from to column = record { kind = column.kind; values = moved from to column.values }
 
-abbrev pub IsOfNumbers : FieldType → Type 0
-IsOfNumbers k = (k ≡ kind.Int) ⊎ (k ≡ kind.IntArray)
+-- ---- numbers
 
 -- the numbers of a value: itself or its items
 abbrev pub numbers_of : FieldValue → List ℤ

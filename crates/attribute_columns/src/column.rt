@@ -1,12 +1,12 @@
-ghost use Rattle.std.specs.Prelude.{◌≡◌, ◌<◌, ℤ, [], length, IfNone, IfSome, OnOk, OnErr};
+ghost use Rattle.std.specs.Prelude.{◌≡◌, ◌<◌, ℤ, [], None, length, IfNone, IfSome, OnOk, OnErr};
 ghost use Rattle.std.specs.Option.{option_copied};
 ghost use Rattle.std.specs.Int.Signed.{◌≤ℤ◌, ◌<ℤ◌};
 ghost use Rattle.std.specs.FinMap as fin;
 ghost use Rattle.doc_types.specs.Values.{kind_of};
 ghost use Rattle.local_ids.specs.Rising.{IsRising};
-ghost use Rattle.attribute_columns.specs.Columns.{IsOfNumbers, numbers_at, locals_with, empty_column, with_value, without_value};
+ghost use Rattle.attribute_columns.specs.Columns.{numbers_at, locals_with, empty_column, with_value, without_value, with_moved};
 
-use crate::dictionary::{add_all, next_in, remove_all};
+use crate::dictionary::{add_all, move_all, next_in, remove_all};
 use crate::numbers::{lacking, numbers_of};
 use doc_types::{FieldType, FieldValue};
 use local_ids::LocalMap;
@@ -104,6 +104,17 @@ impl Column {
         self.values.clear(local);
     }
 
+    /// Gives a document without a value that of a greater local id, which then has none. Takes what `clear` takes, and no
+    /// memory.
+    pub fn move_down(&mut self, from: u32, to: u32)
+        requires below { to < from }
+        requires free { fin.get self.old.values to ≡ None }
+        ensures { self.new ≡ with_moved from to self.old }
+    {
+        move_all(&mut self.lists, numbers_at(&self.values, from), from, to);
+        self.values.move_down(from, to);
+    }
+
     /// Gives memory back that no value needs. No error comes today.
     pub fn compact(&mut self) -> Result<(), NoMemory>
         ensures { self.new ≡ self.old }
@@ -115,7 +126,6 @@ impl Column {
     /// The least number from one to another, both with them, that some document has as its value or as an item, and the
     /// rising local ids of those that have it. Takes the logarithm of the numbers, and no memory.
     pub fn next_value(&self, low: i64, high: i64) -> Option<(i64, &[u32])>
-        requires { IsOfNumbers self.now.kind }
         ensures none { IfNone result ((q : ℤ) → low ≤ℤ q → q ≤ℤ high → locals_with q self.now.values ≡ []) }
 
         // The number lies between, and none before it is that of a document.

@@ -1,13 +1,13 @@
-ghost use Rattle.std.specs.Prelude.{◌≡◌, ◌<◌, ℤ, [], true, false, if◌then◌else◌, length, IfNone, IfSome, OnOk, OnErr};
+ghost use Rattle.std.specs.Prelude.{◌≡◌, ◌≢◌, ◌<◌, ℤ, [], true, false, if◌then◌else◌, length, IfNone, IfSome, OnOk, OnErr};
 ghost use Rattle.std.specs.List.{Contains};
 ghost use Rattle.std.specs.Ordering.{int_eq, int_cmp};
 ghost use Rattle.std.specs.BTreeMap as tree;
 ghost use Rattle.std.specs.Int.Signed.{◌≤ℤ◌, ◌<ℤ◌};
-ghost use Rattle.local_ids.specs.Rising.{IsRising, with_local, without_local};
+ghost use Rattle.local_ids.specs.Rising.{IsRising, with_local, without_local, moved_local};
 ghost use Rattle.attribute_columns.specs.Columns.{has_number};
 ghost use Rattle.attribute_columns.specs.Dictionary.{ids_at, HasNoEmpty};
 
-use local_ids::{drop_local, put_local};
+use local_ids::{drop_local, move_local, put_local};
 use std::alloc::Global;
 use std::collections::BTreeMap;
 use value_lists::NoMemory;
@@ -112,6 +112,43 @@ pub fn add_all(
         }
     }
     Ok(())
+}
+
+/// An id in the place of another at a number, whose list may then be empty.
+fn shift_in(lists: &mut BTreeMap<i64, Vec<u32>>, number: i64, from: u32, to: u32)
+    requires { IsRising (ids_at lists.old number) }
+    ensures ids { (q : ℤ) → ids_at lists.new q
+        ≡ (if int_eq number q then moved_local from to (ids_at lists.old number) else ids_at lists.old q) }
+    ensures some { HasNoEmpty lists.old → (q : ℤ) → int_eq number q ≡ false
+        → IfSome (tree.get int_cmp lists.new q) (λ v. 0 < length v.items) }
+{
+    if let Some(list) = lists.get_mut(&number) {
+        move_local(list, from, to);
+    }
+}
+
+/// An id in the place of another at a number.
+fn move_in(lists: &mut BTreeMap<i64, Vec<u32>>, number: i64, from: u32, to: u32)
+    requires { IsRising (ids_at lists.old number) }
+    ensures ids { (q : ℤ) → ids_at lists.new q
+        ≡ (if int_eq number q then moved_local from to (ids_at lists.old number) else ids_at lists.old q) }
+    ensures some { HasNoEmpty lists.old → HasNoEmpty lists.new }
+{
+    shift_in(lists, number, from, to);
+    tidy_in(lists, number);
+}
+
+/// An id in the place of another at each of some numbers.
+pub fn move_all(lists: &mut BTreeMap<i64, Vec<u32>>, numbers: &[i64], from: u32, to: u32)
+    requires rising { (q : ℤ) → IsRising (ids_at lists.old q) }
+    requires other { to ≢ from }
+    ensures ids { (q : ℤ) → ids_at lists.new q
+        ≡ (if has_number q numbers.now then moved_local from to (ids_at lists.old q) else ids_at lists.old q) }
+    ensures some { HasNoEmpty lists.old → HasNoEmpty lists.new }
+{
+    for at in 0..numbers.len() {
+        move_in(lists, numbers[at], from, to);
+    }
 }
 
 /// The least number from one to another that some id has, and the ids that have it.

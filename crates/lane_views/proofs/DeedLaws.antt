@@ -15,13 +15,13 @@ use Rattle.documents.specs.EntryCodes.{id_cmp}
 use Rattle.entry_maps.specs.Entries.{is_newer, newer_of, in_bucket}
 use Rattle.entry_maps.specs.Joins.{joined}
 use Rattle.entry_maps.proofs.JoinLaws.{get-joined}
-use Rattle.lane_views.specs.Rows.{Rows, document_of}
-use Rattle.lane_views.specs.Views.{NodeView, in_regions, taken, taken_into, is_fresh, listed, rows_with, activated}
+use Rattle.document_rows.specs.Rows.{Rows, document_of, taken_into}
+use Rattle.lane_views.specs.Views.{NodeView, in_regions, taken, is_fresh, listed, rows_with, activated}
 use Rattle.lane_views.specs.Shown.{shown, body_shown, Keeping, ShowsNode, AreOwn, activate}
 use Rattle.lane_views.specs.Room.{AllAt}
 use Rattle.lane_views.specs.Deeds.{RoomAlong, with_entries, is_seen}
 use Rattle.lane_views.proofs.Members.{In, value-get, get-value, in-any}
-use Rattle.lane_views.proofs.RowLaws.{same_id, own_id}
+use Rattle.document_rows.proofs.RowLaws.{same_id, own_id}
 use Rattle.lane_views.proofs.RegionLaws.{outer, region-stays, region-was}
 use Rattle.lane_views.proofs.ShownLaws.{body-is}
 

@@ -1,5 +1,4 @@
 -- Shared: other crates cite these.
-pub mod RowLaws
 -- Of this crate alone.
 mod Members
 mod RegionLaws

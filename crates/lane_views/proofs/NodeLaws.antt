@@ -8,10 +8,10 @@ use Rattle.doc_types.specs.SchemaCodes.{Types}
 use Rattle.documents.specs.Fields.{Contents}
 use Rattle.documents.specs.declared.entry.Entry.{Entry}
 use Rattle.entry_maps.specs.EntryCodes.{Entries}
-use Rattle.lane_views.specs.Rows.{Rows, has_row, free_place, put_free, replaced, without, fitted, with_document, after_body}
-use Rattle.lane_views.specs.Views.{NodeView, in_regions, adopted, stopped_as, taken, taken_into, is_fresh, listed, rows_with, activated}
-use Rattle.lane_views.specs.Kept.{AreDistinct, AreInside, IsNode}
-use Rattle.lane_views.proofs.RowLaws.{same_id, distinct-replaced, distinct-without, distinct-put}
+use Rattle.document_rows.specs.Rows.{Rows, has_row, free_place, put_free, replaced, without, fitted, with_document, after_body, taken_into, AreDistinct}
+use Rattle.lane_views.specs.Views.{NodeView, in_regions, adopted, stopped_as, taken, is_fresh, listed, rows_with, activated}
+use Rattle.lane_views.specs.Kept.{AreInside, IsNode}
+use Rattle.document_rows.proofs.RowLaws.{same_id, distinct-replaced, distinct-without, distinct-put}
 use Rattle.lane_views.proofs.RegionLaws.{outer, region-stays, parted-more}
 
 -- ---- documents stay inside

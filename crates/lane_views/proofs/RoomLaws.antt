@@ -17,12 +17,10 @@ use Rattle.doc_types.specs.SchemaCodes.{Types}
 use Rattle.documents.specs.declared.entry.Entry.{Entry}
 use Rattle.entry_maps.specs.EntryCodes.{Entries}
 use Rattle.documents.specs.EntryCodes.{id_cmp}
-use Rattle.lane_views.specs.Rows.{Rows, has_row, free_place, put_free, replaced, without, fitted, with_document, after_body}
-use Rattle.lane_views.specs.Views.{taken_into}
-use Rattle.lane_views.specs.Kept.{AreDistinct}
+use Rattle.document_rows.specs.Rows.{Rows, has_row, free_place, put_free, replaced, without, fitted, with_document, after_body, taken_into, AreDistinct}
 use Rattle.lane_views.specs.Shown.{HasRoom}
 use Rattle.lane_views.specs.Deeds.{RoomAlong}
-use Rattle.lane_views.proofs.RowLaws.{same_id, own_id, as_other, has-replaced, has-without, has-put, distinct-replaced, distinct-without, distinct-put}
+use Rattle.document_rows.proofs.RowLaws.{same_id, own_id, as_other, has-replaced, has-without, has-put, distinct-replaced, distinct-without, distinct-put}
 use Rattle.lane_views.specs.Room.{AllAt, AllHave}
 
 -- the ids before the first free place

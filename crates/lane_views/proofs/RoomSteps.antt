@@ -11,7 +11,7 @@ use Rattle.entry_maps.specs.EntryCodes.{Entries}
 use Rattle.entry_maps.specs.Entries.{is_newer, newer_of, in_bucket}
 use Rattle.entry_maps.specs.Joins.{joined}
 use Rattle.entry_maps.proofs.JoinLaws.{get-joined}
-use Rattle.lane_views.specs.Rows.{Rows, has_row, document_of}
+use Rattle.document_rows.specs.Rows.{Rows, has_row, document_of}
 use Rattle.lane_views.specs.Views.{NodeView, in_regions, is_fresh, listed}
 use Rattle.lane_views.specs.Kept.{IsNode}
 use Rattle.lane_views.specs.Shown.{shown, Keeping, ShowsNode, AreOwn}

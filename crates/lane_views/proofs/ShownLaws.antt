@@ -12,10 +12,10 @@ use Rattle.global_ids.specs.Keys.{key_of}
 use Rattle.doc_types.specs.SchemaCodes.{Types}
 use Rattle.documents.specs.Fields.{Contents}
 use Rattle.documents.specs.declared.entry.Entry.{Entry}
-use Rattle.lane_views.specs.Rows.{Rows, has_row, free_place, put_free, replaced, without, fitted, with_document, after_body, document_of}
+use Rattle.document_rows.specs.Rows.{Rows, has_row, free_place, put_free, replaced, without, fitted, with_document, after_body, document_of}
 use Rattle.lane_views.specs.Views.{NodeView, in_regions, adopted, stopped_as, taken}
 use Rattle.lane_views.specs.Shown.{shown, body_shown, Keeping, ShowsNode, HasRoom, adopt, keep}
-use Rattle.lane_views.proofs.RowLaws.{same_id, replaced-is, put-is, without-is}
+use Rattle.document_rows.proofs.RowLaws.{same_id, replaced-is, put-is, without-is}
 
 -- ---- one entry
 

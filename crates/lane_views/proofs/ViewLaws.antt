@@ -8,7 +8,7 @@ use Rattle.global_ids.specs.Keys.{key_of}
 use Rattle.doc_types.specs.SchemaCodes.{Types}
 use Rattle.documents.specs.declared.entry.Entry.{Entry}
 use Rattle.entry_maps.specs.EntryCodes.{Entries}
-use Rattle.lane_views.specs.Rows.{after_body}
+use Rattle.document_rows.specs.Rows.{after_body}
 use Rattle.lane_views.specs.Views.{NodeView, View, in_regions, meets, adopted, stopped_as, taken, activated, rows_with, at, node_at, is_in_the_way, is_barred, changed}
 use Rattle.lane_views.specs.Kept.{IsNode, AreNodes, IsOver, AreNodesApart, IsView, HasBucket}
 use Rattle.lane_views.specs.declared.change.LaneChange.{LaneChange}

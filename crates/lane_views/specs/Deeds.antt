@@ -8,8 +8,8 @@ use Rattle.documents.specs.declared.entry.Entry.{Entry}
 use Rattle.entry_maps.specs.EntryCodes.{Entries}
 use Rattle.entry_maps.specs.Entries.{is_newer, with_entry, in_bucket}
 use Rattle.entry_maps.specs.Joins.{joined}
-use Rattle.lane_views.specs.Rows.{Rows}
-use Rattle.lane_views.specs.Views.{View, in_regions, listed, is_fresh, node_at, taken_into}
+use Rattle.document_rows.specs.Rows.{Rows, taken_into}
+use Rattle.lane_views.specs.Views.{View, in_regions, listed, is_fresh, node_at}
 use Rattle.lane_views.specs.Kept.{IsOver}
 use Rattle.lane_views.specs.Shown.{Keeping, ShowsNode, AreOwn, HasRoom, activate}
 use Rattle.lane_views.specs.declared.change.LaneChange.{LaneChange}

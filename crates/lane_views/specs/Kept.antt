@@ -4,14 +4,8 @@ use Rattle.bucket_ids.specs.Buckets.{Low, IsBucket, has_key}
 use Rattle.global_ids.specs.Keys.{key_of}
 use Rattle.lane_views.specs.declared.change.LaneChange.{LaneChange}
 use Rattle.lane_views.specs.declared.change.LaneChange.TheVariants.{Activate}
-use Rattle.lane_views.specs.Rows.{Rows, has_row}
+use Rattle.document_rows.specs.Rows.{Rows, AreDistinct}
 use Rattle.lane_views.specs.Views.{NodeView, View, in_regions, node_at}
-
--- no document has two places
-abbrev pub AreDistinct : Rows → Type 0
-AreDistinct [] = Unit {0}
-AreDistinct (None ∷ rows) = AreDistinct rows
-AreDistinct (Some d ∷ rows) = (has_row d.id rows ≡ false) × AreDistinct rows
 
 -- each document lies in a region
 abbrev pub AreInside : List Low → Rows → Type 0

@@ -3,7 +3,7 @@ use Rattle.std.specs.Prelude.{◌≡◌, ℕ, true, List, [], ◌∷◌, is_some
 use Rattle.std.specs.FinMap as fin
 use Rattle.documents.specs.declared.entry.Entry.{Entry}
 use Rattle.entry_maps.specs.EntryCodes.{Entries}
-use Rattle.lane_views.specs.Rows.{Rows, has_row}
+use Rattle.document_rows.specs.Rows.{Rows, has_row}
 
 -- the entries are the map's
 abbrev pub AllAt : Entries → List Entry → Type 0

@@ -9,7 +9,7 @@ use Rattle.doc_types.specs.SchemaCodes.{Types}
 use Rattle.documents.specs.Fields.{Contents}
 use Rattle.documents.specs.declared.entry.Entry.{Entry}
 use Rattle.entry_maps.specs.EntryCodes.{Entries}
-use Rattle.lane_views.specs.Rows.{Rows, fitted, free_place, document_of}
+use Rattle.document_rows.specs.Rows.{Rows, fitted, free_place, document_of}
 use Rattle.lane_views.specs.Views.{NodeView, in_regions}
 
 -- what an entry shows under an id: its document, where that has this id

@@ -7,7 +7,7 @@ use Rattle.global_ids.specs.Keys.{key_of}
 use Rattle.doc_types.specs.SchemaCodes.{Types}
 use Rattle.documents.specs.declared.entry.Entry.{Entry}
 use Rattle.entry_maps.specs.EntryCodes.{Entries}
-use Rattle.lane_views.specs.Rows.{Rows, after_body}
+use Rattle.document_rows.specs.Rows.{Rows, after_body, taken_into}
 use Rattle.lane_views.specs.declared.change.LaneChange.{LaneChange}
 use Rattle.lane_views.specs.declared.change.LaneChange.TheVariants.{Adopt, Activate, Take, Stop, Start}
 
@@ -56,9 +56,6 @@ listed m = fin.values m
 -- an entry lies in the bucket, and in no region so far
 abbrev pub is_fresh : Low → List Low → Entry → Bool
 is_fresh b rs e = has_key b (key_of e.id) && not (in_regions rs (key_of e.id))
-
-abbrev pub taken_into : Types → Rows → Entry → Rows
-taken_into types rows e = after_body types e.id e.body rows
 
 -- the rows with the entries that no region had
 abbrev pub rows_with : Types → Low → Entries → List Low → Rows → Rows

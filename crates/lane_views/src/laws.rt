@@ -1,10 +1,8 @@
 //! Laws of views; no function here does anything.
 
-ghost use Rattle.std.specs.Prelude.{◌≡◌, ◌<◌, ℕ, List, Some, None, true, false, length, filter, if◌then◌else◌, Bool};
-ghost use Rattle.std.specs.Str.{bytes_eq};
-ghost use Rattle.documents.specs.Fields.{Contents};
+ghost use Rattle.std.specs.Prelude.{◌≡◌, ◌<◌, ℕ, List, true, false, length, filter, Bool};
 ghost use Rattle.lane_views.specs.declared.change.LaneChange.{LaneChange};
-ghost use Rattle.lane_views.specs.Rows.{Rows, has_row, document_of, replaced, without, put_free};
+ghost use Rattle.document_rows.specs.Rows.{Rows, AreDistinct};
 ghost use Rattle.lane_views.specs.Views.{View, NodeView, in_regions, adopted, taken, activated, is_fresh, listed, changed, view_after};
 ghost use Rattle.lane_views.specs.Shown.{Keeping, ShowsNode, HasRoom, AreOwn, adopt, keep, activate};
 ghost use Rattle.lane_views.specs.Deeds.{RoomAlong, is_seen, NodeDeed, MayDo, ViewShows, with_node, after_deed, changes_of, adoption};
@@ -15,19 +13,9 @@ ghost use Rattle.std.specs.FinMap as fin;
 ghost use Rattle.global_ids.specs.Keys.{key_of};
 ghost use Rattle.doc_types.specs.SchemaCodes.{Types};
 ghost use Rattle.documents.specs.declared.entry.Entry.{Entry};
-ghost use Rattle.lane_views.specs.Kept.{IsView, IsNode, HasBucket, AreDistinct};
+ghost use Rattle.lane_views.specs.Kept.{IsView, IsNode, HasBucket};
 ghost use Rattle.lane_views.specs.Room.{AllAt, AllHave};
 ghost use Rattle.entry_maps.specs.EntryCodes.{Entries};
-
-/// What a change of rows leaves.
-pub fn rows_keep()
-    ensures replaced { (d : Contents) (q : List ℕ) (rows : Rows) → has_row d.id rows ≡ true
-        → document_of q (replaced d rows) ≡ (if bytes_eq d.id q then Some d else document_of q rows) }
-    ensures put { (d : Contents) (q : List ℕ) (rows : Rows) → has_row d.id rows ≡ false
-        → document_of q (put_free d rows) ≡ (if bytes_eq d.id q then Some d else document_of q rows) }
-    ensures cleared { (id q : List ℕ) (rows : Rows)
-        → document_of q (without id rows) ≡ (if bytes_eq id q then None else document_of q rows) }
-{}
 
 /// A change leaves a view one: no key is active at two nodes of one version, and no document is there twice.
 pub fn views_keep()

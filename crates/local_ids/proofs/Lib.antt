@@ -1,3 +1,4 @@
 pub mod RisingLaws
 pub mod PlaceLaws
 pub mod KeyLaws
+pub mod MoveLaws

@@ -4,7 +4,7 @@ ghost use Rattle.std.specs.Prelude.{◌≡◌, ◌≢◌, ◌↔◌, ◌⊎◌, 
 ghost use Rattle.std.specs.List.{Contains};
 ghost use Rattle.std.specs.Ordering.{nat_cmp};
 ghost use Rattle.std.specs.FinMap as fin;
-ghost use Rattle.local_ids.specs.Rising.{IsRising, with_local, without_local};
+ghost use Rattle.local_ids.specs.Rising.{IsRising, with_local, without_local, moved_local};
 
 /// A list rises with an id more, and without an id.
 pub fn lists_rise()
@@ -17,6 +17,8 @@ pub fn ids_are_told()
     ensures with { (x y : ℕ) (xs : List ℕ) → IsRising xs
         → (Contains (with_local x xs) y ↔ ((y ≡ x) ⊎ Contains xs y)) }
     ensures without { (x y : ℕ) (xs : List ℕ) → Contains (without_local x xs) y ↔ (Contains xs y × (y ≢ x)) }
+    ensures moved { (x z y : ℕ) (xs : List ℕ) → IsRising xs → z ≢ x
+        → (Contains (moved_local x z xs) y ↔ (((y ≡ z) × Contains xs x) ⊎ (Contains xs y × (y ≢ x)))) }
 {}
 
 /// The keys of a map with a value more, and without one.

@@ -14,4 +14,4 @@ pub mod local_map;
 pub mod rising;
 
 pub use local_map::LocalMap;
-pub use rising::{drop_local, has_local, put_local};
+pub use rising::{drop_local, has_local, move_local, put_local};

@@ -1,7 +1,8 @@
 ghost use Rattle.std.specs.Prelude.{◌≡◌, ◌<◌, ◌≤◌, ℕ, None, slice_index_or, slice_set, length, OnOk, OnErr};
 ghost use Rattle.std.specs.Option.{option_copied};
+ghost use Rattle.std.specs.List.{swap};
 ghost use Rattle.std.specs.FinMap as fin;
-ghost use Rattle.local_ids.specs.Places.{map_from};
+ghost use Rattle.local_ids.specs.Places.{map_from, moved};
 
 use std::alloc::Global;
 use std::marker::Model;
@@ -60,6 +61,15 @@ fn put_at<T: Drop>(places: &mut Vec<Option<T>>, at: usize, place: Option<T>)
     places[at] = place;
 }
 
+/// Exchanges what two places hold.
+fn exchange<T: Drop>(places: &mut Vec<Option<T>>, one: usize, two: usize)
+    requires one { one < length places.old.items }
+    requires two { two < length places.old.items }
+    ensures { places.new.items ≡ swap places.old.items one two }
+{
+    places.swap(one, two);
+}
+
 impl<T: Drop> LocalMap<T> {
     /// No values.
     pub fn new(alloc: Global) -> Self
@@ -98,6 +108,17 @@ impl<T: Drop> LocalMap<T> {
         let at = local as usize;
         if at < self.places.len() {
             put_at(&mut self.places, at, None);
+        }
+    }
+
+    /// Gives an id without a value that of a greater one, if that has one; takes no memory.
+    pub fn move_down(&mut self, from: u32, to: u32)
+        requires below { to < from }
+        requires free { fin.get self.old to ≡ None }
+        ensures { self.new ≡ moved from to self.old }
+    {
+        if (from as usize) < self.places.len() {
+            exchange(&mut self.places, from as usize, to as usize);
         }
     }
 

@@ -1,6 +1,6 @@
-ghost use Rattle.std.specs.Prelude.{◌≡◌, ◌<◌, ◌≤◌, nat_lt, length, slice_index, IsTrue, ◌↔◌, OnOk, OnErr};
+ghost use Rattle.std.specs.Prelude.{◌≡◌, ◌<◌, ◌≤◌, nat_lt, length, slice_index, IsTrue, ◌↔◌, OnOk, OnErr, IsOk, vec_len, vec_capacity};
 ghost use Rattle.std.specs.List.{prefix_len, Contains};
-ghost use Rattle.local_ids.specs.Rising.{IsRising, with_local, without_local};
+ghost use Rattle.local_ids.specs.Rising.{IsRising, with_local, without_local, moved_local};
 
 use value_lists::NoMemory;
 
@@ -38,6 +38,7 @@ pub fn put_local(list: &mut Vec<u32>, local: u32) -> Result<(), NoMemory>
     requires { IsRising list.old.items }
     ensures ok { OnOk result (list.new.items ≡ with_local local list.old.items) }
     ensures err { OnErr result (list.new.items ≡ list.old.items) }
+    ensures room { vec_len list.old < vec_capacity list.old → IsOk result }
 {
     let at = place_of(list, local);
     if stands_at(list, at, local) {
@@ -45,6 +46,18 @@ pub fn put_local(list: &mut Vec<u32>, local: u32) -> Result<(), NoMemory>
     }
     list.insert(at, local)?;
     Ok(())
+}
+
+/// The same where there is room.
+fn fill_local(list: &mut Vec<u32>, local: u32)
+    requires rising { IsRising list.old.items }
+    requires room { vec_len list.old < vec_capacity list.old }
+    ensures { list.new.items ≡ with_local local list.old.items }
+{
+    match put_local(list, local) {
+        Ok(()) => {}
+        Err(_) => {}
+    }
 }
 
 /// Takes an id out of a rising list, if it is there: a binary search, and the ids above it move down by one.
@@ -55,5 +68,18 @@ pub fn drop_local(list: &mut Vec<u32>, local: u32)
     let at = place_of(list, local);
     if stands_at(list, at, local) {
         list.remove(at);
+    }
+}
+
+/// Puts an id in the place of another, if that is there: two binary searches, and the ids between them move by one.
+/// Takes no memory.
+pub fn move_local(list: &mut Vec<u32>, from: u32, to: u32)
+    requires { IsRising list.old.items }
+    ensures { list.new.items ≡ moved_local from to list.old.items }
+{
+    let place = place_of(list, from);
+    if stands_at(list, place, from) {
+        list.remove(place);
+        fill_local(list, to);
     }
 }

@@ -1,4 +1,4 @@
-ghost use Rattle.std.specs.Prelude.{◌≡◌, ◌<◌, ◌-◌, ◌^◌, ◌↔◌, ℕ, Some, Ok, option_map, IfOk, OnErr};
+ghost use Rattle.std.specs.Prelude.{◌≡◌, ◌<◌, ◌-◌, ◌^◌, ◌↔◌, ℕ, Some, None, Ok, option_map, IfOk, OnOk, OnErr};
 ghost use Rattle.std.specs.FinMap as fin;
 ghost use Rattle.local_ids.specs.Rising.{IsRising};
 ghost use Rattle.meta_store.specs.Store.{Has, IsNew, IsLeastFree, IsStored};
@@ -39,6 +39,37 @@ impl Model for MetaStore {
     ghost invariant = { λ s. IsStored s.named s.locals.items s.by_id };
 }
 
+/// A new document takes a local id that is free. The only error is want of memory, which leaves all as it was.
+fn place_in(
+    alloc: Global,
+    named: &mut LocalMap<Named>,
+    locals: &mut Vec<u32>,
+    by_id: &mut BTreeMap<String, u32>,
+    local: u32,
+    id: &DocId,
+    key: u64,
+) -> Result<(), NoMemory>
+    requires stored { IsStored named.old locals.old.items by_id.old }
+    requires new { IsNew named.old id.now }
+    requires free { fin.get named.old local ≡ None }
+    ensures stored { IsStored named.new locals.new.items by_id.new }
+    ensures ok { OnOk result (named.new ≡ fin.insert named.old local (record { id = id.now; key = key })) }
+    ensures err { OnErr result (named.new ≡ named.old) }
+{
+    let document = Named {
+        id: id.copy(alloc)?,
+        key,
+    };
+    named.set(local, document)?;
+    match enter(alloc, locals, by_id, id, local) {
+        Ok(()) => Ok(()),
+        Err(fault) => {
+            named.clear(local);
+            Err(fault)
+        }
+    }
+}
+
 /// A new document takes the least local id that is free. The only error is want of memory, which leaves all as it was.
 fn take_in(
     alloc: Global,
@@ -57,18 +88,8 @@ fn take_in(
     ensures err { OnErr result (named.new ≡ named.old) }
 {
     let local = least_free(locals);
-    let document = Named {
-        id: id.copy(alloc)?,
-        key,
-    };
-    named.set(local, document)?;
-    match enter(alloc, locals, by_id, id, local) {
-        Ok(()) => Ok(local),
-        Err(fault) => {
-            named.clear(local);
-            Err(fault)
-        }
-    }
+    place_in(alloc, named, locals, by_id, local, id, key)?;
+    Ok(local)
 }
 
 impl MetaStore {
@@ -106,6 +127,24 @@ impl MetaStore {
             &mut self.named,
             &mut self.locals,
             &mut self.by_id,
+            id,
+            key,
+        )
+    }
+
+    /// Gives a document that is new a local id that is free. Takes what `assign` takes. The only error is want of memory.
+    pub fn place(&mut self, alloc: Global, local: u32, id: &DocId, key: u64) -> Result<(), NoMemory>
+        requires new { IsNew self.old id.now }
+        requires free { fin.get self.old local ≡ None }
+        ensures ok { OnOk result (self.new ≡ fin.insert self.old local (record { id = id.now; key = key })) }
+        ensures err { OnErr result (self.new ≡ self.old) }
+    {
+        place_in(
+            alloc,
+            &mut self.named,
+            &mut self.locals,
+            &mut self.by_id,
+            local,
             id,
             key,
         )

@@ -6,13 +6,14 @@ use Rattle.std.specs.Str.{bytes_eq}
 use Rattle.std.proofs.lemmas.Bool.Decides.{nat_tests}
 use Rattle.bucket_ids.specs.Buckets.{Low, IsBucket, has_key}
 use Rattle.global_ids.specs.Keys.{key_of}
-use Rattle.lane_views.specs.Rows.{Rows, is_of, has_row}
+use Rattle.document_rows.specs.Rows.{Rows, is_of, has_row, AreDistinct}
 use Rattle.lane_views.specs.Views.{NodeView, in_regions, node_at}
-use Rattle.lane_views.specs.Kept.{AreDistinct, AreInside, AreParted, AreNodes, IsOver, AreNodesApart}
-use Rattle.lane_views.proofs.RowLaws.{same_id}
+use Rattle.lane_views.specs.Kept.{AreInside, AreParted, AreNodes, IsOver, AreNodesApart}
+use Rattle.document_rows.proofs.RowLaws.{same_id}
 use Rattle.coverage.specs.Covering.{times}
 use Rattle.coverage.proofs.Measures.{bounded, whole}
-use Rattle.search_laws.specs.Searches.{Seen, serves, places, node_places, times_counted, node_regions, serving_regions, covered, LieIn, NoneHas, AreLanes, SomeNode, SomeSeen, EachNode, EachSeen}
+use Rattle.lane_views.specs.Serving.{serves}
+use Rattle.search_laws.specs.Searches.{Seen, places, node_places, times_counted, node_regions, serving_regions, covered, LieIn, NoneHas, AreLanes, SomeNode, SomeSeen, EachNode, EachSeen}
 
 one : Bool → ℕ
 one t = cond t 1 0

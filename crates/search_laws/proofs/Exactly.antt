@@ -2,11 +2,12 @@
 use Rattle.std.proofs.Common.{◌≡◌, inl, inr, ℕ, ◌+◌, ◌≤◌, ◌||◌, ◌++◌, Bool, true, false, cond, List, [], ◌∷◌, sym, ap, ◌∙◌, arith}
 use mathlib.Core.Bool.{true≢false}
 use Rattle.global_ids.specs.Keys.{key_of}
-use Rattle.lane_views.specs.Rows.{Rows, is_of, has_row}
+use Rattle.document_rows.specs.Rows.{Rows, is_of, has_row}
 use Rattle.lane_views.specs.Views.{NodeView}
 use Rattle.lane_views.specs.Kept.{AreNodes}
 use Rattle.coverage.specs.Covering.{times}
-use Rattle.search_laws.specs.Searches.{Seen, serves, places, node_places, times_counted, node_regions, serving_regions, AreLanes, SomeNode, SomeSeen}
+use Rattle.lane_views.specs.Serving.{serves}
+use Rattle.search_laws.specs.Searches.{Seen, places, node_places, times_counted, node_regions, serving_regions, AreLanes, SomeNode, SomeSeen}
 use Rattle.search_laws.proofs.Counting.{none-there, nodes-times_counted, times-parted, times-append, lanes-times_counted, lanes-once, times_counted-once}
 
 -- a node that serves has the document, or is over its key without it

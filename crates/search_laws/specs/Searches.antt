@@ -1,8 +1,9 @@
 -- What a search under one version sees: the views of all lanes, each with what its nodes keep.
-use Rattle.std.specs.Prelude.{◌≡◌, ◌==◌, ◌⊎◌, ◌+◌, ◌&&◌, ◌++◌, ℕ, Bool, true, false, not, cond, List, [], ◌∷◌, if◌then◌else◌}
+use Rattle.std.specs.Prelude.{◌≡◌, ◌⊎◌, ◌+◌, ◌&&◌, ◌++◌, ℕ, Bool, true, false, cond, List, [], ◌∷◌, if◌then◌else◌}
 use Rattle.bucket_ids.specs.Buckets.{Low, has_key}
-use Rattle.lane_views.specs.Rows.{Rows, is_of}
+use Rattle.document_rows.specs.Rows.{Rows, is_of}
 use Rattle.lane_views.specs.Views.{NodeView, View, in_regions}
+use Rattle.lane_views.specs.Serving.{serves}
 use Rattle.lane_views.specs.Kept.{IsView}
 use Rattle.coverage.specs.Covering.{measure_of}
 
@@ -10,10 +11,6 @@ use Rattle.coverage.specs.Covering.{measure_of}
 pub record Seen : Type 0 where
   pub lane : Low
   pub view : View
-
--- the node is at the version, and isn't stopped
-abbrev pub serves : ℕ → NodeView → Bool
-serves w n = (n.version == w) && not n.stopped
 
 -- ---- what is counted
 

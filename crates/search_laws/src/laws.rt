@@ -2,7 +2,7 @@
 
 ghost use Rattle.std.specs.Prelude.{◌≡◌, ◌≤◌, ◌<◌, ◌^◌, ℕ, Bool, true, false, List};
 ghost use Rattle.global_ids.specs.Keys.{key_of};
-ghost use Rattle.lane_views.specs.Rows.{has_row};
+ghost use Rattle.document_rows.specs.Rows.{has_row};
 ghost use Rattle.lane_views.specs.Views.{NodeView};
 ghost use Rattle.search_laws.specs.Searches.{Seen, AreLanes, times_counted, covered, EachSeen, SomeSeen};
 

@@ -14,9 +14,10 @@ use Rattle.std.proofs.lemmas.Map.Text.{btree_map_updates_text, is_eq-slice_cmp}
 use Rattle.std.proofs.lemmas.Slice.Eq.{bytes_eq-Decides}
 use Rattle.std.proofs.lemmas.Bool.Decides.{nat_tests}
 use Rattle.proof_basics.proofs.Tests.{clash}
-use Rattle.local_ids.specs.Rising.{IsRising, with_local, without_local}
+use Rattle.local_ids.specs.Rising.{IsRising, with_local, without_local, moved_local}
 use Rattle.local_ids.proofs.RisingLaws.{with_rises, without_rises, with_has, without_has}
-use Rattle.word_index.specs.Index.{Index, IsWordList, IsIndex, list_of, with_list, with_word, without_word}
+use Rattle.local_ids.proofs.MoveLaws.{moved_rises}
+use Rattle.word_index.specs.Index.{Index, IsWordList, IsIndex, list_of, with_list, with_word, without_word, with_moved}
 use Rattle.word_index.specs.Kept.{index_of, if_any}
 
 found : {X Y : Type 0} (items : X → List ℕ) (q : List ℕ) (es : List (String Y × X))
@@ -73,27 +74,35 @@ added items old new word x f = same_index _ _ (λ q. get_index items new q ∙ f
     ∙ ap₂ (λ l o. cond (bytes_eq word q) (Some (with_local x l)) o) (list_is items old word) (sym (get_index items old q))
     ∙ sym (get-with word (with_local x (list_of word (index_of items old))) (index_of items old) q))
 
-some_left : {X : Type 0} (items : X → List ℕ) (x : ℕ) (o : Option X) → if_any (option_map (λ v. without_local x (items v)) o) ≡ if_any (Some (without_local x (option_map_or items o [])))
-some_left items x None = refl
-some_left items x (Some v) = refl
+some_left : {X : Type 0} (items : X → List ℕ) (h : List ℕ → List ℕ) → h [] ≡ [] → (o : Option X) → if_any (option_map (λ v. h (items v)) o) ≡ if_any (Some (h (option_map_or items o [])))
+some_left items h none None = sym (ap (λ l. if_any (Some l)) none)
+some_left items h none (Some v) = refl
+
+-- a word's list changed, and no empty one kept
+pub changed : {X Y : Type 0} (items : X → List ℕ) (old mid new : BTreeMap (String Y) X) (word : List ℕ) (h : List ℕ → List ℕ) → h [] ≡ []
+    → ((q : List ℕ) → option_map items (get_by_text mid q) ≡ cond (bytes_eq word q) (option_map (λ v. h (items v)) (get_by_text old word)) (option_map items (get_by_text old q)))
+    → ((q : List ℕ) → option_map items (get_by_text new q) ≡ cond (bytes_eq word q) (if_any (option_map items (get_by_text mid word))) (option_map items (get_by_text mid q)))
+    → bytes_eq word word ≡ true
+    → index_of items new ≡ with_list word (h (list_of word (index_of items old))) (index_of items old)
+changed {X} items old mid new word h none f g own = same_index _ _ (λ q. get_index items new q ∙ g q
+    ∙ ap₂ (λ a b. cond (bytes_eq word q) (if_any a) b) (f word ∙ ap (λ t. cond t left (option_map items (get_by_text old word))) own) (f q)
+    ∙ twice (bytes_eq word q) (if_any left) left (option_map items (get_by_text old q))
+    ∙ ap₂ (λ a b. cond (bytes_eq word q) a b) (some_left items h none (get_by_text old word) ∙ ap (λ l. if_any (Some (h l))) (list_is items old word)) (sym (get_index items old q))
+    ∙ sym (get-with_list word (h (list_of word (index_of items old))) (index_of items old) q))
+  where
+    left : Option (List ℕ)
+    left = option_map (λ v. h (items v)) (get_by_text old word)
+
+    twice : (t : Bool) (a b o : Option (List ℕ)) → cond t a (cond t b o) ≡ cond t a o
+    twice true a b o = refl
+    twice false a b o = refl
 
 pub dropped : {X Y : Type 0} (items : X → List ℕ) (old mid new : BTreeMap (String Y) X) (word : List ℕ) (x : ℕ)
     → ((q : List ℕ) → option_map items (get_by_text mid q) ≡ cond (bytes_eq word q) (option_map (λ v. without_local x (items v)) (get_by_text old word)) (option_map items (get_by_text old q)))
     → ((q : List ℕ) → option_map items (get_by_text new q) ≡ cond (bytes_eq word q) (if_any (option_map items (get_by_text mid word))) (option_map items (get_by_text mid q)))
     → bytes_eq word word ≡ true
     → index_of items new ≡ without_word word x (index_of items old)
-dropped {X} items old mid new word x f g own = same_index _ _ (λ q. get_index items new q ∙ g q
-    ∙ ap₂ (λ a b. cond (bytes_eq word q) (if_any a) b) (f word ∙ ap (λ t. cond t left (option_map items (get_by_text old word))) own) (f q)
-    ∙ twice (bytes_eq word q) (if_any left) left (option_map items (get_by_text old q))
-    ∙ ap₂ (λ a b. cond (bytes_eq word q) a b) (some_left items x (get_by_text old word) ∙ ap (λ l. if_any (Some (without_local x l))) (list_is items old word)) (sym (get_index items old q))
-    ∙ sym (get-with_list word (without_local x (list_of word (index_of items old))) (index_of items old) q))
-  where
-    left : Option (List ℕ)
-    left = option_map (λ v. without_local x (items v)) (get_by_text old word)
-
-    twice : (t : Bool) (a b o : Option (List ℕ)) → cond t a (cond t b o) ≡ cond t a o
-    twice true a b o = refl
-    twice false a b o = refl
+dropped items old mid new word x f g own = changed items old mid new word (without_local x) refl f g own
 
 -- ---- what an index keeps
 
@@ -120,9 +129,14 @@ any_word : (l : List ℕ) → IsRising l → IfSome (if_any (Some l)) IsWordList
 any_word [] r = tt
 any_word (x ∷ xs) r = (r, omega arith)
 
+with_list_keeps : (word list : List ℕ) (m : Index) → IsRising list → IsIndex m → IsIndex (with_list word list m)
+with_list_keeps word list m r h = λ q. subst (λ o. IfSome o IsWordList) (sym (get-with_list word list m q)) (either (bytes_eq word q) _ _ (any_word list r) (h q))
+
 pub without_word_keeps : (word : List ℕ) (x : ℕ) (m : Index) → IsIndex m → IsIndex (without_word word x m)
-without_word_keeps word x m h = λ q. subst (λ o. IfSome o IsWordList) (sym (get-with_list word (without_local x (list_of word m)) m q))
-    (either (bytes_eq word q) _ _ (any_word _ (without_rises x (list_of word m) (list_rises word m h))) (h q))
+without_word_keeps word x m h = with_list_keeps word (without_local x (list_of word m)) m (without_rises x (list_of word m) (list_rises word m h)) h
+
+pub with_moved_keeps : (word : List ℕ) (x z : ℕ) (m : Index) → IsIndex m → IsIndex (with_moved word x z m)
+with_moved_keeps word x z m h = with_list_keeps word (moved_local x z (list_of word m)) m (moved_rises x z (list_of word m) (list_rises word m h)) h
 
 pub empty_keeps : IsIndex fin.empty
 empty_keeps = λ q. subst (λ o. IfSome o IsWordList) (sym (get-empty (slice_cmp nat_cmp) q)) tt
@@ -176,15 +190,21 @@ any_list : (l : List ℕ) → unwrap_or (if_any (Some l)) [] ≡ l
 any_list [] = refl
 any_list (x ∷ xs) = refl
 
-list_with : (word v : List ℕ) (x : ℕ) (m : Index) → list_of v (with_word word x m) ≡ cond (bytes_eq word v) (with_local x (list_of word m)) (list_of v m)
+pub list_with : (word v : List ℕ) (x : ℕ) (m : Index) → list_of v (with_word word x m) ≡ cond (bytes_eq word v) (with_local x (list_of word m)) (list_of v m)
 list_with word v x m = of_with word (with_local x (list_of word m)) (with_word word x m) v (fin.get m v) (get-with word (with_local x (list_of word m)) m v)
 
-list_without : (word v : List ℕ) (x : ℕ) (m : Index) → list_of v (without_word word x m) ≡ cond (bytes_eq word v) (without_local x (list_of word m)) (list_of v m)
-list_without word v x m = ap (λ o. unwrap_or o []) (get-with_list word (without_local x (list_of word m)) m v) ∙ by_test (bytes_eq word v)
+of_with_list : (word v list : List ℕ) (m : Index) → list_of v (with_list word list m) ≡ cond (bytes_eq word v) list (list_of v m)
+of_with_list word v list m = ap (λ o. unwrap_or o []) (get-with_list word list m v) ∙ by_test (bytes_eq word v)
   where
-    by_test : (t : Bool) → unwrap_or (cond t (if_any (Some (without_local x (list_of word m)))) (fin.get m v)) [] ≡ cond t (without_local x (list_of word m)) (list_of v m)
-    by_test true = any_list (without_local x (list_of word m))
+    by_test : (t : Bool) → unwrap_or (cond t (if_any (Some list)) (fin.get m v)) [] ≡ cond t list (list_of v m)
+    by_test true = any_list list
     by_test false = refl
+
+pub list_without : (word v : List ℕ) (x : ℕ) (m : Index) → list_of v (without_word word x m) ≡ cond (bytes_eq word v) (without_local x (list_of word m)) (list_of v m)
+list_without word v x m = of_with_list word v (without_local x (list_of word m)) m
+
+pub list_moved : (word v : List ℕ) (x z : ℕ) (m : Index) → list_of v (with_moved word x z m) ≡ cond (bytes_eq word v) (moved_local x z (list_of word m)) (list_of v m)
+list_moved word v x z m = of_with_list word v (moved_local x z (list_of word m)) m
 
 other_word : (word v : List ℕ) → v ≡ word → bytes_eq word v ≡ false → ⊥
 other_word word v f e = clash ((bytes_eq-Decides word v).1 (sym f)) e

@@ -4,7 +4,7 @@ use Rattle.std.specs.Option.{unwrap_or}
 use Rattle.std.specs.Ordering.{nat_cmp}
 use Rattle.std.specs.Cmp.Lexicographic.{slice_cmp}
 use Rattle.std.specs.FinMap as fin
-use Rattle.local_ids.specs.Rising.{IsRising, with_local, without_local}
+use Rattle.local_ids.specs.Rising.{IsRising, with_local, without_local, moved_local}
 
 -- of each word that a document has the ids of those that have it
 abbrev pub Index : Type 0
@@ -31,3 +31,7 @@ with_word word x index = fin.insert index word (with_local x (list_of word index
 
 abbrev pub without_word : List ℕ → ℕ → Index → Index
 without_word word x index = with_list word (without_local x (list_of word index)) index
+
+-- another id in the place of one that has the word
+abbrev pub with_moved : List ℕ → ℕ → ℕ → Index → Index
+with_moved word from to index = with_list word (moved_local from to (list_of word index)) index

@@ -1,9 +1,9 @@
 ghost use Rattle.std.specs.Prelude.{◌≡◌, OnOk, OnErr};
 ghost use Rattle.std.specs.FinMap as fin;
 ghost use Rattle.local_ids.specs.Rising.{IsRising};
-ghost use Rattle.word_index.specs.Index.{list_of, with_word, without_word};
+ghost use Rattle.word_index.specs.Index.{list_of, with_word, without_word, with_moved};
 
-use crate::lists::{add_in, drop_in, list_in, tidy_in};
+use crate::lists::{add_in, drop_in, list_in, move_in, tidy_in};
 use std::alloc::Global;
 use std::collections::BTreeMap;
 use std::marker::Model;
@@ -54,6 +54,14 @@ impl WordIndex {
         ensures { self.new ≡ without_word token.now local self.old }
     {
         drop_in(&mut self.lists, token, local);
+        tidy_in(&mut self.lists, token);
+    }
+
+    /// A document that has a word has another local id from now on. Takes what `add` takes, and no memory.
+    pub fn move_id(&mut self, token: &str, from: u32, to: u32)
+        ensures { self.new ≡ with_moved token.now from to self.old }
+    {
+        move_in(&mut self.lists, token, from, to);
         tidy_in(&mut self.lists, token);
     }
 

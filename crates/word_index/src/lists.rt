@@ -1,10 +1,10 @@
 ghost use Rattle.std.specs.Prelude.{◌≡◌, ℕ, List, [], Some, bytes_eq, if◌then◌else◌, option_map, IfSome, OnOk, OnErr};
 ghost use Rattle.std.specs.Option.{option_map_or};
 ghost use Rattle.std.specs.BTreeMap.{get_by_text};
-ghost use Rattle.local_ids.specs.Rising.{IsRising, with_local, without_local};
+ghost use Rattle.local_ids.specs.Rising.{IsRising, with_local, without_local, moved_local};
 ghost use Rattle.word_index.specs.Kept.{if_any};
 
-use local_ids::{drop_local, put_local};
+use local_ids::{drop_local, move_local, put_local};
 use std::alloc::Global;
 use std::collections::BTreeMap;
 use value_lists::NoMemory;
@@ -53,6 +53,19 @@ pub fn drop_in(lists: &mut BTreeMap<String, Vec<u32>>, token: &str, local: u32)
 {
     if let Some(list) = lists.get_mut(token) {
         drop_local(list, local);
+    }
+}
+
+/// Puts an id in the place of another at a word.
+pub fn move_in(lists: &mut BTreeMap<String, Vec<u32>>, token: &str, from: u32, to: u32)
+    requires { IfSome (get_by_text lists.old token.now) (λ v. IsRising v.items) }
+    ensures { (q : List ℕ) → option_map (λ v. v.items) (get_by_text lists.new q)
+        ≡ (if bytes_eq token.now q
+        then option_map (λ v. moved_local from to v.items) (get_by_text lists.old token.now)
+        else option_map (λ v. v.items) (get_by_text lists.old q)) }
+{
+    if let Some(list) = lists.get_mut(token) {
+        move_local(list, from, to);
     }
 }
 

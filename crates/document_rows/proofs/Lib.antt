@@ -1,0 +1,2 @@
+-- Shared: other crates cite these.
+pub mod RowLaws

@@ -1,0 +1,10 @@
+mod Members
+mod Noted
+mod Kept
+mod Lanes
+mod Writes
+mod Folds
+mod Standing
+mod Reading
+mod Telling
+mod Counting

@@ -1,0 +1,5 @@
+pub mod PlaceLaws
+pub mod TruthLaws
+pub mod RangeLaws
+pub mod HitLaws
+pub mod Steps

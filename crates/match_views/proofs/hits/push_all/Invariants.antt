@@ -1,0 +1,5 @@
+use Rattle.std.proofs.Common.{◌≡◌, ◌++◌, map, take}
+use Rattle.match_views.proofs.hits.push_all.Given as goal
+
+abbrev pub invariant-loop-local : goal.invariant-loop-local
+invariant-loop-local l = l.hits.items ≡ l.initial.hits.items ++ map (λ local. record { node = l.node; local = local }) (take l.local-index l.locals)

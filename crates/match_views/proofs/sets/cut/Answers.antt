@@ -1,0 +1,17 @@
+use Rattle.std.proofs.Common.{◌≡◌, ℕ, ◌+◌, ◌<◌, ◌≤◌, List, [], ◌∷◌, ◌++◌, length, get_or, drop, inl, inr, ◌⊎◌, sym, ap, ◌∙◌, arith, append_assoc}
+use Rattle.match_views.specs.Merging.{cut}
+use Rattle.match_views.proofs.Steps.{cut-first, cut-second, cut-both, cut-end, whole}
+use Rattle.match_views.proofs.sets.cut.Goals.{then-loop-i-test+else-j-ys, else-loop-i-test}
+use Rattle.match_views.proofs.sets.cut.Goals as goal
+
+pub loop-i-preserved-then-x-y : goal.loop-i-preserved-then-x-y
+loop-i-preserved-then-x-y c = (ap (λ zs. c.loop-i.both.items ++ zs) (sym (cut-first c.args.xs.now c.args.ys.now c.loop-i.i c.loop-i.j c.loop-i-test.true c.if-j-ys.true (let h : get_or c.args.xs.now c.loop-i.i 0 < get_or c.args.ys.now c.loop-i.j 0 = omega arith in h))) ∙ c.loop-i.invariant.0, omega arith, omega arith)
+
+pub loop-i-preserved-then-y-x : goal.loop-i-preserved-then-y-x
+loop-i-preserved-then-y-x c = (ap (λ zs. c.loop-i.both.items ++ zs) (sym (cut-second c.args.xs.now c.args.ys.now c.loop-i.i c.loop-i.j c.loop-i-test.true c.if-j-ys.true (let h : get_or c.args.ys.now c.loop-i.j 0 < get_or c.args.xs.now c.loop-i.i 0 = omega arith in h))) ∙ c.loop-i.invariant.0, omega arith, omega arith)
+
+pub loop-i-preserved : goal.loop-i-preserved
+loop-i-preserved c = (rw (c.in_ok-push.ensures.items, append_assoc) (ap (λ zs. c.loop-i.both.items ++ zs) (sym (cut-both c.args.xs.now c.args.ys.now c.loop-i.i c.loop-i.j c.loop-i-test.true c.if-j-ys.true (let h : get_or c.args.ys.now c.loop-i.j 0 ≤ get_or c.args.xs.now c.loop-i.i 0 = omega arith in h) (let h : get_or c.args.xs.now c.loop-i.i 0 ≤ get_or c.args.ys.now c.loop-i.j 0 = omega arith in h))) ∙ c.loop-i.invariant.0), omega arith, omega arith)
+
+pub returns : goal.returns
+returns c = elim c.loop-i-test.branch [ then-loop-i-test+else-j-ys w ↦ whole (c.loop-i.both.items) _ _ (cut-end c.args.xs.now c.args.ys.now c.loop-i.i c.loop-i.j (inr (omega arith))) c.loop-i.invariant.0 | else-loop-i-test w ↦ whole (c.loop-i.both.items) _ _ (cut-end c.args.xs.now c.args.ys.now c.loop-i.i c.loop-i.j (inl (omega arith))) c.loop-i.invariant.0 ]

@@ -1,0 +1,34 @@
+//! Tables of what searches read: each file of `data/` is one table, and each of its lines says what is done or asked,
+//! and behind an equals sign what comes of it. Prints for each table how many lines came as they are written there,
+//! and each line that didn't. The words of a line are explained at the head of its file.
+#![tactic(auto)]
+
+mod columns;
+mod maps;
+mod parts;
+mod stores;
+mod table;
+mod words;
+
+use crate::parts::Parts;
+use crate::table::hold;
+use anyhow::Result;
+use std::process::ExitCode;
+
+/// The tables, which are the files of `data/`.
+const NAMES: &[&str] = &["maps", "words", "stores", "columns", "random_lists"];
+
+/// Holds all tables; true where a line is wrong.
+fn hold_all(rt: &HostRuntime, parts: &mut Parts) -> Result<bool> {
+    let mut wrong = false;
+    for name in NAMES {
+        wrong |= hold(rt, parts, name)?;
+    }
+    Ok(wrong)
+}
+
+fn main(rt: HostRuntime) -> Result<ExitCode> {
+    let mut parts = Parts::new(rt.alloc());
+    let wrong = hold_all(&rt, &mut parts)?;
+    Ok(ExitCode::from(u8::from(wrong)))
+}

@@ -1,0 +1,15 @@
+use Rattle.std.proofs.Common.{◌≡◌, sym, ap, ◌∙◌, Some, option_map, rules}
+use Rattle.std.specs.BTreeMap.{get_by_text}
+use Rattle.local_ids.specs.Rising.{moved_local}
+use Rattle.word_index.proofs.IndexLaws.{updated}
+use Rattle.word_index.proofs.lists.move_in.Goals as goal
+
+pub returns-in-Some : goal.returns-in-Some
+returns-in-Some c =
+    let from = c.args.from in
+    let to = c.args.to in
+    let old = c.args.lists.now in
+    let there : get_by_text old c.args.token.now ≡ Some c.in-Some.list.now = sym c.in-Some.ensures.value in
+    updated (λ v. v.items) c.args.token.now old (c.get_mut.follows.lender c.move_local.new.list) (Some c.move_local.new.list) ((c.get_mut.follows.holds c.move_local.new.list).3 (search rules))
+    (option_map (λ v. moved_local from to v.items) (get_by_text old c.args.token.now))
+    (ap Some c.move_local.ensures ∙ sym (ap (option_map (λ v. moved_local from to v.items)) there))
