@@ -10,3 +10,4 @@ mod MergeLaws
 mod MergedRows
 mod CountLaws
 mod AloneLaws
+mod RemovalLaws

@@ -2,7 +2,7 @@ ghost use Rattle.std.specs.Prelude.{◌≡◌, ℕ, List, IfOk, OnOk, OnErr, not
 ghost use Rattle.std.specs.Option.{option_copied};
 ghost use Rattle.std.specs.FinMap as fin;
 ghost use Rattle.global_ids.specs.Keys.{key_of};
-ghost use Rattle.entry_maps.specs.Entries.{is_newer, with_entry, newer_of, alone, in_bucket, documents_of, by_id};
+ghost use Rattle.entry_maps.specs.Entries.{is_newer, with_entry, with_instead, newer_of, alone, in_bucket, documents_of, by_id, AreSingle};
 ghost use Rattle.entry_maps.specs.Stamps.{stamps_of};
 
 use crate::kept::Kept;
@@ -112,7 +112,8 @@ impl EntryMap {
 
     /// All entries, shared; their order isn't told.
     pub fn listed(&self) -> Result<Vec<SharedEntry>, NoMemory>
-        ensures { IfOk result (λ list. fin.from_entries (by_id list.items) ≡ self.now) }
+        ensures entries { IfOk result (λ list. fin.from_entries (by_id list.items) ≡ self.now) }
+        ensures single { IfOk result (λ list. AreSingle (by_id list.items)) }
     {
         self.kept.listed(self.alloc)
     }
@@ -136,6 +137,23 @@ impl EntryMap {
         ensures err { OnErr result (self.new ≡ self.old) }
     {
         self.kept.put(self.alloc, path_of(key), entry)
+    }
+
+    /// Puts an entry in the place of its document's one, be it newer or older, with the key of its id beside it;
+    /// where there is none, nothing is put. Takes no memory.
+    pub fn put_instead_at(&mut self, key: u64, entry: SharedEntry)
+        requires { key ≡ key_of entry.id }
+        ensures { self.new ≡ with_instead self.old entry }
+    {
+        self.kept.put_instead(path_of(key), entry);
+    }
+
+    /// Removes the entry of a document, if there is one, with the key of its id beside it. Takes no memory.
+    pub fn remove_at(&mut self, key: u64, id: &DocId)
+        requires { key ≡ key_of id.now }
+        ensures { self.new ≡ fin.remove self.old id.now }
+    {
+        self.kept.remove(self.alloc, path_of(key), id);
     }
 
     /// Takes, of each document, the other map's entry where that is newer.

@@ -1,7 +1,7 @@
 ghost use Rattle.std.specs.Prelude.{◌≡◌, ℕ, List, not, IfOk, OnOk, OnErr};
 ghost use Rattle.std.specs.Option.{option_copied};
 ghost use Rattle.std.specs.FinMap as fin;
-ghost use Rattle.entry_maps.specs.Entries.{is_newer, with_entry, newer_of, alone, in_bucket, documents_of, by_id};
+ghost use Rattle.entry_maps.specs.Entries.{is_newer, with_entry, with_instead, newer_of, alone, in_bucket, documents_of, by_id, AreSingle};
 ghost use Rattle.entry_maps.specs.Kept.{kept_entries, IsWell};
 ghost use Rattle.entry_maps.specs.Slots.{IsStored, slots_in, entries_of, path_by};
 ghost use Rattle.entry_maps.specs.Stamps.{stamps_of};
@@ -41,7 +41,8 @@ fn stamps(entry: &SharedEntry, alloc: Global) -> Result<Vec<Stamp>, NoMemory>
 
 /// The entry, shared, in a list.
 fn listed(entry: &SharedEntry, alloc: Global) -> Result<Vec<SharedEntry>, NoMemory>
-    ensures { IfOk result (λ list. fin.from_entries (by_id list.items) ≡ alone entry.now) }
+    ensures entries { IfOk result (λ list. fin.from_entries (by_id list.items) ≡ alone entry.now) }
+    ensures single { IfOk result (λ list. AreSingle (by_id list.items)) }
 {
     let mut list = Vec::with_capacity(alloc, 1)?;
     list.push(entry.copy(alloc)?)?;
@@ -139,7 +140,9 @@ impl Kept {
 
     /// All entries, shared.
     pub fn listed(&self, alloc: Global) -> Result<Vec<SharedEntry>, NoMemory>
-        ensures { IfOk result (λ list. fin.from_entries (by_id list.items) ≡ kept_entries self.now) }
+        requires { IsWell self.now }
+        ensures entries { IfOk result (λ list. fin.from_entries (by_id list.items) ≡ kept_entries self.now) }
+        ensures single { IfOk result (λ list. AreSingle (by_id list.items)) }
     {
         match self {
             Kept::One(entry) => listed(entry, alloc),
@@ -163,6 +166,40 @@ impl Kept {
                 let taken = stored.put(alloc, path, entry)?;
                 *self = Kept::Rows(stored);
                 Ok(taken)
+            }
+        }
+    }
+
+    /// Puts an entry in the place of its document's one, if there is one.
+    pub fn put_instead(&mut self, path: u64, entry: SharedEntry)
+        requires well { IsWell self.old }
+        requires path { path ≡ path_by entry.id }
+        ensures entries { kept_entries self.new ≡ with_instead (kept_entries self.old) entry }
+        ensures well { IsWell self.new }
+    {
+        match self {
+            Kept::Rows(stored) => stored.put_instead(path, entry),
+            Kept::One(one) => {
+                if one.is_of(&entry.entry().id) {
+                    *self = Kept::One(entry);
+                }
+            }
+        }
+    }
+
+    /// Takes out the entry of a document, if there is one.
+    pub fn remove(&mut self, alloc: Global, path: u64, id: &DocId)
+        requires well { IsWell self.old }
+        requires path { path ≡ path_by id.now }
+        ensures entries { kept_entries self.new ≡ fin.remove (kept_entries self.old) id.now }
+        ensures well { IsWell self.new }
+    {
+        match self {
+            Kept::Rows(stored) => stored.remove(path, id),
+            Kept::One(entry) => {
+                if entry.is_of(id) {
+                    *self = Kept::none(alloc);
+                }
             }
         }
     }

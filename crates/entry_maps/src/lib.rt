@@ -16,7 +16,9 @@
 //! map.merge(&other)?;                 // of each document the newer entry
 //! join(&mut union, &answer)?;         // union is now the join of both
 //! map.stamps()?                       // the stamps of all entries, the smallest first
-//! map.listed()?                       // all entries, shared
+//! map.listed()?                       // all entries, shared, each document once
+//! map.put_instead_at(key, entry);     // in the place of what is there, be it newer or older
+//! map.remove_at(key, &id);            // the document has none
 //! map.copy(alloc)?                    // the same entries, shared
 //! EntryMap::of_one(alloc, entry)      // the map of one entry; takes no memory
 //! ```

@@ -1,7 +1,7 @@
 ghost use Rattle.std.specs.Prelude.{◌≡◌, ◌++◌, map, IfOk, OnOk};
 ghost use Rattle.std.specs.FinMap as fin;
 ghost use Rattle.std.specs.List.{flat_map};
-ghost use Rattle.entry_maps.specs.Entries.{by_id};
+ghost use Rattle.entry_maps.specs.Entries.{by_id, AreSingle};
 ghost use Rattle.entry_maps.specs.Slots.{IsStored, pairs, slots_in, entries_of};
 ghost use Rattle.entry_maps.specs.Stamps.{rising_of, stamps_of};
 
@@ -67,7 +67,9 @@ fn entries_in(alloc: Global, rows: &[Vec<Slot>], many: usize) -> Result<Vec<Shar
 impl Stored {
     /// All entries, shared.
     pub fn listed(&self, alloc: Global) -> Result<Vec<SharedEntry>, NoMemory>
-        ensures { IfOk result (λ list. fin.from_entries (by_id list.items) ≡ entries_of (slots_in self.now)) }
+        requires { IsStored self.now }
+        ensures entries { IfOk result (λ list. fin.from_entries (by_id list.items) ≡ entries_of (slots_in self.now)) }
+        ensures single { IfOk result (λ list. AreSingle (by_id list.items)) }
     {
         let list = entries_in(alloc, &self.list.rows, self.entries)?;
         Ok(list)

@@ -2,7 +2,7 @@ ghost use Rattle.std.specs.Prelude.{◌≡◌, ◌+◌, ◌<◌, ◌≤◌, ◌^
 ghost use Rattle.std.specs.FinMap as fin;
 ghost use Rattle.std.specs.Option.{option_copied};
 ghost use Rattle.entry_rows.specs.Chunks.{place, IsSeat, IsPlaceFor};
-ghost use Rattle.entry_maps.specs.Entries.{is_newer, with_entry};
+ghost use Rattle.entry_maps.specs.Entries.{is_newer, with_entry, with_instead};
 ghost use Rattle.entry_maps.specs.Slots.{IsCounted, IsStored, IsPlaced, IsSlotOf, slots_in, entries_of, entry_in, path_by};
 
 use crate::seeks::seek;
@@ -177,6 +177,45 @@ impl Stored {
                 self.add(alloc, spot, Slot { path, entry })?;
                 Ok(true)
             }
+        }
+    }
+
+    /// Puts an entry in the place of its document's one, if there is one.
+    pub fn put_instead(&mut self, path: u64, entry: SharedEntry)
+        requires stored { IsStored self.old }
+        requires path { path ≡ path_by entry.id }
+        ensures entries { entries_of (slots_in self.new) ≡ with_instead (entries_of (slots_in self.old)) entry }
+        ensures stored { IsStored self.new }
+    {
+        if let Ok(seat) = seek(&self.list, path, &entry.entry().id) {
+            self.replace(seat, Slot { path, entry });
+        }
+    }
+
+    /// Takes out the slot of a document, which is at a seat.
+    fn take_out(&mut self, seat: Spot, id: &DocId)
+        requires stored { IsStored self.old }
+        requires seat { IsSeat self.old.list seat }
+        requires there { IsSlotOf (slots_in self.old) id.now (place self.old.list seat) }
+        ensures entries { entries_of (slots_in self.new) ≡ fin.remove (entries_of (slots_in self.old)) id.now }
+        ensures stored { IsStored self.new }
+    {
+        let gone = self.list.at(seat).entry.has_document();
+        let past = self.list.next(seat);
+        self.list.cut(seat, past);
+        self.entries -= 1;
+        self.documents = counted(self.documents, gone, false);
+    }
+
+    /// Takes out the entry of a document, if there is one.
+    pub fn remove(&mut self, path: u64, id: &DocId)
+        requires stored { IsStored self.old }
+        requires path { path ≡ path_by id.now }
+        ensures entries { entries_of (slots_in self.new) ≡ fin.remove (entries_of (slots_in self.old)) id.now }
+        ensures stored { IsStored self.new }
+    {
+        if let Ok(seat) = seek(&self.list, path, id) {
+            self.take_out(seat, id);
         }
     }
 }

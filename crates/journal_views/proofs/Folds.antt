@@ -6,7 +6,7 @@ use Rattle.bucket_ids.specs.Buckets.{IsBucket}
 use Rattle.doc_types.specs.SchemaCodes.{Types}
 use Rattle.documents.specs.declared.entry.Entry.{Entry}
 use Rattle.lane_views.specs.Views.{NodeView, View, new_node, stopped_as, at, node_at, changed, view_after}
-use Rattle.lane_views.specs.Kept.{IsNode, AreNodes, IsOver, IsView, HasBucket}
+use Rattle.lane_views.specs.Kept.{IsNode, AreNodes, IsActiveOver, IsView, HasBucket}
 use Rattle.lane_views.specs.Shown.{Keeping, ShowsNode}
 use Rattle.lane_views.specs.Deeds.{NodeDeed, Looks, Stores, Unites, Drops, Activates, takes, adoption, changes_of as changes_told, ViewShows}
 use Rattle.lane_views.specs.declared.change.LaneChange.{LaneChange}
@@ -87,8 +87,8 @@ new-nodes (suc k) = (record { regions = tt; inside = tt; distinct = tt }, new-no
 pub opening-view : (types : Types) → IsView (opening_view types)
 opening-view types = record { many = new-length 32; nodes = new-nodes 32; apart = λ w key n m ln lm on om. absurd (none n w key on) }
   where
-    none : (n w key : ℕ) → IsOver w key (node_at n (new_nodes 32)) → ⊥
-    none n w key o = let o2 = subst (IsOver w key) (new-node n 32) o in true≢false (sym o2.1)
+    none : (n w key : ℕ) → IsActiveOver w key (node_at n (new_nodes 32)) → ⊥
+    none n w key o = let o2 = subst (IsActiveOver w key) (new-node n 32) o in true≢false (sym o2.1)
 
 -- ---- one node of all
 

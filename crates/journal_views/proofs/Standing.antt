@@ -23,7 +23,7 @@ use Rattle.std.specs.Str.{bytes_eq}
 use Rattle.entry_maps.specs.Joins.{joined}
 use Rattle.document_rows.specs.Rows.{Rows, has_row, document_of, AreDistinct}
 use Rattle.lane_views.specs.Views.{NodeView, View, in_regions, listed, is_fresh, node_at, changed, view_after}
-use Rattle.lane_views.specs.Kept.{IsNode, IsOver, IsView}
+use Rattle.lane_views.specs.Kept.{IsNode, IsActiveOver, IsView}
 use Rattle.lane_views.specs.Shown.{shown, Keeping, ShowsNode, AreOwn, adopt}
 use Rattle.lane_views.specs.Room.{AllAt, AllHave}
 use Rattle.lane_views.specs.Deeds.{NodeDeed, after_deed, is_seen, adoption, changes_of as changes_told, RoomAlong, MayDo, ViewShows, with_node}
@@ -315,7 +315,7 @@ module _ (g : Given) (S : Setting) (some : 1 ≤ S.acks) (lane : IsBucket S.lane
           by_test true f = absurd (by_rise (nat_lt (version n H) w) refl (sym (ap (λ (rs : List Bucket). in_regions rs (keys.key_of id)) regions-one) ∙ inside) f)
 
       -- no other node of the version is active in the bucket of an Activate
-      alone : (b : Bucket) → x.body ≡ Activate b → (i key : ℕ) → i ≢ n → i < length v1.nodes → IsOver k1.version key (node_at i v1.nodes) → has_key b key ≡ true → ⊥
+      alone : (b : Bucket) → x.body ≡ Activate b → (i key : ℕ) → i ≢ n → i < length v1.nodes → IsActiveOver k1.version key (node_at i v1.nodes) → has_key b key ≡ true → ⊥
       alone b is i key ne li over h =
           let its : KeptAs J i (ks i) = kept named S J l.0 i in
           let shown : ShowsNode v1.types (ks i) (stops i) (node_at i v1.nodes) = subst (λ (q : Keeping). ShowsNode v1.types q (stops i) (node_at i v1.nodes)) (other1 i ne) (shows1 i li) in

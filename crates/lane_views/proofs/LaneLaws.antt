@@ -13,7 +13,7 @@ use Rattle.documents.specs.declared.entry.Entry.{Entry}
 use Rattle.entry_maps.specs.Entries.{is_newer, in_bucket}
 use Rattle.entry_maps.specs.Joins.{joined}
 use Rattle.lane_views.specs.Views.{NodeView, View, in_regions, meets, adopted, taken, activated, listed, at, node_at, is_in_the_way, is_barred, changed, view_after}
-use Rattle.lane_views.specs.Kept.{AreParted, IsNode, AreNodes, IsOver, IsView}
+use Rattle.lane_views.specs.Kept.{AreParted, IsNode, AreNodes, IsActiveOver, IsView}
 use Rattle.lane_views.specs.Shown.{Keeping, ShowsNode, adopt, activate}
 use Rattle.lane_views.specs.Deeds.{NodeDeed, Looks, Stores, Unites, Drops, Activates, with_entries, after_deed, is_seen, takes, changes_of, adoption, RoomAlong, MayDo, ViewShows, with_node}
 use Rattle.lane_views.specs.declared.change.LaneChange.TheVariants.{Adopt, Activate, Take}
@@ -93,21 +93,21 @@ no-region b is (r ∷ rs) p f = by_test (meets b r) refl (no-region b is rs p.2 
     by_test true e ih = absurd (let k = some-key b r is p.0 e in f k.0 (ap (λ t. t || in_regions rs k.0) k.2) k.1)
     by_test false e ih = ih
 
-free-node : (w : ℕ) (b : Low) (x : NodeView) → IsBucket b → IsNode x → ((key : ℕ) → IsOver w key x → has_key b key ≡ true → ⊥) → is_in_the_way w b x ≡ false
+free-node : (w : ℕ) (b : Low) (x : NodeView) → IsBucket b → IsNode x → ((key : ℕ) → IsActiveOver w key x → has_key b key ≡ true → ⊥) → is_in_the_way w b x ≡ false
 free-node w b x is node f = by_test (x.version == w) refl
   where
     by_test : (t : Bool) → (x.version == w) ≡ t → (t && list_any (meets b) x.regions) ≡ false
     by_test true e = no-region b is x.regions node.regions (λ key h k. let v : x.version ≡ w = grind (arith, nat_tests) in f key (v, h) k)
     by_test false e = refl
 
-all-free : (w : ℕ) (b : Low) → IsBucket b → (ns : List NodeView) → AreNodes ns → ((m key : ℕ) → m < length ns → IsOver w key (node_at m ns) → has_key b key ≡ true → ⊥) → list_any (is_in_the_way w b) ns ≡ false
+all-free : (w : ℕ) (b : Low) → IsBucket b → (ns : List NodeView) → AreNodes ns → ((m key : ℕ) → m < length ns → IsActiveOver w key (node_at m ns) → has_key b key ≡ true → ⊥) → list_any (is_in_the_way w b) ns ≡ false
 all-free w b is [] nodes f = refl
 all-free w b is (x ∷ xs) nodes f =
     let here : is_in_the_way w b x ≡ false = free-node w b x is nodes.0 (λ key o k. f zero key (omega arith) o k) in
     let rest : list_any (is_in_the_way w b) xs ≡ false = all-free w b is xs nodes.1 (λ m key l o k. f (suc m) key (omega (arith, l)) o k) in
     rw (here, rest) refl
 
-unbarred : (n w : ℕ) (b : Low) → IsBucket b → (ns : List NodeView) → AreNodes ns → ((m key : ℕ) → m ≢ n → m < length ns → IsOver w key (node_at m ns) → has_key b key ≡ true → ⊥) → is_barred n w b ns ≡ false
+unbarred : (n w : ℕ) (b : Low) → IsBucket b → (ns : List NodeView) → AreNodes ns → ((m key : ℕ) → m ≢ n → m < length ns → IsActiveOver w key (node_at m ns) → has_key b key ≡ true → ⊥) → is_barred n w b ns ≡ false
 unbarred n w b is [] nodes f = refl
 unbarred zero w b is (x ∷ xs) nodes f = all-free w b is xs nodes.1 (λ m key l o k. f (suc m) key (λ e. absurd (omega arith)) (omega (arith, l)) o k)
 unbarred (suc n) w b is (x ∷ xs) nodes f =

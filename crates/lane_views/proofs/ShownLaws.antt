@@ -19,7 +19,7 @@ use Rattle.document_rows.proofs.RowLaws.{same_id, replaced-is, put-is, without-i
 
 -- ---- one entry
 
-turned : (a b : List ℕ) → bytes_eq a b ≡ bytes_eq b a
+pub turned : (a b : List ℕ) → bytes_eq a b ≡ bytes_eq b a
 turned a b = by_tests (bytes_eq a b) (bytes_eq b a) refl refl
   where
     by_tests : (s t : Bool) → bytes_eq a b ≡ s → bytes_eq b a ≡ t → s ≡ t

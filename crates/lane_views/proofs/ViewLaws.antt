@@ -10,7 +10,7 @@ use Rattle.documents.specs.declared.entry.Entry.{Entry}
 use Rattle.entry_maps.specs.EntryCodes.{Entries}
 use Rattle.document_rows.specs.Rows.{after_body}
 use Rattle.lane_views.specs.Views.{NodeView, View, in_regions, meets, adopted, stopped_as, taken, activated, rows_with, at, node_at, is_in_the_way, is_barred, changed}
-use Rattle.lane_views.specs.Kept.{IsNode, AreNodes, IsOver, AreNodesApart, IsView, HasBucket}
+use Rattle.lane_views.specs.Kept.{IsNode, AreNodes, IsActiveOver, AreNodesApart, IsView, HasBucket}
 use Rattle.lane_views.specs.declared.change.LaneChange.{LaneChange}
 use Rattle.lane_views.specs.declared.change.LaneChange.TheVariants.{Adopt, Activate, Take, Stop, Start}
 use Rattle.lane_views.proofs.RegionLaws.{left, right, key-meets, outer, region-was}
@@ -50,31 +50,31 @@ by_place i n P f g = by_test (eqb i n) refl
 
 -- ---- changes that add no region
 
-over-back : (n : ℕ) (f : NodeView → NodeView) → ((x : NodeView) (w key : ℕ) → IsOver w key (f x) → IsOver w key x) → (ns : List NodeView) (i w key : ℕ) → i < length ns → IsOver w key (node_at i (at n f ns)) → IsOver w key (node_at i ns)
-over-back n f k ns i w key l h = by_place i n (IsOver w key (node_at i ns)) here (λ ne. subst (IsOver w key) (node-other i n f ns ne) h)
+over-back : (n : ℕ) (f : NodeView → NodeView) → ((x : NodeView) (w key : ℕ) → IsActiveOver w key (f x) → IsActiveOver w key x) → (ns : List NodeView) (i w key : ℕ) → i < length ns → IsActiveOver w key (node_at i (at n f ns)) → IsActiveOver w key (node_at i ns)
+over-back n f k ns i w key l h = by_place i n (IsActiveOver w key (node_at i ns)) here (λ ne. subst (IsActiveOver w key) (node-other i n f ns ne) h)
   where
-    here : i ≡ n → IsOver w key (node_at i ns)
+    here : i ≡ n → IsActiveOver w key (node_at i ns)
     here e =
         let there : node_at i (at n f ns) ≡ f (node_at i ns) = subst (λ (m : ℕ). node_at i (at m f ns) ≡ f (node_at i ns)) e (node-here i f ns l) in
-        k (node_at i ns) w key (subst (IsOver w key) there h)
+        k (node_at i ns) w key (subst (IsActiveOver w key) there h)
 
-apart-at : (n : ℕ) (f : NodeView → NodeView) → ((x : NodeView) (w key : ℕ) → IsOver w key (f x) → IsOver w key x) → (ns : List NodeView) → AreNodesApart ns → AreNodesApart (at n f ns)
+apart-at : (n : ℕ) (f : NodeView → NodeView) → ((x : NodeView) (w key : ℕ) → IsActiveOver w key (f x) → IsActiveOver w key x) → (ns : List NodeView) → AreNodesApart ns → AreNodesApart (at n f ns)
 apart-at n f k ns h w key i j li lj oi oj =
     let mi : i < length ns = subst (λ m. i < m) (length-at n f ns) li in
     let mj : j < length ns = subst (λ m. j < m) (length-at n f ns) lj in
     h w key i j mi mj (over-back n f k ns i w key mi oi) (over-back n f k ns j w key mj oj)
 
-over-adopted : (v : ℕ) (x : NodeView) (w key : ℕ) → IsOver w key (adopted v x) → IsOver w key x
+over-adopted : (v : ℕ) (x : NodeView) (w key : ℕ) → IsActiveOver w key (adopted v x) → IsActiveOver w key x
 over-adopted v x w key = by_test (nat_lt x.version v)
   where
-    by_test : (t : Bool) → IsOver w key (cond t (record { version = v; stopped = x.stopped; regions = []; rows = [] }) x) → IsOver w key x
+    by_test : (t : Bool) → IsActiveOver w key (cond t (record { version = v; stopped = x.stopped; regions = []; rows = [] }) x) → IsActiveOver w key x
     by_test true h = absurd (true≢false (sym h.1))
     by_test false h = h
 
-over-taken : (types : Types) (e : Entry) (x : NodeView) (w key : ℕ) → IsOver w key (taken types e x) → IsOver w key x
+over-taken : (types : Types) (e : Entry) (x : NodeView) (w key : ℕ) → IsActiveOver w key (taken types e x) → IsActiveOver w key x
 over-taken types e x w key = by_test (in_regions x.regions (key_of e.id))
   where
-    by_test : (t : Bool) → IsOver w key (cond t (record { version = x.version; stopped = x.stopped; regions = x.regions; rows = after_body types e.id e.body x.rows }) x) → IsOver w key x
+    by_test : (t : Bool) → IsActiveOver w key (cond t (record { version = x.version; stopped = x.stopped; regions = x.regions; rows = after_body types e.id e.body x.rows }) x) → IsActiveOver w key x
     by_test true h = h
     by_test false h = h
 
@@ -93,7 +93,7 @@ meeting b key h (r ∷ rs) k = by_test (meeting b key h rs) (has_key r key) refl
     by_test ih true e g = rw (key-meets b r key h e) refl
     by_test ih false e g = or-last (meets b r) (list_any (meets b) rs) (ih g)
 
-in-the-way : (w key : ℕ) (b : Low) (n : NodeView) → has_key b key ≡ true → IsOver w key n → is_in_the_way w b n ≡ true
+in-the-way : (w key : ℕ) (b : Low) (n : NodeView) → has_key b key ≡ true → IsActiveOver w key n → is_in_the_way w b n ≡ true
 in-the-way w key b n h o = let v : (n.version == w) ≡ true = (let e : n.version ≡ w = o.0 in grind (arith, nat_tests)) in rw (v, meeting b key h n.regions o.1) refl
 
 not-barred : (n w : ℕ) (b : Low) (ns : List NodeView) → is_barred n w b ns ≡ false → (m : ℕ) → m ≢ n → m < length ns → is_in_the_way w b (node_at m ns) ≡ false
@@ -109,15 +109,15 @@ not-barred (suc n) w b (x ∷ xs) h zero ne l = left (is_in_the_way w b x) (is_b
 not-barred (suc n) w b (x ∷ xs) h (suc m) ne l = not-barred n w b xs (right (is_in_the_way w b x) (is_barred n w b xs) h) m (λ e. ne (ap suc e)) (omega arith)
 
 -- the node was over the key, or the bucket has it
-over-activated : (types : Types) (b : Low) (es : Entries) (x : NodeView) (w key : ℕ) → IsOver w key (activated types b es x) → IsOver w key x ⊎ ((x.version ≡ w) × (has_key b key ≡ true))
+over-activated : (types : Types) (b : Low) (es : Entries) (x : NodeView) (w key : ℕ) → IsActiveOver w key (activated types b es x) → IsActiveOver w key x ⊎ ((x.version ≡ w) × (has_key b key ≡ true))
 over-activated types b es x w key = by_test (list_any (λ r. covers r b) x.regions)
   where
-    by_key : (s t : Bool) → has_key b key ≡ s → in_regions x.regions key ≡ t → x.version ≡ w → in_regions (b ∷ outer b x.regions) key ≡ true → IsOver w key x ⊎ ((x.version ≡ w) × (has_key b key ≡ true))
+    by_key : (s t : Bool) → has_key b key ≡ s → in_regions x.regions key ≡ t → x.version ≡ w → in_regions (b ∷ outer b x.regions) key ≡ true → IsActiveOver w key x ⊎ ((x.version ≡ w) × (has_key b key ≡ true))
     by_key true t e f v h = inr (v, e)
     by_key false true e f v h = inl (v, f)
     by_key false false e f v h = absurd (true≢false (sym h ∙ region-was b key x.regions e f))
 
-    by_test : (t : Bool) → IsOver w key (cond t x (record { version = x.version; stopped = x.stopped; regions = b ∷ outer b x.regions; rows = rows_with types b es x.regions x.rows })) → IsOver w key x ⊎ ((x.version ≡ w) × (has_key b key ≡ true))
+    by_test : (t : Bool) → IsActiveOver w key (cond t x (record { version = x.version; stopped = x.stopped; regions = b ∷ outer b x.regions; rows = rows_with types b es x.regions x.rows })) → IsActiveOver w key x ⊎ ((x.version ≡ w) × (has_key b key ≡ true))
     by_test true h = inl h
     by_test false h = by_key (has_key b key) (in_regions x.regions key) refl refl h.0 h.1
 
@@ -128,24 +128,24 @@ apart-activated types n b es ns free h w key i j li lj oi oj =
     both (was i mi oi) (was j mj oj) mi mj
   where
     Was : ℕ → Type 0
-    Was k = IsOver w key (node_at k ns) ⊎ ((k ≡ n) × ((node_at n ns).version ≡ w) × (has_key b key ≡ true))
+    Was k = IsActiveOver w key (node_at k ns) ⊎ ((k ≡ n) × ((node_at n ns).version ≡ w) × (has_key b key ≡ true))
 
-    was : (k : ℕ) → k < length ns → IsOver w key (node_at k (at n (activated types b es) ns)) → IsOver w key (node_at k ns) ⊎ ((k ≡ n) × ((node_at n ns).version ≡ w) × (has_key b key ≡ true))
-    was k l o = by_place k n _ here (λ ne. inl (subst (IsOver w key) (node-other k n (activated types b es) ns ne) o))
+    was : (k : ℕ) → k < length ns → IsActiveOver w key (node_at k (at n (activated types b es) ns)) → IsActiveOver w key (node_at k ns) ⊎ ((k ≡ n) × ((node_at n ns).version ≡ w) × (has_key b key ≡ true))
+    was k l o = by_place k n _ here (λ ne. inl (subst (IsActiveOver w key) (node-other k n (activated types b es) ns ne) o))
       where
-        turn : k ≡ n → IsOver w key (node_at k ns) ⊎ (((node_at k ns).version ≡ w) × (has_key b key ≡ true)) → IsOver w key (node_at k ns) ⊎ ((k ≡ n) × ((node_at n ns).version ≡ w) × (has_key b key ≡ true))
+        turn : k ≡ n → IsActiveOver w key (node_at k ns) ⊎ (((node_at k ns).version ≡ w) × (has_key b key ≡ true)) → IsActiveOver w key (node_at k ns) ⊎ ((k ≡ n) × ((node_at n ns).version ≡ w) × (has_key b key ≡ true))
         turn e (inl p) = inl p
         turn e (inr p) = inr (e, subst (λ (m : ℕ). (node_at m ns).version ≡ w) e p.0, p.1)
 
-        here : k ≡ n → IsOver w key (node_at k ns) ⊎ ((k ≡ n) × ((node_at n ns).version ≡ w) × (has_key b key ≡ true))
+        here : k ≡ n → IsActiveOver w key (node_at k ns) ⊎ ((k ≡ n) × ((node_at n ns).version ≡ w) × (has_key b key ≡ true))
         here e =
             let there : node_at k (at n (activated types b es) ns) ≡ activated types b es (node_at k ns) = subst (λ (m : ℕ). node_at k (at m (activated types b es) ns) ≡ activated types b es (node_at k ns)) e (node-here k (activated types b es) ns l) in
-            turn e (over-activated types b es (node_at k ns) w key (subst (IsOver w key) there o))
+            turn e (over-activated types b es (node_at k ns) w key (subst (IsActiveOver w key) there o))
 
-    clash : (k : ℕ) → k < length ns → (node_at n ns).version ≡ w → has_key b key ≡ true → IsOver w key (node_at k ns) → k ≡ n
+    clash : (k : ℕ) → k < length ns → (node_at n ns).version ≡ w → has_key b key ≡ true → IsActiveOver w key (node_at k ns) → k ≡ n
     clash k l v hk o = by_place k n _ (λ e. e) (λ ne. absurd (true≢false (sym (subst (λ (x : ℕ). is_in_the_way x b (node_at k ns) ≡ true) (sym v) (in-the-way w key b (node_at k ns) hk o)) ∙ not-barred n (node_at n ns).version b ns free k ne l)))
 
-    both : IsOver w key (node_at i ns) ⊎ ((i ≡ n) × ((node_at n ns).version ≡ w) × (has_key b key ≡ true)) → IsOver w key (node_at j ns) ⊎ ((j ≡ n) × ((node_at n ns).version ≡ w) × (has_key b key ≡ true)) → i < length ns → j < length ns → i ≡ j
+    both : IsActiveOver w key (node_at i ns) ⊎ ((i ≡ n) × ((node_at n ns).version ≡ w) × (has_key b key ≡ true)) → IsActiveOver w key (node_at j ns) ⊎ ((j ≡ n) × ((node_at n ns).version ≡ w) × (has_key b key ≡ true)) → i < length ns → j < length ns → i ≡ j
     both (inl p) (inl q) mi mj = h w key i j mi mj p q
     both (inl p) (inr q) mi mj = clash i mi q.1 q.2 p ∙ sym q.0
     both (inr p) (inl q) mi mj = p.0 ∙ sym (clash j mj p.1 p.2 q)

@@ -10,7 +10,7 @@ use Rattle.entry_maps.specs.Entries.{is_newer, with_entry, in_bucket}
 use Rattle.entry_maps.specs.Joins.{joined}
 use Rattle.document_rows.specs.Rows.{Rows, taken_into}
 use Rattle.lane_views.specs.Views.{View, in_regions, listed, is_fresh, node_at}
-use Rattle.lane_views.specs.Kept.{IsOver}
+use Rattle.lane_views.specs.Kept.{IsActiveOver}
 use Rattle.lane_views.specs.Shown.{Keeping, ShowsNode, AreOwn, HasRoom, activate}
 use Rattle.lane_views.specs.declared.change.LaneChange.{LaneChange}
 use Rattle.lane_views.specs.declared.change.LaneChange.TheVariants.{Adopt, Activate, Take}
@@ -66,7 +66,7 @@ MayDo n k v Looks = Unit {0}
 MayDo n k v (Stores e) = RoomAlong v.types (if is_seen k e then e ∷ [] else []) (node_at n v.nodes).rows
 MayDo n k v (Unites es) = AreOwn es × RoomAlong v.types (filter (is_seen k) (listed es)) (node_at n v.nodes).rows
 MayDo n k v (Drops b) = (id : List ℕ) (e : Entry) → fin.get k.entries id ≡ Some e → in_regions k.regions (key_of id) ≡ true → in_bucket b id ≡ false
-MayDo n k v (Activates b) = AreOwn k.entries × IsBucket b × ((m key : ℕ) → m ≢ n → m < length v.nodes → IsOver k.version key (node_at m v.nodes) → has_key b key ≡ true → ⊥)
+MayDo n k v (Activates b) = AreOwn k.entries × IsBucket b × ((m key : ℕ) → m ≢ n → m < length v.nodes → IsActiveOver k.version key (node_at m v.nodes) → has_key b key ≡ true → ⊥)
     × RoomAlong v.types (filter (is_fresh b k.regions) (listed (fin.retain_keys k.entries (in_bucket b)))) (node_at n v.nodes).rows
 
 -- ---- all nodes of a lane

@@ -29,12 +29,12 @@ AreNodes [] = Unit {0}
 AreNodes (n ∷ ns) = IsNode n × AreNodes ns
 
 -- a node of the version has a region with the key
-abbrev pub IsOver : ℕ → ℕ → NodeView → Type 0
-IsOver w key n = (n.version ≡ w) × (in_regions n.regions key ≡ true)
+abbrev pub IsActiveOver : ℕ → ℕ → NodeView → Type 0
+IsActiveOver w key n = (n.version ≡ w) × (in_regions n.regions key ≡ true)
 
 -- no key lies in the regions of two nodes at one version
 abbrev pub AreNodesApart : List NodeView → Type 0
-AreNodesApart ns = (w key n m : ℕ) → n < length ns → m < length ns → IsOver w key (node_at n ns) → IsOver w key (node_at m ns) → n ≡ m
+AreNodesApart ns = (w key n m : ℕ) → n < length ns → m < length ns → IsActiveOver w key (node_at n ns) → IsActiveOver w key (node_at m ns) → n ≡ m
 
 -- there are 32 nodes; each document is there once, and no key is active at two nodes of one version
 pub record IsView (v : View) : Type 0 where

@@ -1,9 +1,12 @@
 ghost use Rattle.std.specs.Prelude.{◌≡◌, ◌<◌, ℤ, [], length, IfNone, IfSome};
 ghost use Rattle.std.specs.Int.Signed.{◌≤ℤ◌, ◌<ℤ◌};
 ghost use Rattle.local_ids.specs.Rising.{IsRising};
-ghost use Rattle.document_rows.specs.Reading.{places_where, is_of_type, has_token, has_number_in, IsWide};
+ghost use Rattle.std.specs.Option.{option_copied};
+ghost use Rattle.document_rows.specs.Reading.{places_where, row_at, is_of_type, has_token, has_number_in, IsWide};
 ghost use Rattle.lane_views.specs.Kept.{IsView};
-ghost use Rattle.lane_views.specs.Serving.{serves_at, rows_of};
+ghost use Rattle.lane_views.specs.Serving.{serves_at, rows_of, covered_at};
+
+use documents::Document;
 
 /// What a search reads of a lane: of each of its 32 nodes rising lists of local ids. Nothing here takes memory.
 pub trait Lists {
@@ -54,4 +57,16 @@ pub trait Lists {
         // Numbers of documents are of 64 bits.
         ensures wide { (q : ℤ) → 0 < length (places_where (has_number_in type_name.now field.now q)
             (rows_of node (seen self.now))) → IsWide q };
+}
+
+/// What the sum of a search reads of a lane beside its lists. Nothing here takes memory.
+pub trait Shown: Lists {
+    /// The document at a local id of a node, as its schema lets it be seen.
+    fn document(&self, node: u8, local: u32) -> Option<&Document>
+        ensures { option_copied result ≡ row_at (rows_of node (Self.seen self.now)) local };
+
+    /// How many keys the regions of the nodes have that are at a version and aren't stopped; they have no common key.
+    fn measure(&self, version: u32) -> u64
+        ensures value { result ≡ covered_at version (Self.seen self.now) }
+        ensures valid { IsView (Self.seen self.now) };
 }

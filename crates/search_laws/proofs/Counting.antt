@@ -1,19 +1,19 @@
 -- How often documents are counted, and keys covered.
-use Rattle.std.proofs.Common.{◌≡◌, ◌⊎◌, inl, inr, ℕ, zero, suc, ◌+◌, ◌<◌, ◌≤◌, ◌^◌, ◌||◌, ◌&&◌, ◌++◌, ◌==◌, Bool, true, false, cond, not, List, [], ◌∷◌, length, None, Some, refl, sym, ap, subst, ◌∙◌, arith}
+use Rattle.std.proofs.Common.{◌≡◌, ◌⊎◌, inl, inr, ℕ, zero, suc, ◌+◌, ◌<◌, ◌≤◌, ◌^◌, ◌||◌, ◌++◌, Bool, true, false, cond, List, [], ◌∷◌, None, Some, refl, sym, ap, subst, ◌∙◌, arith}
 use mathlib.Core.Bool.{true≢false}
 use Rattle.std.specs.List.{AllByRecursion}
 use Rattle.std.specs.Str.{bytes_eq}
-use Rattle.std.proofs.lemmas.Bool.Decides.{nat_tests}
 use Rattle.bucket_ids.specs.Buckets.{Low, IsBucket, has_key}
 use Rattle.global_ids.specs.Keys.{key_of}
 use Rattle.document_rows.specs.Rows.{Rows, is_of, has_row, AreDistinct}
-use Rattle.lane_views.specs.Views.{NodeView, in_regions, node_at}
-use Rattle.lane_views.specs.Kept.{AreInside, AreParted, AreNodes, IsOver, AreNodesApart}
+use Rattle.lane_views.specs.Views.{NodeView, in_regions}
+use Rattle.lane_views.specs.Kept.{AreInside, AreNodes}
 use Rattle.document_rows.proofs.RowLaws.{same_id}
 use Rattle.coverage.specs.Covering.{times}
 use Rattle.coverage.proofs.Measures.{bounded, whole}
-use Rattle.lane_views.specs.Serving.{serves}
-use Rattle.search_laws.specs.Searches.{Seen, places, node_places, times_counted, node_regions, serving_regions, covered, LieIn, NoneHas, AreLanes, SomeNode, SomeSeen, EachNode, EachSeen}
+use Rattle.lane_views.specs.Serving.{serves, node_regions}
+use Rattle.lane_views.proofs.CoverLaws.{times-parted, times-append, nodes-once, buckets-append, buckets-nodes}
+use Rattle.search_laws.specs.Searches.{Seen, places, node_places, times_counted, serving_regions, covered, LieIn, NoneHas, AreLanes, SomeNode, SomeSeen, EachNode, EachSeen}
 
 one : Bool → ℕ
 one t = cond t 1 0
@@ -47,19 +47,6 @@ once-there rs id (Some e ∷ rows) d i = by_test (bytes_eq e.id id) refl (once-t
         omega (arith, rest, all)
     by_test false is ih = omega (arith, ih)
 
--- regions without a common key have a key once at most
-pub times-parted : (rs : List Low) → AreParted rs → (key : ℕ) → times rs key ≡ cond (in_regions rs key) 1 0
-times-parted [] p key = refl
-times-parted (r ∷ rs) p key = by_test (has_key r key) refl (times-parted rs p.2 key)
-  where
-    by_test : (t : Bool) → has_key r key ≡ t → times rs key ≡ cond (in_regions rs key) 1 0 → cond t 1 0 + times rs key ≡ cond (t || in_regions rs key) 1 0
-    by_test true e ih = let none : ◌≡◌ {A = ℕ} (cond (in_regions rs key) 1 0) 0 = ap (λ t. cond t 1 0) (p.1 key e) in omega (arith, ih, none)
-    by_test false e ih = omega (arith, ih)
-
-pub times-append : (xs ys : List Low) (key : ℕ) → times (xs ++ ys) key ≡ times xs key + times ys key
-times-append [] ys key = omega arith
-times-append (x ∷ xs) ys key = omega (arith, times-append xs ys key)
-
 -- ---- the nodes of a lane
 
 -- a document is times_counted no more often than its key is covered
@@ -74,52 +61,6 @@ nodes-times_counted w id (n ∷ ns) h = by_test (serves w n) (nodes-times_counte
         let sum : times (n.regions ++ node_regions w ns) (key_of id) ≡ times n.regions (key_of id) + times (node_regions w ns) (key_of id) = times-append n.regions (node_regions w ns) (key_of id) in
         omega (arith, ih, here, parted, sum)
     by_test false ih = omega (arith, ih)
-
-serving-version : (w : ℕ) (n : NodeView) → serves w n ≡ true → n.version ≡ w
-serving-version w n h = by_test (n.version == w) refl h
-  where
-    by_test : (t : Bool) → (n.version == w) ≡ t → (t && not n.stopped) ≡ true → n.version ≡ w
-    by_test true e g = grind (arith, nat_tests)
-    by_test false e g = absurd (true≢false (sym g))
-
-tail-apart : (n : NodeView) (ns : List NodeView) → AreNodesApart (n ∷ ns) → AreNodesApart ns
-tail-apart n ns h w key i j li lj oi oj = let e : suc i ≡ suc j = h w key (suc i) (suc j) (omega arith) (omega arith) oi oj in omega arith
-
--- where no node of the version is over a key, no region has it
-uncovered : (w key : ℕ) (ns : List NodeView) → AreNodes ns → ((i : ℕ) → i < length ns → IsOver w key (node_at i ns) → ⊥) → times (node_regions w ns) key ≡ 0
-uncovered w key [] h f = refl
-uncovered w key (n ∷ ns) h f = by_test (serves w n) refl (uncovered w key ns h.1 (λ i l o. f (suc i) (omega (arith, l)) o))
-  where
-    none : (t : Bool) → in_regions n.regions key ≡ t → serves w n ≡ true → t ≡ false
-    none true e s = absurd (f zero (omega arith) (serving-version w n s, e))
-    none false e s = refl
-
-    by_test : (t : Bool) → serves w n ≡ t → times (node_regions w ns) key ≡ 0 → times (cond t n.regions [] ++ node_regions w ns) key ≡ 0
-    by_test true s ih =
-        let no_key : ◌≡◌ {A = ℕ} (cond (in_regions n.regions key) 1 0) 0 = ap (λ t. cond t 1 0) (none (in_regions n.regions key) refl s) in
-        omega (arith, ih, no_key, times-parted n.regions (h.0).regions key, times-append n.regions (node_regions w ns) key)
-    by_test false s ih = ih
-
--- the nodes of one version cover a key once at most
-nodes-once : (w key : ℕ) (ns : List NodeView) → AreNodes ns → AreNodesApart ns → times (node_regions w ns) key ≤ 1
-nodes-once w key [] h a = omega arith
-nodes-once w key (n ∷ ns) h a = by_test (serves w n) refl (nodes-once w key ns h.1 (tail-apart n ns a))
-  where
-    split : times (n.regions ++ node_regions w ns) key ≡ times n.regions key + times (node_regions w ns) key
-    split = times-append n.regions (node_regions w ns) key
-
-    by_key : (t : Bool) → in_regions n.regions key ≡ t → serves w n ≡ true → times (node_regions w ns) key ≤ 1 → times (n.regions ++ node_regions w ns) key ≤ 1
-    by_key true e s ih =
-        let rest : times (node_regions w ns) key ≡ 0 = uncovered w key ns h.1 (λ i l o. let same : zero ≡ suc i = a w key zero (suc i) (omega arith) (omega (arith, l)) (serving-version w n s, e) o in absurd (omega arith)) in
-        let here : ◌≡◌ {A = ℕ} (cond (in_regions n.regions key) 1 0) 1 = ap (λ t. cond t 1 0) e in
-        omega (arith, split, rest, here, times-parted n.regions (h.0).regions key)
-    by_key false e s ih =
-        let here : ◌≡◌ {A = ℕ} (cond (in_regions n.regions key) 1 0) 0 = ap (λ t. cond t 1 0) e in
-        omega (arith, split, ih, here, times-parted n.regions (h.0).regions key)
-
-    by_test : (t : Bool) → serves w n ≡ t → times (node_regions w ns) key ≤ 1 → times (cond t n.regions [] ++ node_regions w ns) key ≤ 1
-    by_test true s ih = by_key (in_regions n.regions key) refl s ih
-    by_test false s ih = ih
 
 -- only keys of the lane are covered
 outside-lane : (w key : ℕ) (lane : Low) (ns : List NodeView) → AreNodes ns → LieIn lane ns → has_key lane key ≡ false → times (node_regions w ns) key ≡ 0
@@ -164,22 +105,6 @@ pub times_counted-once : (w : ℕ) (id : List ℕ) (ls : List Seen) → AreLanes
 times_counted-once w id ls h = omega (arith, lanes-times_counted w id ls h, lanes-once w (key_of id) ls h)
 
 -- ---- the measures of regions
-
-buckets-append : (xs ys : List Low) → AllByRecursion IsBucket xs → AllByRecursion IsBucket ys → AllByRecursion IsBucket (xs ++ ys)
-buckets-append [] ys a b = b
-buckets-append (x ∷ xs) ys a b = (a.0, buckets-append xs ys a.1 b)
-
-buckets-parted : (rs : List Low) → AreParted rs → AllByRecursion IsBucket rs
-buckets-parted [] p = tt
-buckets-parted (r ∷ rs) p = (p.0, buckets-parted rs p.2)
-
-buckets-nodes : (w : ℕ) (ns : List NodeView) → AreNodes ns → AllByRecursion IsBucket (node_regions w ns)
-buckets-nodes w [] h = tt
-buckets-nodes w (n ∷ ns) h = by_test (buckets-nodes w ns h.1) (serves w n)
-  where
-    by_test : AllByRecursion IsBucket (node_regions w ns) → (t : Bool) → AllByRecursion IsBucket (cond t n.regions [] ++ node_regions w ns)
-    by_test ih true = buckets-append n.regions (node_regions w ns) (buckets-parted n.regions (h.0).regions) ih
-    by_test ih false = ih
 
 buckets-lanes : (w : ℕ) (ls : List Seen) → AreLanes ls → AllByRecursion IsBucket (serving_regions w ls)
 buckets-lanes w [] h = tt

@@ -6,9 +6,10 @@ use Rattle.document_rows.specs.Rows.{Rows, is_of, has_row}
 use Rattle.lane_views.specs.Views.{NodeView}
 use Rattle.lane_views.specs.Kept.{AreNodes}
 use Rattle.coverage.specs.Covering.{times}
-use Rattle.lane_views.specs.Serving.{serves}
-use Rattle.search_laws.specs.Searches.{Seen, places, node_places, times_counted, node_regions, serving_regions, AreLanes, SomeNode, SomeSeen}
-use Rattle.search_laws.proofs.Counting.{none-there, nodes-times_counted, times-parted, times-append, lanes-times_counted, lanes-once, times_counted-once}
+use Rattle.lane_views.specs.Serving.{serves, node_regions}
+use Rattle.search_laws.specs.Searches.{Seen, places, node_places, times_counted, serving_regions, AreLanes, SomeNode, SomeSeen}
+use Rattle.lane_views.proofs.CoverLaws.{times-parted, times-append}
+use Rattle.search_laws.proofs.Counting.{none-there, nodes-times_counted, lanes-times_counted, lanes-once, times_counted-once}
 
 -- a node that serves has the document, or is over its key without it
 abbrev pub HasIt : List ℕ → NodeView → Type 0

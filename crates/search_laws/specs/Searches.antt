@@ -1,9 +1,9 @@
 -- What a search under one version sees: the views of all lanes, each with what its nodes keep.
-use Rattle.std.specs.Prelude.{◌≡◌, ◌⊎◌, ◌+◌, ◌&&◌, ◌++◌, ℕ, Bool, true, false, cond, List, [], ◌∷◌, if◌then◌else◌}
+use Rattle.std.specs.Prelude.{◌≡◌, ◌⊎◌, ◌+◌, ◌++◌, ℕ, true, false, cond, List, [], ◌∷◌}
 use Rattle.bucket_ids.specs.Buckets.{Low, has_key}
 use Rattle.document_rows.specs.Rows.{Rows, is_of}
 use Rattle.lane_views.specs.Views.{NodeView, View, in_regions}
-use Rattle.lane_views.specs.Serving.{serves}
+use Rattle.lane_views.specs.Serving.{serves, node_regions}
 use Rattle.lane_views.specs.Kept.{IsView}
 use Rattle.coverage.specs.Covering.{measure_of}
 
@@ -30,10 +30,6 @@ times_counted w id [] = 0
 times_counted w id (l ∷ ls) = node_places w id (l.view).nodes + times_counted w id ls
 
 -- ---- what is covered
-
-abbrev pub node_regions : ℕ → List NodeView → List Low
-node_regions w [] = []
-node_regions w (n ∷ ns) = (if serves w n then n.regions else []) ++ node_regions w ns
 
 -- the regions of the nodes that serve
 abbrev pub serving_regions : ℕ → List Seen → List Low

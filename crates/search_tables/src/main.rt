@@ -6,8 +6,10 @@
 mod columns;
 mod maps;
 mod parts;
+mod searches;
 mod stores;
 mod table;
+mod views;
 mod words;
 
 use crate::parts::Parts;
@@ -16,7 +18,15 @@ use anyhow::Result;
 use std::process::ExitCode;
 
 /// The tables, which are the files of `data/`.
-const NAMES: &[&str] = &["maps", "words", "stores", "columns", "random_lists"];
+const NAMES: &[&str] = &[
+    "maps",
+    "words",
+    "stores",
+    "columns",
+    "views",
+    "searches",
+    "random_lists",
+];
 
 /// Holds all tables; true where a line is wrong.
 fn hold_all(rt: &HostRuntime, parts: &mut Parts) -> Result<bool> {

@@ -3,6 +3,7 @@
 use crate::columns::Columns;
 use crate::maps::Maps;
 use crate::stores::Stores;
+use crate::views::Views;
 use crate::words::Words;
 use std::alloc::Global;
 
@@ -13,6 +14,7 @@ pub struct Parts {
     words: Words,
     stores: Stores,
     columns: Columns,
+    views: Views,
 }
 
 impl Parts {
@@ -23,6 +25,7 @@ impl Parts {
             words: Words::new(alloc),
             stores: Stores::new(alloc),
             columns: Columns::new(alloc),
+            views: Views::new(),
         }
     }
 
@@ -34,6 +37,7 @@ impl Parts {
             "words" => self.words.say(alloc, verb, rest),
             "stores" => self.stores.say(alloc, verb, rest),
             "columns" => self.columns.say(alloc, verb, rest),
+            "views" | "searches" => self.views.say(alloc, verb, rest),
             "random_lists" => {
                 let (own, behind) = rest.split_first()?;
                 self.say_part(alloc, verb, own, behind)

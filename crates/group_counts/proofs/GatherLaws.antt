@@ -1,0 +1,233 @@
+-- Groups of tallies.
+use Rattle.std.proofs.Common.{filter, ◌≡◌, ℕ, ℤ, ◌++◌, ◌||◌, ◌&&◌, Bool, true, false, cond, T, List, [], ◌∷◌, map, length, Option, None, Some, option_map, String, Result, Ok, Err, OnOk, refl, sym, ap, ap₂, subst, ◌∙◌}
+use Rattle.std.specs.List.{AllByRecursion, list_any}
+use Rattle.std.specs.List.Sorted.{IsStrictlySortedBy}
+use Rattle.std.specs.Ordering.{int_cmp, nat_cmp, eq_by_cmp, is_eq, is_lt}
+use Rattle.std.specs.declared.cmp.Ordering.{Ordering}
+use Rattle.std.specs.declared.cmp.Ordering.TheVariants.{Less, Equal, Greater}
+use Rattle.std.specs.Cmp.{IsTotalOrder, int_cmp_total}
+use Rattle.std.specs.Cmp.Lexicographic.{slice_cmp, nat_list_cmp_total}
+use Rattle.std.specs.Map.{lookup, keys_of}
+use Rattle.std.specs.BTreeMap as tree
+use Rattle.std.specs.BTreeMap.{BTreeMap, is_at, get_by_text}
+use Rattle.std.specs.String.{string_bytes, string_cmp}
+use Rattle.std.specs.FinMap as fin
+use Rattle.std.specs.FinMap.{IsAntisymmetric, same_map, get-from_entries, get-from_sorted, entries-from_sorted, int_cmp-IsAntisymmetric, nat_cmp-IsAntisymmetric, slice_cmp-IsAntisymmetric}
+use Rattle.std.specs.FinMap.Entries.{below_all}
+use Rattle.doc_types.specs.declared.values.FieldValue.{FieldValue}
+use Rattle.doc_types.specs.declared.values.FieldValue.TheVariants.{Int, Text}
+use Rattle.doc_types.specs.declared.outputs.OutputKind.{OutputKind}
+use Rattle.documents.specs.Fields.{Contents}
+use Rattle.query_groups.specs.declared.groups.GroupBy.{GroupBy}
+use Rattle.search_answers.specs.declared.answers.Group.{Group}
+use Rattle.group_counts.specs.Numbers.{onto, found}
+use Rattle.group_counts.specs.Keyed.{number_in, text_in, is_key, with_key, output_over, group_over, groups_by}
+use Rattle.group_counts.specs.Groups.{groups_of}
+use Rattle.group_counts.specs.Tallies.{Told, told_of, tally_of, AreTallies, told_outputs, told_group}
+use Rattle.group_counts.specs.Gathered.{Gathered, gathered_as, HasTallies, IsGathered}
+
+-- two facts of an answer
+pub on_both : {X E P Q S : Type 0} (r : Result X E) → (P → Q → S) → OnOk r P → OnOk r Q → OnOk r S
+on_both (Ok x) f p q = f p q
+on_both (Err e) f p q = tt
+
+-- ---- one group
+
+outputs-told : (ks : List OutputKind) (docs : List Contents) → told_outputs ks (map (output_over docs) ks) ≡ map (λ kind. record { kind = kind; value = output_over docs kind }) ks
+outputs-told [] docs = refl
+outputs-told (k ∷ ks) docs = ap (λ os. record { kind = k; value = output_over docs k } ∷ os) (outputs-told ks docs)
+
+group-told : (ks : List OutputKind) (v : FieldValue) (docs : List Contents) → told_group ks v (told_of ks docs) ≡ group_over ks v docs
+group-told ks v docs = ap {B = Group} (λ os. record { value = v; count = length docs; outputs = os }) (outputs-told ks docs)
+
+abbrev has_any : List Contents → Bool
+has_any [] = false
+has_any (d ∷ docs) = true
+
+group-of : (ks : List OutputKind) (v : FieldValue) (docs : List Contents) → option_map (told_group ks v) (tally_of ks docs) ≡ cond (has_any docs) (Some (group_over ks v docs)) None
+group-of ks v [] = refl
+group-of ks v (d ∷ docs) = ap Some (group-told ks v (d ∷ docs))
+
+-- ---- all groups of one kind of key
+
+equal-of : (o : Ordering) → is_eq o ≡ true → o ≡ Equal
+equal-of Less e = absurd (subst T (sym e) tt)
+equal-of Equal e = refl
+equal-of Greater e = absurd (subst T (sym e) tt)
+
+both-hold : (a b : Bool) → T a → T b → T (a && b)
+both-hold true b p q = q
+both-hold false b p q = p
+
+module _ {K : Type 0} (R : K → K → Ordering) (exact : IsAntisymmetric R) where
+  any-found : (key : Contents → Option K) (q : K) (docs : List Contents) → list_any (eq_by_cmp R q) (found key docs) ≡ has_any (with_key R key q docs)
+  any-found key q [] = refl
+  any-found key q (d ∷ docs) = by (key d) (any-found key q docs)
+    where
+      rest : List Contents
+      rest = with_key R key q docs
+
+      test : (t : Bool) → list_any (eq_by_cmp R q) (found key docs) ≡ has_any rest → (t || list_any (eq_by_cmp R q) (found key docs)) ≡ has_any (cond t (d ∷ rest) rest)
+      test true ih = refl
+      test false ih = ih
+
+      by : (o : Option K) → list_any (eq_by_cmp R q) (found key docs) ≡ has_any rest → list_any (eq_by_cmp R q) (onto o (found key docs)) ≡ has_any (cond (is_key R q o) (d ∷ rest) rest)
+      by None ih = ih
+      by (Some k) ih = test (eq_by_cmp R q k) ih
+
+  find-keys : {X : Type 0} (f : K → X) (q : K) (ks : List K) → fin.find R q (map (λ k. (k, f k)) ks) ≡ cond (list_any (eq_by_cmp R q) ks) (Some (f q)) None
+  find-keys f q [] = refl
+  find-keys {X} f q (k ∷ ks) = by (eq_by_cmp R q k) refl (find-keys f q ks)
+    where
+      by : (t : Bool) → eq_by_cmp R q k ≡ t → fin.find R q (map (λ k. (k, f k)) ks) ≡ cond (list_any (eq_by_cmp R q) ks) (Some (f q)) None
+          → cond t (Some (f k)) (fin.find R q (map (λ k. (k, f k)) ks)) ≡ cond (t || list_any (eq_by_cmp R q) ks) (Some (f q)) None
+      by true e ih = ap (λ x. Some (f x)) (sym (exact q k (equal-of (R q k) e)))
+      by false e ih = ih
+
+  find-told : {X Y : Type 0} (f : K → X → Y) (q : K) (es : List (K × X)) → fin.find R q (map (λ e. (e.0, f e.0 e.1)) es) ≡ option_map (f q) (lookup (is_at (R q)) es)
+  find-told f q [] = refl
+  find-told {X} {Y} f q (e ∷ es) = by (eq_by_cmp R q e.0) refl _ _ (find-told f q es)
+    where
+      by : (t : Bool) → eq_by_cmp R q e.0 ≡ t → (a : Option Y) (b : Option X) → a ≡ option_map (f q) b → cond t (Some (f e.0 e.1)) a ≡ option_map (f q) (cond t (Some e.1) b)
+      by true is a b ih = ap (λ x. Some (f x e.1)) (sym (exact q e.0 (equal-of (R q e.0) is)))
+      by false is a b ih = ih
+
+  below-told : {X Y : Type 0} (f : K × X → Y) (k : K) (es : List (K × X)) → AllByRecursion (λ y. R k y ≡ Less) (keys_of es) → T (below_all R k (map (λ e. (e.0, f e)) es))
+  below-told f k [] h = tt
+  below-told f k (e ∷ es) h = both-hold _ _ (subst (λ o. T (is_lt o)) (sym h.0) tt) (below-told f k es h.1)
+
+  sorted-told : {X Y : Type 0} (f : K × X → Y) (es : List (K × X)) → IsStrictlySortedBy R (keys_of es) → T (fin.is_sorted R (map (λ e. (e.0, f e)) es))
+  unfolding IsStrictlySortedBy
+  sorted-told f [] h = tt
+  sorted-told f (e ∷ es) h = both-hold _ _ (below-told f e.0 es h.0) (sorted-told f es h.1)
+
+  values-told : {X Y : Type 0} (f : K → X → Y) (es : List (K × X)) → map (λ e. e.1) (map {B = K × Y} (λ e. (e.0, f e.0 e.1)) es) ≡ map (λ e. f e.0 e.1) es
+  values-told f [] = refl
+  values-told f (e ∷ es) = ap (λ ys. f e.0 e.1 ∷ ys) (values-told f es)
+
+  pub groups-are : IsTotalOrder R → (value : K → FieldValue) (ks : List OutputKind) (key : Contents → Option K) (docs : List Contents) (es : List (K × Told)) → IsStrictlySortedBy R (keys_of es)
+      → AreTallies R ks key docs (λ k. lookup (is_at (R k)) es) → map (λ e. told_group ks (value e.0) e.1) es ≡ fin.values (groups_by R value ks key docs)
+  groups-are o value ks key docs es sorted are =
+      sym (values-told (λ k t. told_group ks (value k) t) es)
+      ∙ ap (map (λ e. e.1)) (sym (entries-from_sorted R own rises))
+      ∙ ap fin.values (same_map o exact (fin.from_sorted {R = R} own) (groups_by R value ks key docs) same)
+    where
+      own : List (K × Group)
+      own = map (λ e. (e.0, told_group ks (value e.0) e.1)) es
+
+      rises : T (fin.is_sorted R own)
+      rises = sorted-told (λ e. told_group ks (value e.0) e.1) es sorted
+
+      same : (q : K) → fin.get (fin.from_sorted {R = R} own) q ≡ fin.get (groups_by R value ks key docs) q
+      same q =
+          get-from_sorted R own q rises
+          ∙ find-told (λ k t. told_group ks (value k) t) q es
+          ∙ ap (option_map (told_group ks (value q))) (are q)
+          ∙ group-of ks (value q) (with_key R key q docs)
+          ∙ ap (λ t. cond t (Some (group_over ks (value q) (with_key R key q docs))) None) (sym (any-found key q docs))
+          ∙ sym (find-keys (λ k. group_over ks (value k) (with_key R key k docs)) q (found key docs))
+          ∙ sym (get-from_entries o (map (λ k. (k, group_over ks (value k) (with_key R key k docs))) (found key docs)) q)
+
+-- ---- texts by their bytes
+
+text-lookup : {X Y : Type 0} (t : List ℕ) (es : List (String Y × X)) → lookup (is_at (slice_cmp nat_cmp t)) (map (λ e. (string_bytes e.0, e.1)) es) ≡ lookup (is_at (λ k. slice_cmp nat_cmp t (string_bytes k))) es
+text-lookup t [] = refl
+text-lookup {X} t (e ∷ es) = by (is_eq (slice_cmp nat_cmp t (string_bytes e.0))) _ _ (text-lookup t es)
+  where
+    by : (b : Bool) (x y : Option X) → x ≡ y → cond b (Some e.1) x ≡ cond b (Some e.1) y
+    by true x y ih = refl
+    by false x y ih = ih
+
+text-below : {X Y : Type 0} (k : String Y) (es : List (String Y × X)) → AllByRecursion (λ y. string_cmp k y ≡ Less) (keys_of es)
+    → AllByRecursion (λ y. slice_cmp nat_cmp (string_bytes k) y ≡ Less) (keys_of (map {B = List ℕ × X} (λ e. (string_bytes e.0, e.1)) es))
+text-below k [] h = tt
+text-below k (e ∷ es) h = (h.0, text-below k es h.1)
+
+text-sorted : {X Y : Type 0} (es : List (String Y × X)) → IsStrictlySortedBy string_cmp (keys_of es) → IsStrictlySortedBy (slice_cmp nat_cmp) (keys_of (map {B = List ℕ × X} (λ e. (string_bytes e.0, e.1)) es))
+unfolding IsStrictlySortedBy
+text-sorted [] h = tt
+text-sorted (e ∷ es) h = (text-below e.0 es h.0, text-sorted es h.1)
+
+text-groups : {X Y : Type 0} (f : List ℕ → X → Group) (es : List (String Y × X)) → map (λ e. f e.0 e.1) (map {B = List ℕ × X} (λ e. (string_bytes e.0, e.1)) es) ≡ map (λ e. f (string_bytes e.0) e.1) es
+text-groups f [] = refl
+text-groups f (e ∷ es) = ap (λ gs. f (string_bytes e.0) e.1 ∷ gs) (text-groups f es)
+
+-- ---- what is kept
+
+module _ {Y : Type 0} (numbers : BTreeMap ℤ Told) (texts : BTreeMap (String Y) Told) where
+  pub to-texts : (by : GroupBy) (docs : List Contents) (views : ℕ) → HasTallies by docs (gathered_as (Some by) views numbers texts) → AreTallies (slice_cmp nat_cmp) by.outputs (text_in by.field) docs (get_by_text texts)
+  to-texts by docs views h = λ t. sym (text-lookup t texts.entries) ∙ h.texts t
+
+  pub from-tallies : (by : GroupBy) (docs : List Contents) (views : ℕ) → AreTallies int_cmp by.outputs (number_in by.field) docs (tree.get int_cmp numbers)
+      → AreTallies (slice_cmp nat_cmp) by.outputs (text_in by.field) docs (get_by_text texts) → HasTallies by docs (gathered_as (Some by) views numbers texts)
+  from-tallies by docs views n t = record { numbers = n; texts = λ q. text-lookup q texts.entries ∙ t q }
+
+  -- no documents
+  pub gathered-none : (by : Option GroupBy) (views : ℕ) → numbers.entries ≡ [] → texts.entries ≡ [] → IsGathered [] (gathered_as by views numbers texts)
+  gathered-none None views n t = tt
+  gathered-none (Some by) views n t = from-tallies by [] views (λ k. ap (lookup (is_at (int_cmp k))) n) (λ q. ap (lookup (is_at (λ k. slice_cmp nat_cmp q (string_bytes k)))) t)
+
+  -- the groups
+  pub groups-told : (by : GroupBy) (docs : List Contents) (views : ℕ) → tree.IsOrdered int_cmp numbers → tree.IsOrdered string_cmp texts → HasTallies by docs (gathered_as (Some by) views numbers texts)
+      → map (λ e. told_group by.outputs (Int e.0) e.1) numbers.entries ++ map (λ e. told_group by.outputs (Text (string_bytes e.0)) e.1) texts.entries ≡ groups_of (Some by) docs
+  groups-told by docs views n t h = ap₂ (λ a b. a ++ b)
+      (groups-are int_cmp int_cmp-IsAntisymmetric int_cmp_total Int by.outputs (number_in by.field) docs numbers.entries n h.numbers)
+      (sym (text-groups (λ k v. told_group by.outputs (Text k) v) texts.entries)
+      ∙ groups-are (slice_cmp nat_cmp) (slice_cmp-IsAntisymmetric nat_cmp-IsAntisymmetric) nat_list_cmp_total Text by.outputs (text_in by.field) docs (map (λ e. (string_bytes e.0, e.1)) texts.entries) (text-sorted texts.entries t) h.texts)
+
+-- what is kept, with more documents
+pub gathered-more : {Y : Type 0} (o : Option GroupBy) (by : GroupBy) (views more : ℕ) (numbers next_numbers : BTreeMap ℤ Told) (texts next_texts : BTreeMap (String Y) Told) (g : Gathered) (ds : List Contents) → o ≡ Some by
+    → gathered_as o views numbers texts ≡ g
+    → ((docs : List Contents) → AreTallies int_cmp by.outputs (number_in by.field) docs (tree.get int_cmp numbers) → AreTallies int_cmp by.outputs (number_in by.field) (docs ++ ds) (tree.get int_cmp next_numbers))
+    → ((docs : List Contents) → AreTallies (slice_cmp nat_cmp) by.outputs (text_in by.field) docs (get_by_text texts) → AreTallies (slice_cmp nat_cmp) by.outputs (text_in by.field) (docs ++ ds) (get_by_text next_texts))
+    → (docs : List Contents) → IsGathered docs g → IsGathered (docs ++ ds) (gathered_as o more next_numbers next_texts)
+gathered-more o by views more numbers next_numbers texts next_texts g ds is same n t = λ docs h.
+    let own : HasTallies by docs (gathered_as (Some by) views numbers texts) = subst (λ p. IsGathered docs (gathered_as p views numbers texts)) is (subst (IsGathered docs) (sym same) h) in
+    subst (λ p. IsGathered (docs ++ ds) (gathered_as p more next_numbers next_texts)) (sym is)
+    (from-tallies next_numbers next_texts by (docs ++ ds) more (n docs own.numbers) (t docs (to-texts numbers texts by docs views own)))
+
+-- the groups of what is kept
+pub groups-gathered : {Y : Type 0} (o : Option GroupBy) (by : GroupBy) (views : ℕ) (numbers : BTreeMap ℤ Told) (texts : BTreeMap (String Y) Told) (g : Gathered) (docs : List Contents) → o ≡ Some by
+    → gathered_as o views numbers texts ≡ g → tree.IsOrdered int_cmp numbers → tree.IsOrdered string_cmp texts → IsGathered docs g
+    → map (λ e. told_group by.outputs (Int e.0) e.1) numbers.entries ++ map (λ e. told_group by.outputs (Text (string_bytes e.0)) e.1) texts.entries ≡ groups_of g.by docs
+groups-gathered o by views numbers texts g docs is same n t h =
+    groups-told numbers texts by docs views n t (subst (λ p. IsGathered docs (gathered_as p views numbers texts)) is (subst (IsGathered docs) (sym same) h))
+    ∙ ap (λ p. groups_of p docs) (sym is ∙ ap (λ g. g.by) same)
+
+pub groups-none : {Y : Type 0} (o : Option GroupBy) (views : ℕ) (numbers : BTreeMap ℤ Told) (texts : BTreeMap (String Y) Told) (g : Gathered) (docs : List Contents) → o ≡ None
+    → gathered_as o views numbers texts ≡ g → [] ≡ groups_of g.by docs
+groups-none o views numbers texts g docs is same = ap (λ p. groups_of p docs) (sym is ∙ ap (λ g. g.by) same)
+
+-- the groups of numbers and then of texts, put one behind the other
+pub groups-pushed : {Y : Type 0} (o : Option GroupBy) (by : GroupBy) (views : ℕ) (numbers : BTreeMap ℤ Told) (texts : BTreeMap (String Y) Told) (g : Gathered) (first second : List OutputKind) (empty one two : List Group) (docs : List Contents)
+    → empty ≡ [] → first ≡ by.outputs → second ≡ by.outputs → one ≡ empty ++ map (λ e. told_group first (Int e.0) e.1) numbers.entries → two ≡ one ++ map (λ e. told_group second (Text (string_bytes e.0)) e.1) texts.entries
+    → o ≡ Some by → gathered_as o views numbers texts ≡ g → tree.IsOrdered int_cmp numbers → tree.IsOrdered string_cmp texts → IsGathered docs g → two ≡ groups_of g.by docs
+groups-pushed o by views numbers texts g first second empty one two docs none k l n t is same ordered texts_ordered h =
+    t ∙ ap₂ (λ a ks. a ++ map (λ e. told_group ks (Text (string_bytes e.0)) e.1) texts.entries)
+    (n ∙ ap₂ (λ a ks. a ++ map (λ e. told_group ks (Int e.0) e.1) numbers.entries) none k) l
+    ∙ groups-gathered o by views numbers texts g docs is same ordered texts_ordered h
+
+-- ---- the group of a key
+
+any-filter : (p : Contents → Bool) (docs : List Contents) → list_any p docs ≡ has_any (filter p docs)
+any-filter p [] = refl
+any-filter p (d ∷ docs) = by (p d) (any-filter p docs)
+  where
+    by : (t : Bool) → list_any p docs ≡ has_any (filter p docs) → (t || list_any p docs) ≡ has_any (cond t (d ∷ filter p docs) (filter p docs))
+    by true ih = refl
+    by false ih = ih
+
+key-group : {K : Type 0} (R : K → K → Ordering) → IsAntisymmetric R → IsTotalOrder R → (value : K → FieldValue) (ks : List OutputKind) (key : Contents → Option K) (docs : List Contents) (q : K)
+    → fin.get (groups_by R value ks key docs) q ≡ cond (list_any (λ d. is_key R q (key d)) docs) (Some (group_over ks (value q) (with_key R key q docs))) None
+key-group R exact o value ks key docs q =
+    get-from_entries o (map (λ k. (k, group_over ks (value k) (with_key R key k docs))) (found key docs)) q
+    ∙ find-keys R exact (λ k. group_over ks (value k) (with_key R key k docs)) q (found key docs)
+    ∙ ap (λ t. cond t (Some (group_over ks (value q) (with_key R key q docs))) None) (any-found R exact key q docs ∙ sym (any-filter (λ d. is_key R q (key d)) docs))
+
+pub number-group : (ks : List OutputKind) (field : List ℕ) (docs : List Contents) (z : ℤ)
+    → fin.get (groups_by int_cmp Int ks (number_in field) docs) z ≡ cond (list_any (λ d. is_key int_cmp z (number_in field d)) docs) (Some (group_over ks (Int z) (with_key int_cmp (number_in field) z docs))) None
+number-group ks field docs z = key-group int_cmp int_cmp-IsAntisymmetric int_cmp_total Int ks (number_in field) docs z
+
+pub text-group : (ks : List OutputKind) (field : List ℕ) (docs : List Contents) (t : List ℕ)
+    → fin.get (groups_by (slice_cmp nat_cmp) Text ks (text_in field) docs) t ≡ cond (list_any (λ d. is_key (slice_cmp nat_cmp) t (text_in field d)) docs) (Some (group_over ks (Text t) (with_key (slice_cmp nat_cmp) (text_in field) t docs))) None
+text-group ks field docs t = key-group (slice_cmp nat_cmp) (slice_cmp-IsAntisymmetric nat_cmp-IsAntisymmetric) nat_list_cmp_total Text ks (text_in field) docs t

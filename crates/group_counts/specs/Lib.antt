@@ -1,0 +1,7 @@
+-- `Groups` says which groups some documents make, `Keyed` what is said of each, by the words of `Numbers`. `Tallies` and
+-- `Gathered` say how the code keeps that, and of which documents.
+pub mod Numbers
+pub mod Keyed
+pub mod Groups
+pub mod Tallies
+pub mod Gathered

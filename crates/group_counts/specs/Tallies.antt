@@ -1,0 +1,89 @@
+-- How the code keeps groups: of each value that some document had a tally.
+use Rattle.std.specs.Prelude.{◌≡◌, ◌≤◌, ◌+◌, ◌*◌, ◌+ℤ◌, ℕ, ℤ, pos, List, [], ◌∷◌, map, length, Option, None, Some, option_map, IfSome}
+use Rattle.std.specs.Int.Signed.{◌≤ℤ◌}
+use Rattle.std.specs.List.{AllByRecursion}
+use Rattle.std.specs.Int.{int_min, int_max}
+use Rattle.std.specs.declared.cmp.Ordering.{Ordering}
+use Rattle.doc_types.specs.declared.values.FieldValue.{FieldValue}
+use Rattle.doc_types.specs.declared.outputs.OutputKind.{OutputKind}
+use Rattle.doc_types.specs.declared.outputs.OutputKind.TheVariants as output
+use Rattle.documents.specs.Fields.{Contents}
+use Rattle.search_answers.specs.declared.answers.Group.{Group}
+use Rattle.search_answers.specs.declared.answers.Output.{Output}
+use Rattle.group_counts.specs.Numbers.{either}
+use Rattle.group_counts.specs.Keyed.{number_in, output_over, with_key}
+
+-- how many documents a group has so far, and what its outputs are so far
+pub record Told : Type 0 where
+  pub count : ℕ
+  pub values : List (Option ℤ)
+
+-- what is told of some documents
+abbrev pub told_of : List OutputKind → List Contents → Told
+told_of kinds docs = record { count = length docs; values = map (output_over docs) kinds }
+
+-- of none there is no tally
+abbrev pub tally_of : List OutputKind → List Contents → Option Told
+tally_of kinds [] = None
+tally_of kinds (d ∷ docs) = Some (told_of kinds (d ∷ docs))
+
+-- at most so many times the least number of 64 bits, with either sign
+abbrev pub IsSmall : ℕ → Option ℤ → Type 0
+IsSmall n None = Unit {0}
+IsSmall n (Some v) = (pos 0 ≤ℤ (v +ℤ pos (n * 9223372036854775808))) × (v ≤ℤ pos (n * 9223372036854775808))
+
+-- a number of 64 bits with its sign
+abbrev pub IsWide : ℤ → Type 0
+IsWide z = (pos 0 ≤ℤ (z +ℤ pos 9223372036854775808)) × (z ≤ℤ pos 9223372036854775807)
+
+abbrev pub AreSmall : ℕ → List (Option ℤ) → Type 0
+AreSmall n vs = AllByRecursion (IsSmall n) vs
+
+-- ---- a document more
+
+abbrev pub plus : Option ℤ → ℤ → Option ℤ
+plus v z = option_map (λ s. s +ℤ z) v
+
+-- a number more, where there is one
+abbrev pub with_number : (Option ℤ → ℤ → Option ℤ) → Option ℤ → Option ℤ → Option ℤ
+with_number step v None = v
+with_number step v (Some z) = step v z
+
+abbrev pub next_value : OutputKind → Option ℤ → Contents → Option ℤ
+next_value output.Count v d = plus v (pos 1)
+next_value (output.Sum field) v d = with_number plus v (number_in field d)
+next_value (output.Min field) v d = with_number (either int_min) v (number_in field d)
+next_value (output.Max field) v d = with_number (either int_max) v (number_in field d)
+
+abbrev pub next_values : List OutputKind → Contents → List (Option ℤ) → List (Option ℤ)
+next_values [] d vs = vs
+next_values (k ∷ ks) d [] = []
+next_values (k ∷ ks) d (v ∷ vs) = next_value k v d ∷ next_values ks d vs
+
+abbrev pub told_with : List OutputKind → Contents → Told → Told
+told_with kinds d t = record { count = t.count + 1; values = next_values kinds d t.values }
+
+-- the tally of a document's value with it
+abbrev pub tally_with : List OutputKind → Contents → Option Told → Told
+tally_with kinds d None = told_with kinds d (told_of kinds [])
+tally_with kinds d (Some t) = told_with kinds d t
+
+-- ---- all tallies
+
+-- the tallies are those of some documents
+abbrev pub AreTallies : {K : Type 0} → (K → K → Ordering) → List OutputKind → (Contents → Option K) → List Contents → (K → Option Told) → Type 0
+AreTallies {K} R kinds key docs tallies = (k : K) → tallies k ≡ tally_of kinds (with_key R key k docs)
+
+-- no tally counts more documents
+abbrev pub AreWithin : {K : Type 0} → ℕ → (K → Option Told) → Type 0
+AreWithin {K} n tallies = (k : K) → IfSome (tallies k) (λ t. t.count ≤ n)
+
+-- ---- a group of a tally
+
+abbrev pub told_outputs : List OutputKind → List (Option ℤ) → List Output
+told_outputs [] vs = []
+told_outputs (k ∷ ks) [] = []
+told_outputs (k ∷ ks) (v ∷ vs) = record { kind = k; value = v } ∷ told_outputs ks vs
+
+abbrev pub told_group : List OutputKind → FieldValue → Told → Group
+told_group kinds v t = record { value = v; count = t.count; outputs = told_outputs kinds t.values }

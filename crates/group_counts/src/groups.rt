@@ -1,0 +1,141 @@
+ghost use Rattle.std.specs.Prelude.{◌≡◌, ◌≤◌, ◌<◌, ◌+◌, ◌++◌, List, [], map, length, IfOk, OnOk};
+ghost use Rattle.std.specs.Ordering.{int_cmp};
+ghost use Rattle.std.specs.BTreeMap as tree;
+ghost use Rattle.std.specs.String.{string_bytes, string_cmp};
+ghost use Rattle.documents.specs.Fields.{Contents};
+ghost use Rattle.doc_types.specs.declared.values.FieldValue.TheVariants.{Int, Text};
+ghost use Rattle.group_counts.specs.Groups.{groups_of};
+ghost use Rattle.group_counts.specs.Tallies.{told_group};
+ghost use Rattle.group_counts.specs.Gathered.{IsGathered, documents_at};
+
+use crate::taking::take_all;
+use crate::tally::Tally;
+use doc_types::{FieldValue, OutputKind};
+use lane_views::Shown;
+use match_views::Hits;
+use query_groups::GroupBy;
+use query_text::Query;
+use search_answers::{Group, GroupList};
+use std::alloc::Global;
+use std::collections::BTreeMap;
+use std::marker::Model;
+use value_lists::{NoMemory, TextValue};
+
+/// The groups of documents that come view by view.
+#[derive(Drop)]
+pub struct Groups<'a> {
+    by: Option<&'a GroupBy>,
+    views: u8,
+    numbers: BTreeMap<i64, Tally>,
+    texts: BTreeMap<String, Tally>,
+}
+
+impl<'a> Model for Groups<'a> {
+    ghost use Rattle.std.specs.Prelude.{◌*◌, option_map};
+    ghost use Rattle.std.specs.Ordering.{int_cmp};
+    ghost use Rattle.std.specs.BTreeMap as tree;
+    ghost use Rattle.std.specs.BTreeMap.{get_by_text};
+    ghost use Rattle.group_counts.specs.Tallies.{AreWithin};
+    ghost use Rattle.group_counts.specs.Gathered.{Gathered, gathered_as};
+
+    ghost Value = { Gathered };
+
+    ghost view = { λ g. gathered_as (option_map (λ by. by.now) g.by) g.views g.numbers g.texts };
+
+    ghost invariant = { λ g. AreWithin (g.views * 137438953472) (tree.get int_cmp g.numbers)
+        × AreWithin (g.views * 137438953472) (get_by_text g.texts) };
+}
+
+/// The groups of numbers, rising. The only error is want of memory.
+fn push_numbers(
+    alloc: Global,
+    groups: &mut Vec<Group>,
+    kinds: &[OutputKind],
+    tallies: &BTreeMap<i64, Tally>,
+) -> Result<(), NoMemory>
+    ensures groups { OnOk result (groups.new.items
+        ≡ groups.old.items ++ map (λ e. told_group kinds.now (Int e.0) e.1) tallies.now.entries) }
+    ensures ordered { tree.IsOrdered int_cmp tallies.now }
+{
+    for (number, tally) in tallies {
+        groups.push(tally.group(alloc, kinds, FieldValue::Int(*number))?)?;
+    }
+    Ok(())
+}
+
+/// The groups of texts, rising. The only error is want of memory.
+fn push_texts(
+    alloc: Global,
+    groups: &mut Vec<Group>,
+    kinds: &[OutputKind],
+    tallies: &BTreeMap<String, Tally>,
+) -> Result<(), NoMemory>
+    ensures groups { OnOk result (groups.new.items
+        ≡ groups.old.items ++ map (λ e. told_group kinds.now (Text (string_bytes e.0)) e.1) tallies.now.entries) }
+    ensures ordered { tree.IsOrdered string_cmp tallies.now }
+{
+    for (text, tally) in tallies {
+        let value = FieldValue::Text(TextValue::of(String::from_str(alloc, text.as_str())?));
+        groups.push(tally.group(alloc, kinds, value)?)?;
+    }
+    Ok(())
+}
+
+impl<'a> Groups<'a> {
+    /// The groups of no documents, as a query asks for them; takes no memory.
+    pub fn new(alloc: Global, query: &'a Query) -> Groups<'a>
+        ensures by { result.by ≡ query.now.group }
+        ensures views { result.views ≡ 0 }
+        ensures documents { IsGathered [] result }
+    {
+        Groups {
+            by: query.group.as_ref(),
+            views: 0,
+            numbers: BTreeMap::new(alloc),
+            texts: BTreeMap::new(alloc),
+        }
+    }
+
+    /// The documents of a view that `matches` found for the query come behind those that came before. A hit without a
+    /// document counts as none. Takes for each document the logarithm of the groups. The only error is want of memory,
+    /// after which some of the view's documents have come and others haven't, and the view counts as one that was added.
+    pub fn add<V: Shown>(&mut self, alloc: Global, view: &V, hits: &Hits) -> Result<(), NoMemory>
+        requires views { self.old.views < 64 }
+
+        // `hits_are_few` says it of what `matches` finds.
+        requires hits { length hits.now ≤ 137438953472 }
+
+        ensures by { self.new.by ≡ self.old.by }
+        ensures views { self.new.views ≡ self.old.views + 1 }
+        ensures documents { OnOk result ((docs : List Contents) → IsGathered docs self.old
+            → IsGathered (docs ++ documents_at (V.seen view.now) hits.now) self.new) }
+    {
+        self.views += 1;
+        match self.by {
+            Some(by) => {
+                take_all(
+                    alloc,
+                    by,
+                    &mut self.numbers,
+                    &mut self.texts,
+                    view,
+                    hits.items(),
+                )
+            }
+            None => Ok(()),
+        }
+    }
+
+    /// The groups of the documents that came, rising by value. The only error is want of memory.
+    pub fn finish(self, alloc: Global) -> Result<GroupList, NoMemory>
+        ensures { (docs : List Contents) → IsGathered docs self.entry
+            → IfOk result (λ groups. groups ≡ groups_of self.entry.by docs) }
+    {
+        let mut groups = Vec::new(alloc);
+        if let Some(by) = self.by {
+            push_numbers(alloc, &mut groups, by.outputs.items(), &self.numbers)?;
+            push_texts(alloc, &mut groups, by.outputs.items(), &self.texts)?;
+        }
+        Ok(GroupList::of(groups))
+    }
+}

@@ -1,0 +1,109 @@
+ghost use Rattle.std.specs.Prelude.{◌≡◌, ◌+◌, ◌<◌, ℕ, [], IfOk};
+ghost use Rattle.group_counts.specs.Tallies.{told_of, told_with, told_outputs, told_group, next_values, AreSmall};
+
+use crate::figures::{first_value, next_value};
+use doc_types::{FieldValue, OutputKind};
+use documents::Document;
+use search_answers::{Group, Output, OutputList};
+use std::alloc::Global;
+use std::marker::Model;
+use value_lists::{NoMemory, TryCopy};
+
+/// What is told so far of the documents of a group.
+#[derive(Drop)]
+pub struct Tally {
+    count: u64,
+    values: Vec<Option<i128>>,
+}
+
+impl Model for Tally {
+    ghost use Rattle.group_counts.specs.Tallies.{Told, AreSmall};
+
+    ghost Value = { Told };
+
+    ghost view = { λ t. record { count = t.count; values = t.values.items } };
+
+    ghost invariant = { λ t. AreSmall t.count t.values.items };
+}
+
+/// Outputs with a document more, each in its place.
+fn take_values(values: &mut [Option<i128>], kinds: &[OutputKind], document: &Document)
+    requires { AreSmall 9223372036854775807 values.old }
+    ensures value { values.new ≡ next_values kinds.now document.now values.old }
+    ensures small { (n : ℕ) → AreSmall n values.old → AreSmall (n + 1) values.new }
+{
+    let mut at = 0;
+    while at < kinds.len() && at < values.len() {
+        values[at] = next_value(&kinds[at], values[at], document);
+        at += 1;
+    }
+}
+
+/// Outputs of no documents. The only error is want of memory.
+fn first_values(alloc: Global, kinds: &[OutputKind]) -> Result<Vec<Option<i128>>, NoMemory>
+    ensures value { IfOk result (λ values. values.items ≡ (told_of kinds.now []).values) }
+    ensures small { IfOk result (λ values. AreSmall 0 values.items) }
+{
+    let mut values = Vec::with_capacity(alloc, kinds.len())?;
+    for kind in kinds {
+        values.push(first_value(kind))?;
+    }
+    Ok(values)
+}
+
+/// Outputs with their values. The only error is want of memory.
+fn outputs_of(
+    alloc: Global,
+    kinds: &[OutputKind],
+    values: &[Option<i128>],
+) -> Result<Vec<Output>, NoMemory>
+    ensures { IfOk result (λ outputs. outputs.items ≡ told_outputs kinds.now values.now) }
+{
+    let mut outputs = Vec::with_capacity(alloc, kinds.len())?;
+    let mut at = 0;
+    while at < kinds.len() && at < values.len() {
+        outputs.push(Output {
+            kind: kinds[at].copy(alloc)?,
+            value: values[at],
+        })?;
+        at += 1;
+    }
+    Ok(outputs)
+}
+
+impl Tally {
+    /// Of no documents. The only error is want of memory.
+    pub fn new(alloc: Global, kinds: &[OutputKind]) -> Result<Tally, NoMemory>
+        ensures { IfOk result (λ tally. tally ≡ told_of kinds.now []) }
+    {
+        Ok(Tally {
+            count: 0,
+            values: first_values(alloc, kinds)?,
+        })
+    }
+
+    /// A document more; takes no memory.
+    pub fn take(&mut self, kinds: &[OutputKind], document: &Document)
+        requires { self.old.count < 9223372036854775808 }
+        ensures { self.new ≡ told_with kinds.now document.now self.old }
+    {
+        take_values(&mut self.values, kinds, document);
+        self.count += 1;
+    }
+
+    /// The group of these documents. The only error is want of memory.
+    pub fn group(
+        &self,
+        alloc: Global,
+        kinds: &[OutputKind],
+        value: FieldValue,
+    ) -> Result<Group, NoMemory>
+        ensures { IfOk result (λ group. group ≡ told_group kinds.now value self.now) }
+    {
+        Ok(Group {
+            value,
+            count: self.count,
+            outputs: OutputList::of(outputs_of(alloc, kinds, &self.values)?),
+        })
+    }
+}

@@ -1,0 +1,10 @@
+use Rattle.std.proofs.Common.{sym, arith}
+use Rattle.lane_views.specs.Views.{taken}
+use Rattle.lane_views.proofs.StepLaws.{set-made, step-past}
+use Rattle.lane_views.proofs.nodes.take_at.Goals as goal
+
+pub returns-in_ok-take-clause-ok : goal.returns-in_ok-take-clause-ok
+returns-in_ok-take-clause-ok c = set-made _ _ (λ types. taken types c.args.entry.now) _ _ _ c.from-at.ensures c.if-at-nodes.true c.in_ok-take.ensures.ok
+
+pub returns-else-at-nodes-clause-ok : goal.returns-else-at-nodes-clause-ok
+returns-else-at-nodes-clause-ok c = sym (step-past c.args.node _ c.args.nodes.now (omega arith))

@@ -1,0 +1,2 @@
+mod MatchLaws
+mod SumLaws

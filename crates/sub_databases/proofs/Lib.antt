@@ -1,0 +1,4 @@
+-- Of this crate alone.
+mod RowSteps
+mod PartLaws
+mod ReadyLaws

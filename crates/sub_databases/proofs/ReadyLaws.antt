@@ -1,0 +1,302 @@
+-- That a bucket becomes ready: its documents that weren't come to free places, and nothing else changes.
+use Rattle.std.proofs.Common.{◌≡◌, ℕ, zero, suc, ◌<◌, Bool, true, false, cond, nat_lt, not, ◌||◌, ◌&&◌, List, [], ◌∷◌, filter, Option, None, Some, is_some, Result, Ok, Err, OnOk, OnErr, refl, sym, ap, ap₂, subst, ◌∙◌}
+use mathlib.Core.Bool.{true≢false}
+use Rattle.std.specs.Str.{bytes_eq}
+use Rattle.std.specs.Cmp.Lexicographic.{nat_list_cmp_total}
+use Rattle.std.specs.FinMap as fin
+use Rattle.std.specs.FinMap.{get-retain_keys, get-from_entries, slice_cmp-IsAntisymmetric, nat_cmp-IsAntisymmetric}
+use Rattle.std.proofs.lemmas.Map.Text.{is_eq-slice_cmp}
+use Rattle.bucket_ids.specs.Buckets.{Low}
+use Rattle.doc_types.specs.SchemaCodes.{Types}
+use Rattle.documents.specs.Fields.{Contents}
+use Rattle.documents.specs.declared.entry.Entry.{Entry}
+use Rattle.documents.specs.EntryCodes.{id_cmp}
+use Rattle.entry_maps.specs.EntryCodes.{Entries}
+use Rattle.entry_maps.specs.Entries.{in_bucket, by_id, AreSingle}
+use Rattle.entry_maps.proofs.SlotLists.{same_id, same_id-refl, same_id-is, cond_none}
+use Rattle.document_rows.specs.Rows.{Rows, has_row, document_of, fitted, free_place, put_free, replaced, without, with_document, after_body, taken_into, AreDistinct}
+use Rattle.document_rows.specs.Reading.{row_at}
+use Rattle.document_rows.proofs.RowLaws.{same_id as same_text, own_id}
+use Rattle.node_rows.specs.TypedRows.{TypedRows, with_rows, AreNew, has_entry, all_taken}
+use Rattle.lane_views.specs.Shown.{HasRoom, shown, body_shown}
+use Rattle.lane_views.specs.Room.{AllAt}
+use Rattle.lane_views.specs.Deeds.{RoomAlong}
+use Rattle.lane_views.proofs.ShownLaws.{body-is, turned}
+use Rattle.sub_databases.specs.Parts.{Parts, AreParts, AreShown, HasOwnId, entry_place, body_place}
+use Rattle.sub_databases.specs.Changes.{with_both, is_waiting, made_ready, MakesReady}
+use Rattle.value_lists.specs.declared.no_memory.NoMemory.{NoMemory}
+use Rattle.sub_databases.proofs.RowSteps.{has_some}
+use Rattle.sub_databases.proofs.PartLaws.{FindRoom, parts_of, all_have}
+
+is_one : {A : Type 0} (a b : A) → Some a ≡ Some b → a ≡ b
+is_one a b e = cc
+
+not_one : {A : Type 0} (a : A) → None ≡ Some a → ⊥
+not_one a e = cc
+
+first : (a b : Bool) → a && b ≡ true → a ≡ true
+first true b k = refl
+first false b k = k
+
+second : (a b : Bool) → a && not b ≡ true → b ≡ false
+second true true k = absurd (true≢false (sym k))
+second true false k = refl
+second false b k = absurd (true≢false (sym k))
+
+-- ---- the entries of a bucket, as a list
+
+-- the first entry of an id among some
+abbrev found : List ℕ → List Entry → Option Entry
+found q es = fin.find id_cmp q (by_id es)
+
+other_id : (q : List ℕ) (e : Entry) → same_id q e.id ≡ false → bytes_eq e.id q ≡ false
+other_id q e h = sym (turned q e.id) ∙ (sym (is_eq-slice_cmp q e.id) ∙ h)
+
+own_entry : (q : List ℕ) (e : Entry) → same_id q e.id ≡ true → bytes_eq e.id q ≡ true
+own_entry q e h = sym (turned q e.id) ∙ (sym (is_eq-slice_cmp q e.id) ∙ h)
+
+none_found : (q : List ℕ) (es : List Entry) → found q es ≡ None → has_entry q es ≡ false
+none_found q [] h = refl
+none_found q (e ∷ es) h =
+    let k = cond_none (same_id q e.id) e (found q es) h in
+    ap₂ (λ a b. a || b) (other_id q e k.0) (none_found q es k.1)
+
+all_found : (m : Entries) (es : List Entry) → AreSingle (by_id es) → ((q : List ℕ) (x : Entry) → found q es ≡ Some x → fin.get m q ≡ Some x) → AllAt m es
+all_found m [] single in_m = tt
+all_found m (e ∷ es) single in_m = (in_m e.id e (ap (λ t. cond t (Some e) (found e.id es)) (same_id-refl e.id)), all_found m es single.1 (λ q x h. in_m q x (later q x h (same_id q e.id) refl)))
+  where
+    later : (q : List ℕ) (x : Entry) → found q es ≡ Some x → (t : Bool) → same_id q e.id ≡ t → cond t (Some e) (found q es) ≡ Some x
+    later q x h true same = absurd (not_one x (sym (ap (λ i. found i es) (same_id-is q e.id same) ∙ single.0) ∙ h))
+    later q x h false other = h
+
+get_within : (m : Entries) (b : Low) (q : List ℕ) → fin.get (fin.retain_keys m (in_bucket b)) q ≡ cond (in_bucket b q) (fin.get m q) None
+get_within m b q = get-retain_keys m (in_bucket b) q (λ x e. ap (in_bucket b) (sym (slice_cmp-IsAntisymmetric nat_cmp-IsAntisymmetric q x e)))
+
+found_within : (m : Entries) (b : Low) (es : List Entry) → fin.from_entries (by_id es) ≡ fin.retain_keys m (in_bucket b) → (q : List ℕ) → found q es ≡ cond (in_bucket b q) (fin.get m q) None
+found_within m b es listed q = sym (get-from_entries nat_list_cmp_total (by_id es) q) ∙ (ap (λ n. fin.get n q) listed ∙ get_within m b q)
+
+list_at : (m : Entries) (b : Low) (es : List Entry) → fin.from_entries (by_id es) ≡ fin.retain_keys m (in_bucket b) → AreSingle (by_id es) → AllAt m es
+list_at m b es listed single = all_found m es single (λ q x h. by_test q x (in_bucket b q) (sym (found_within m b es listed q) ∙ h))
+  where
+    by_test : (q : List ℕ) (x : Entry) (t : Bool) → cond t (fin.get m q) None ≡ Some x → fin.get m q ≡ Some x
+    by_test q x true k = k
+    by_test q x false k = absurd (not_one x k)
+
+-- ---- those of them that wait
+
+module _ (rows : Rows) where
+  waiting_at : (m : Entries) (es : List Entry) → AllAt m es → AllAt m (filter (is_waiting rows) es)
+  waiting_at m [] h = tt
+  waiting_at m (e ∷ es) h = by_test (is_waiting rows e) (waiting_at m es h.1)
+    where
+      by_test : (t : Bool) → AllAt m (filter (is_waiting rows) es) → AllAt m (cond t (e ∷ filter (is_waiting rows) es) (filter (is_waiting rows) es))
+      by_test true ih = (h.0, ih)
+      by_test false ih = ih
+
+  none_waiting : (q : List ℕ) (es : List Entry) → has_entry q es ≡ false → has_entry q (filter (is_waiting rows) es) ≡ false
+  none_waiting q [] h = refl
+  none_waiting q (e ∷ es) h = by_tests (is_waiting rows e) (bytes_eq e.id q) refl h (none_waiting q es)
+    where
+      by_tests : (w t : Bool) → bytes_eq e.id q ≡ t → (t || has_entry q es) ≡ false → (has_entry q es ≡ false → has_entry q (filter (is_waiting rows) es) ≡ false)
+          → has_entry q (cond w (e ∷ filter (is_waiting rows) es) (filter (is_waiting rows) es)) ≡ false
+      by_tests w true is k ih = absurd (true≢false k)
+      by_tests true false is k ih = ap₂ (λ a b. a || b) is (ih k)
+      by_tests false false is k ih = ih k
+
+  waiting_new : (es : List Entry) → AreSingle (by_id es) → AreNew rows (filter (is_waiting rows) es)
+  waiting_new [] single = tt
+  waiting_new (e ∷ es) single = by_test (is_waiting rows e) refl (waiting_new es single.1)
+    where
+      by_test : (t : Bool) → is_waiting rows e ≡ t → AreNew rows (filter (is_waiting rows) es) → AreNew rows (cond t (e ∷ filter (is_waiting rows) es) (filter (is_waiting rows) es))
+      by_test true is ih = (second (is_some e.body) (has_row e.id rows) is, none_waiting e.id es (none_found e.id es single.0), ih)
+      by_test false is ih = ih
+
+  -- whether a document's entry waits
+  abbrev waits : List ℕ → Option Entry → Bool
+  waits q None = false
+  waits q (Some e) = is_some e.body && not (has_row q rows)
+
+  waiting_is : (q : List ℕ) (es : List Entry) → AreSingle (by_id es) → has_entry q (filter (is_waiting rows) es) ≡ waits q (found q es)
+  waiting_is q [] single = refl
+  waiting_is q (e ∷ es) single = by_tests (same_id q e.id) (is_waiting rows e) refl refl (waiting_is q es single.1)
+    where
+      by_tests : (t w : Bool) → same_id q e.id ≡ t → is_waiting rows e ≡ w → has_entry q (filter (is_waiting rows) es) ≡ waits q (found q es)
+          → has_entry q (cond w (e ∷ filter (is_waiting rows) es) (filter (is_waiting rows) es)) ≡ waits q (cond t (Some e) (found q es))
+      by_tests true true same is ih =
+          ap (λ a. a || has_entry q (filter (is_waiting rows) es)) (own_entry q e same)
+          ∙ sym (ap (λ i. is_some e.body && not (has_row i rows)) (same_id-is q e.id same) ∙ is)
+      by_tests true false same is ih =
+          none_waiting q es (none_found q es (ap (λ i. found i es) (same_id-is q e.id same) ∙ single.0))
+          ∙ sym (ap (λ i. is_some e.body && not (has_row i rows)) (same_id-is q e.id same) ∙ is)
+      by_tests false true other is ih = ap (λ a. a || has_entry q (filter (is_waiting rows) es)) (other_id q e other) ∙ ih
+      by_tests false false other is ih = ih
+
+-- each has a document of its id
+abbrev AreWhole : List Entry → Type 0
+AreWhole [] = Unit {0}
+AreWhole (e ∷ es) = ((is_some e.body ≡ true) × HasOwnId e) × AreWhole es
+
+waiting_whole : (m : Entries) (rows : Rows) (es : List Entry) → AllAt m es → ((id : List ℕ) (e : Entry) → fin.get m id ≡ Some e → HasOwnId e) → AreWhole (filter (is_waiting rows) es)
+waiting_whole m rows [] h own = tt
+waiting_whole m rows (e ∷ es) h own = by_test (is_waiting rows e) refl (waiting_whole m rows es h.1 own)
+  where
+    by_test : (t : Bool) → is_waiting rows e ≡ t → AreWhole (filter (is_waiting rows) es) → AreWhole (cond t (e ∷ filter (is_waiting rows) es) (filter (is_waiting rows) es))
+    by_test true is ih = ((first (is_some e.body) (not (has_row e.id rows)) is, own e.id e h.0), ih)
+    by_test false is ih = ih
+
+-- ---- one document more
+
+shows_some : (types : Types) (e : Entry) → is_some e.body ≡ true → HasOwnId e → is_some (body_shown types e.id e.body) ≡ true
+shows_some types e some own = by_body e.body some own
+  where
+    by_test : (d : Contents) (t : Bool) → t ≡ true → is_some (cond t (Some (fitted types d)) None) ≡ true
+    by_test d true k = refl
+    by_test d false k = absurd (true≢false (sym k))
+
+    by_body : (o : Option Contents) → is_some o ≡ true → ((d : Contents) → o ≡ Some d → d.id ≡ e.id) → is_some (body_shown types e.id o) ≡ true
+    by_body None k own = absurd (true≢false (sym k))
+    by_body (Some d) k own = by_test d (bytes_eq d.id e.id) (subst (λ i. bytes_eq d.id i ≡ true) (own d refl) (own_id d.id))
+
+has_taken : (types : Types) (e : Entry) (q : List ℕ) (rows : Rows) → HasRoom rows → is_some e.body ≡ true → HasOwnId e → has_row q (taken_into types rows e) ≡ (bytes_eq e.id q || has_row q rows)
+has_taken types e q rows room some own =
+    has_some q (taken_into types rows e) ∙ (ap is_some (body-is types e.id e.body q rows room) ∙ by_test (bytes_eq e.id q))
+  where
+    by_test : (t : Bool) → is_some (cond t (body_shown types e.id e.body) (document_of q rows)) ≡ (t || has_row q rows)
+    by_test true = shows_some types e some own
+    by_test false = sym (has_some q rows)
+
+shown_taken : (types : Types) (m : Entries) (e : Entry) (rows : Rows) → HasRoom rows → fin.get m e.id ≡ Some e → AreShown types m rows → AreShown types m (taken_into types rows e)
+shown_taken types m e rows room at shows q d is = by_test (bytes_eq e.id q) refl (sym (body-is types e.id e.body q rows room) ∙ is)
+  where
+    by_test : (t : Bool) → bytes_eq e.id q ≡ t → cond t (body_shown types e.id e.body) (document_of q rows) ≡ Some d → shown types q (fin.get m q) ≡ Some d
+    by_test true same k = subst (λ i. shown types i (fin.get m i) ≡ Some d) (same_text e.id q same) (ap (shown types e.id) at ∙ k)
+    by_test false other k = shows q d k
+
+put_keeps : (y : Contents) (rows : Rows) (n : ℕ) (d : Contents) → row_at rows n ≡ Some d → row_at (put_free y rows) n ≡ Some d
+put_keeps y [] n d is = absurd (not_one d is)
+put_keeps y (None ∷ rows) zero d is = absurd (not_one d is)
+put_keeps y (None ∷ rows) (suc n) d is = is
+put_keeps y (Some e ∷ rows) zero d is = is
+put_keeps y (Some e ∷ rows) (suc n) d is = put_keeps y rows n d is
+
+taken_keeps : (types : Types) (e : Entry) (rows : Rows) → is_some e.body ≡ true → HasOwnId e → has_row e.id rows ≡ false → (n : ℕ) (d : Contents) → row_at rows n ≡ Some d → row_at (taken_into types rows e) n ≡ Some d
+taken_keeps types e rows some own new n d is = by_body e.body some own
+  where
+    by_room : (x : Contents) (t : Bool) → row_at (cond t (put_free (fitted types x) rows) rows) n ≡ Some d
+    by_room x true = put_keeps (fitted types x) rows n d is
+    by_room x false = is
+
+    by_row : (x : Contents) (t : Bool) → t ≡ false → row_at (cond t (replaced (fitted types x) rows) (cond (nat_lt (free_place rows) 4294967295) (put_free (fitted types x) rows) rows)) n ≡ Some d
+    by_row x true k = absurd (true≢false k)
+    by_row x false k = by_room x (nat_lt (free_place rows) 4294967295)
+
+    by_id : (x : Contents) → x.id ≡ e.id → (t : Bool) → t ≡ true → row_at (cond t (with_document (fitted types x) rows) (without e.id rows)) n ≡ Some d
+    by_id x same true k = by_row x (has_row x.id rows) (ap (λ i. has_row i rows) same ∙ new)
+    by_id x same false k = absurd (true≢false (sym k))
+
+    by_body : (o : Option Contents) → is_some o ≡ true → ((x : Contents) → o ≡ Some x → x.id ≡ e.id) → row_at (after_body types e.id o rows) n ≡ Some d
+    by_body None k own = absurd (true≢false (sym k))
+    by_body (Some x) k own = by_id x (own x refl) (bytes_eq x.id e.id) (subst (λ i. bytes_eq x.id i ≡ true) (own x refl) (own_id x.id))
+
+-- those behind are new still
+new_after : (types : Types) (e : Entry) (rows : Rows) → HasRoom rows → is_some e.body ≡ true → HasOwnId e → (es : List Entry) → has_entry e.id es ≡ false → AreNew rows es → AreNew (taken_into types rows e) es
+new_after types e rows room some own [] other new = tt
+new_after types e rows room some own (x ∷ es) other new = by_test (bytes_eq x.id e.id) refl other (new_after types e rows room some own es)
+  where
+    by_test : (t : Bool) → bytes_eq x.id e.id ≡ t → (t || has_entry e.id es) ≡ false → (has_entry e.id es ≡ false → AreNew rows es → AreNew (taken_into types rows e) es) → AreNew (taken_into types rows e) (x ∷ es)
+    by_test true is k ih = absurd (true≢false k)
+    by_test false is k ih = (has_taken types e x.id rows room some own ∙ ap₂ (λ a b. a || b) (turned e.id x.id ∙ is) new.0, new.1, ih k new.2)
+
+-- ---- all of them
+
+record IsFilled (types : Types) (m : Entries) (es : List Entry) (rows filled : Rows) : Type 0 where
+  shown : AreShown types m filled
+  has : (q : List ℕ) → has_row q filled ≡ (has_entry q es || has_row q rows)
+  kept : (n : ℕ) (d : Contents) → row_at rows n ≡ Some d → row_at filled n ≡ Some d
+
+swapped : (a b c : Bool) → (a || (b || c)) ≡ ((b || a) || c)
+swapped true true c = refl
+swapped true false c = refl
+swapped false true c = refl
+swapped false false c = refl
+
+fills : (types : Types) (m : Entries) (es : List Entry) (rows : Rows) → AllAt m es → AreWhole es → RoomAlong types es rows → AreNew rows es → AreShown types m rows → IsFilled types m es rows (all_taken types es rows)
+fills types m [] rows at whole room new shows = record { shown = shows; has = λ q. refl; kept = λ n d is. is }
+fills types m (e ∷ es) rows at whole room new shows =
+    let ih = fills types m es (taken_into types rows e) at.1 whole.1 room.1 (new_after types e rows room.0 whole.0.0 whole.0.1 es new.1 new.2) (shown_taken types m e rows room.0 at.0 shows) in
+    record {
+      shown = ih.shown;
+      has = λ q. ih.has q ∙ (ap (λ a. has_entry q es || a) (has_taken types e q rows room.0 whole.0.0 whole.0.1) ∙ swapped (has_entry q es) (bytes_eq e.id q) (has_row q rows));
+      kept = λ n d is. ih.kept n d (taken_keeps types e rows whole.0.0 whole.0.1 new.0 n d is);
+    }
+
+-- ---- a bucket
+
+module _ (p : Parts) (b : Low) (list : List Entry) (h : AreParts p) (listed : fin.from_entries (by_id list) ≡ fin.retain_keys p.entries (in_bucket b)) (single : AreSingle (by_id list)) where
+  abbrev pub those : List Entry
+  those = filter (is_waiting p.rows) list
+
+  pub those_at : AllAt p.entries those
+  those_at = waiting_at p.rows p.entries list (list_at p.entries b list listed single)
+
+  pub those_new : AreNew p.rows those
+  those_new = waiting_new p.rows list single
+
+  filled : RoomAlong p.types those p.rows → IsFilled p.types p.entries those p.rows (all_taken p.types those p.rows)
+  filled room = fills p.types p.entries those p.rows those_at (waiting_whole p.entries p.rows list (list_at p.entries b list listed single) h.bodies) room those_new h.shown
+
+  pub parts_ready : RoomAlong p.types those p.rows → AreParts (with_both p.entries (all_taken p.types those p.rows) p)
+  parts_ready room = record { own = h.own; bodies = h.bodies; shown = (filled room).shown }
+
+  pub makes_ready : RoomAlong p.types those p.rows → MakesReady b p (with_both p.entries (all_taken p.types those p.rows) p)
+  makes_ready room = record {
+    types = refl;
+    entries = refl;
+    places = λ q.
+        ap (entry_place (fin.get p.entries q)) ((filled room).has q ∙ ap (λ a. a || has_row q p.rows) (waiting_is p.rows q list single ∙ ap (waits p.rows q) (found_within p.entries b list listed q)))
+        ∙ place_of q (in_bucket b q) (fin.get p.entries q);
+    kept = (filled room).kept;
+  }
+    where
+      by_mark : (d : Contents) (r : Bool) → body_place (Some d) ((true && not r) || r) ≡ made_ready true (body_place (Some d) r)
+      by_mark d true = refl
+      by_mark d false = refl
+
+      by_body : (o : Option Contents) (r : Bool) → body_place o ((is_some o && not r) || r) ≡ made_ready true (body_place o r)
+      by_body None r = refl
+      by_body (Some d) r = by_mark d r
+
+      place_of : (q : List ℕ) (t : Bool) (o : Option Entry) → entry_place o (waits p.rows q (cond t o None) || has_row q p.rows) ≡ made_ready t (entry_place o (has_row q p.rows))
+      place_of q true None = refl
+      place_of q true (Some e) = by_body e.body (has_row q p.rows)
+      place_of q false o = refl
+
+-- ---- the same of a call, be it done or not
+
+-- what the entries of a bucket are that wait, and that they find room
+pub record AreAwaited (m : Entries) (t : TypedRows) (b : Low) (list those : List Entry) : Type 0 where
+  pub parts : AreParts (parts_of m t)
+  pub listed : fin.from_entries (by_id list) ≡ fin.retain_keys m (in_bucket b)
+  pub single : AreSingle (by_id list)
+  pub waiting : those ≡ filter (is_waiting t.rows) list
+
+pub awaited_new : (m : Entries) (t : TypedRows) (b : Low) (list ws : List Entry) → AreAwaited m t b list ws → AreNew t.rows ws
+awaited_new m t b list ws a = subst (AreNew t.rows) (sym a.waiting) (those_new (parts_of m t) b list a.parts a.listed a.single)
+
+room_of : FindRoom → (m : Entries) (t : TypedRows) (b : Low) (list ws : List Entry) → fin.len m < 4294967295 → AreDistinct t.rows → AreAwaited m t b list ws → RoomAlong t.types (filter (is_waiting t.rows) list) t.rows
+room_of finds m t b list ws few distinct a =
+    finds t.types m (filter (is_waiting t.rows) list) (those_at (parts_of m t) b list a.parts a.listed a.single) few t.rows distinct (all_have (parts_of m t) a.parts)
+
+pub ready_either : FindRoom → (m : Entries) (t : TypedRows) (b : Low) (list ws : List Entry) → fin.len m < 4294967295 → AreDistinct t.rows → AreAwaited m t b list ws
+    → (r : Result (Unit {0}) NoMemory) (u : TypedRows) → OnOk r (u ≡ with_rows (all_taken t.types ws t.rows) t) → OnErr r (u ≡ t) → AreParts (parts_of m u)
+ready_either finds m t b list ws few distinct a (Ok x) u ok err =
+    subst (λ k. AreParts (parts_of m k)) (sym (ok ∙ ap (λ l. with_rows (all_taken t.types l t.rows) t) a.waiting))
+    (parts_ready (parts_of m t) b list a.parts a.listed a.single (room_of finds m t b list ws few distinct a))
+ready_either finds m t b list ws few distinct a (Err x) u ok err = subst (λ k. AreParts (parts_of m k)) (sym err) a.parts
+
+pub made_either : FindRoom → (m : Entries) (t : TypedRows) (b : Low) (list ws : List Entry) → fin.len m < 4294967295 → AreDistinct t.rows → AreAwaited m t b list ws
+    → (r : Result (Unit {0}) NoMemory) (u : TypedRows) → OnOk r (u ≡ with_rows (all_taken t.types ws t.rows) t) → OnOk r (MakesReady b (parts_of m t) (parts_of m u))
+made_either finds m t b list ws few distinct a (Ok x) u ok =
+    subst (λ k. MakesReady b (parts_of m t) (parts_of m k)) (sym (ok ∙ ap (λ l. with_rows (all_taken t.types l t.rows) t) a.waiting))
+    (makes_ready (parts_of m t) b list a.parts a.listed a.single (room_of finds m t b list ws few distinct a))
+made_either finds m t b list ws few distinct a (Err x) u ok = tt

@@ -1,0 +1,170 @@
+ghost use Rattle.std.specs.Prelude.{◌≡◌, ◌↔◌, ◌+◌, ◌-◌, ◌^◌, ◌<◌, ℕ, List, Some, option_map, is_some, IfOk, OnOk, OnErr};
+ghost use Rattle.std.specs.Option.{option_copied};
+ghost use Rattle.std.specs.FinMap as fin;
+ghost use Rattle.local_ids.specs.Rising.{IsRising};
+ghost use Rattle.global_ids.specs.Keys as keys;
+ghost use Rattle.document_rows.specs.Rows.{has_row};
+ghost use Rattle.document_rows.specs.Reading.{row_at, places_where, has_token};
+ghost use Rattle.entry_maps.specs.Entries.{in_bucket};
+ghost use Rattle.sub_databases.specs.Parts.{no_parts, place_in, AreParts, HasOwnId};
+ghost use Rattle.sub_databases.specs.Changes.{after_take, place_after, MakesReady, after_drop, place_dropped, after_forget, place_forgotten};
+
+use crate::filling::waiting;
+use crate::place::{Place, place_by};
+use crate::taking::{is_newer, is_remove_of, take_first, take_newer};
+use bucket_ids::Bucket;
+use document_ids::DocId;
+use documents::{Entry, SharedEntry};
+use entry_maps::EntryMap;
+use global_ids::key_of;
+use lane_views::laws::entries_find_room;
+use node_rows::{NodeRows, SharedSchema};
+use stamps::Stamp;
+use std::alloc::Global;
+use std::marker::Model;
+use value_lists::{NoMemory, TryCopy};
+
+/// The three parts of a node in one lane.
+#[derive(Drop)]
+pub struct SubDatabases {
+    entries: EntryMap,
+    ready: NodeRows,
+}
+
+impl Model for SubDatabases {
+    ghost use Rattle.sub_databases.specs.Parts.{Parts, parts_code, AreParts};
+
+    ghost Value = { Parts };
+
+    ghost coded = { parts_code };
+
+    ghost view = { λ s. record { types = s.ready.types; entries = s.entries; rows = s.ready.rows } };
+
+    ghost invariant = { λ s. AreParts (record { types = s.ready.types; entries = s.entries; rows = s.ready.rows }) };
+}
+
+impl SubDatabases {
+    /// No entries, of a schema that is shared. The only error is want of memory.
+    pub fn new(alloc: Global, schema: &SharedSchema) -> Result<SubDatabases, NoMemory>
+        ensures { IfOk result (λ parts. parts ≡ no_parts schema.now) }
+    {
+        Ok(SubDatabases {
+            entries: EntryMap::new(alloc),
+            ready: NodeRows::new(alloc, schema)?,
+        })
+    }
+
+    /// Where a document is.
+    pub fn place(&self, id: &DocId) -> Place
+        ensures place { result ≡ place_in self.now id.now }
+        ensures valid { AreParts self.now }
+    {
+        place_by(self.entries.get(id), self.ready.local(id).is_some())
+    }
+
+    /// The newest entry of a document.
+    pub fn get(&self, id: &DocId) -> Option<&Entry>
+        ensures entry { option_copied result ≡ fin.get self.now.entries id.now }
+        ensures valid { AreParts self.now }
+    {
+        self.entries.get(id)
+    }
+
+    /// How many entries there are, removes among them.
+    pub fn entries(&self) -> u64
+        ensures { result ≡ fin.len self.now.entries }
+    {
+        self.entries.entries()
+    }
+
+    /// The local id of a document that is ready: its place in the ready part.
+    pub fn local(&self, id: &DocId) -> Option<u32>
+        ensures local { (n : ℕ) → (result ≡ Some n) ↔ (option_map (λ d. d.id) (row_at self.now.rows n) ≡ Some id.now) }
+
+        // There is one exactly where the document is ready.
+        ensures ready { is_some result ≡ has_row id.now self.now.rows }
+    {
+        self.ready.local(id)
+    }
+
+    /// The local ids, rising, of the ready documents of a type that have a token in a field, in some item of a list.
+    pub fn with_token(&self, type_name: &str, field: &str, token: &str) -> &[u32]
+        ensures ids { result.now ≡ places_where (has_token type_name.now field.now token.now) self.now.rows }
+        ensures rising { IsRising result.now }
+    {
+        self.ready.with_token(type_name, field, token)
+    }
+
+    /// Takes an entry with the key of its id, which comes ready or not: the newest of its document is kept, and the mark
+    /// that came with that decides; an entry that isn't newer changes nothing, nor does its mark. The only error is want
+    /// of memory.
+    pub fn take(
+        &mut self,
+        alloc: Global,
+        key: u64,
+        entry: &SharedEntry,
+        ready: bool,
+    ) -> Result<(), NoMemory>
+        requires key { key ≡ keys.key_of entry.now.id }
+        requires own { HasOwnId entry.now }
+        requires room { fin.len self.old.entries + 1 < 2 ^ 32 - 1 }
+        ensures ok { OnOk result (self.new ≡ after_take entry.now ready self.old) }
+        ensures places { OnOk result ((id : List ℕ) → place_in self.new id ≡ place_after entry.now ready self.old id) }
+        ensures err { OnErr result (self.new ≡ self.old) }
+    {
+        entries_find_room();
+        let _ = self.ready.len();
+        let there = self.entries.get_at(key, &entry.entry().id);
+        if there.is_none() {
+            return take_first(&mut self.entries, &mut self.ready, alloc, key, entry, ready);
+        }
+        if !is_newer(entry.entry(), there) {
+            return Ok(());
+        }
+        take_newer(&mut self.entries, &mut self.ready, alloc, key, entry, ready)
+    }
+
+    /// Makes a bucket ready: its documents are in the ready part from then on, or none is where memory doesn't serve.
+    /// Costs the bucket's entries.
+    pub fn make_ready(&mut self, alloc: Global, bucket: Bucket) -> Result<(), NoMemory>
+        requires room { fin.len self.old.entries < 2 ^ 32 - 1 }
+        ensures ok { OnOk result (MakesReady bucket self.old self.new) }
+        ensures err { OnErr result (self.new ≡ self.old) }
+    {
+        entries_find_room();
+        let _ = self.ready.len();
+        let entries = self.entries.within(bucket)?.listed()?;
+        let waiting = waiting(alloc, &self.ready, &entries)?;
+        self.ready.take_all(alloc, &waiting)
+    }
+
+    /// Drops the entries of a bucket, and its documents from the ready part. Takes no memory.
+    pub fn drop_bucket(&mut self, bucket: Bucket)
+        ensures left { self.new ≡ after_drop bucket self.old }
+        ensures places { (id : List ℕ) → place_in self.new id ≡ place_dropped (in_bucket bucket id) (place_in self.old id) }
+    {
+        self.entries.remove_within(bucket);
+        self.ready.drop_in(bucket);
+    }
+
+    /// Drops a document's entry exactly where it is a remove of a stamp. Takes no memory.
+    pub fn forget(&mut self, id: &DocId, stamp: Stamp)
+        ensures left { self.new ≡ after_forget id.now stamp self.old }
+        ensures places { (other : List ℕ) → place_in self.new other ≡ place_forgotten id.now stamp self.old other }
+    {
+        let key = key_of(id);
+        if is_remove_of(stamp, self.entries.get_at(key, id)) {
+            self.entries.remove_at(key, id);
+        }
+    }
+}
+
+impl TryCopy for SubDatabases {
+    /// Entries and documents are shared.
+    fn copy(&self, alloc: Global) -> Result<SubDatabases, NoMemory> {
+        Ok(SubDatabases {
+            entries: self.entries.copy(alloc)?,
+            ready: self.ready.copy(alloc)?,
+        })
+    }
+}
