@@ -15,7 +15,7 @@ use Rattle.lane_journals.specs.Meanings.{history}
 use Rattle.lane_journals.specs.KeptJournals.{IsLegal}
 use Rattle.lane_carriage.specs.Carriage.{IsCarried}
 use Rattle.lane_keeping.specs.LaneKeeping.{setting_of}
-use Rattle.operation_keeping.specs.OperationKeeping.{IsFresh}
+use Rattle.lane_keeping.specs.Lines.{IsFresh}
 use Rattle.lane_lives.specs.LaneValues.{LaneValue}
 use Rattle.reports.specs.ReportText.{usage_text}
 use Rattle.session_settings.specs.Choices.{Chooses}

@@ -4,7 +4,7 @@ use Rattle.std.proofs.lemmas.List.{length-map}
 use Rattle.carriers.specs.declared.fate.Fate.{Fate}
 use Rattle.cluster_states.specs.Publishing.{Told}
 use Rattle.lane_journals.specs.Meanings.{history}
-use Rattle.operation_keeping.specs.OperationKeeping.{IsFresh}
+use Rattle.lane_keeping.specs.Lines.{IsFresh}
 use Rattle.lane_lives.specs.declared.setting.Setting.{Setting}
 use Rattle.lane_lives.specs.Lives as life
 use Rattle.lane_lives.specs.Lives.{IsLife, IsNone}

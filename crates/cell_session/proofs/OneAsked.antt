@@ -53,6 +53,7 @@ of_text_once text deaf a b (inr x) (inr y) = x.1.1 ∙ ap (λ offset. asked.BadS
 by_once : (r : Result Command Cause) (a b : Asked) → IsAskedBy r a → IsAskedBy r b → a ≡ b
 by_once (Ok said.Blank) a b p q = p ∙ sym q
 by_once (Ok (said.Feed operation via)) a b p q = p ∙ sym q
+by_once (Ok (said.Search text)) a b p q = p ∙ sym q
 by_once (Ok (said.State text deaf)) a b p q = of_text_once text deaf a b p q
 by_once (Ok (said.Stop node)) a b p q = p ∙ sym q
 by_once (Ok (said.Start node)) a b p q = p ∙ sym q

@@ -6,7 +6,7 @@ use Rattle.doc_types.specs.SchemaCodes.{Types}
 use Rattle.lane_journals.specs.Meanings.{history}
 use Rattle.lane_carriage.specs.Carriage.{IsCarried}
 use Rattle.lane_lives.specs.LaneValues.{LaneValue}
-use Rattle.operation_keeping.specs.OperationKeeping.{IsFresh}
+use Rattle.lane_keeping.specs.Lines.{IsFresh}
 use Rattle.lane_lives.specs.declared.setting.Setting.{Setting}
 use Rattle.lane_lives.specs.Lives as life
 use Rattle.lane_lives.specs.Lives.{IsLife, IsNone}

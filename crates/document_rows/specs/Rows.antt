@@ -48,6 +48,10 @@ is_free r = not (is_some r)
 abbrev pub has_row : List ℕ → Rows → Bool
 has_row id rows = list_any (is_of id) rows
 
+-- an entry has this id
+abbrev pub has_entry : List ℕ → List Entry → Bool
+has_entry id es = list_any (λ e. bytes_eq e.id id) es
+
 -- the document of an id
 abbrev pub document_of : List ℕ → Rows → Option Contents
 document_of id [] = None

@@ -3,6 +3,7 @@ mod TextLaws
 mod LineTests
 mod LineLaws
 mod SettingLaws
+mod SearchLaws
 mod UpkeepLaws
 mod CauseOrder
 mod BareLines

@@ -245,6 +245,7 @@ fed_by : (types : Types) (bits : ℕ) (d : Data) (o : Operation) (via : Option �
     → command_in types bits v d ≡ command.Feed o via → Fed types d (command.Feed o via)
 fed_by types bits d o via (line.Feed v) verb holds is =
     record { v = v; id = text_of (id_in v d); beside = beside_of d; holds = meets types bits v d verb holds; command = is }
+fed_by types bits d o via line.Search verb holds is = cc
 fed_by types bits d o via line.State verb holds is = cc
 fed_by types bits d o via line.Stop verb holds is = cc
 fed_by types bits d o via line.Start verb holds is = cc

@@ -63,7 +63,7 @@ with_true a h = rw h refl
 
 -- ---- states
 
-text_back : (o : Option Data) (text : List ℕ) → option_and_then as_str o ≡ Some text → o ≡ Some (string text)
+pub text_back : (o : Option Data) (text : List ℕ) → option_and_then as_str o ≡ Some text → o ≡ Some (string text)
 text_back None text h = cc
 text_back (Some null) text h = cc
 text_back (Some (boolean b)) text h = cc
@@ -106,6 +106,7 @@ state_parts types bits d text deaf verb holds is =
 state_by_verb : (types : Types) (bits : ℕ) (v : LineVerb) (d : Data) (text : List ℕ) (deaf : ℕ) → verb_of d ≡ Some v → first_cause (tests types bits v d) ≡ None
     → command_in types bits v d ≡ command.State text deaf → IsState d text deaf
 state_by_verb types bits (line.Feed v) d text deaf verb holds is = cc
+state_by_verb types bits line.Search d text deaf verb holds is = cc
 state_by_verb types bits line.State d text deaf verb holds is = state_parts types bits d text deaf verb holds is
 state_by_verb types bits line.Stop d text deaf verb holds is = cc
 state_by_verb types bits line.Start d text deaf verb holds is = cc
@@ -143,6 +144,7 @@ node_there v key d node p = ap (option_and_then node_of) p.value ∙ p.number
 stop_by_verb : (types : Types) (bits : ℕ) (v : LineVerb) (d : Data) (node : ℕ) → verb_of d ≡ Some v → first_cause (tests types bits v d) ≡ None → command_in types bits v d ≡ command.Stop node
     → IsNodeLine line.Stop (codes "stop") d node
 stop_by_verb types bits (line.Feed v) d node verb holds is = cc
+stop_by_verb types bits line.Search d node verb holds is = cc
 stop_by_verb types bits line.State d node verb holds is = cc
 stop_by_verb types bits line.Stop d node verb holds is =
     let each = each_of_two (all_stand line.Stop (members_of d) && true) (is_some (node_in (codes "stop") d)) cause.Unbuilt cause.Key cause.Value holds in
@@ -155,6 +157,7 @@ stop_by_verb types bits line.Later d node verb holds is = cc
 start_by_verb : (types : Types) (bits : ℕ) (v : LineVerb) (d : Data) (node : ℕ) → verb_of d ≡ Some v → first_cause (tests types bits v d) ≡ None → command_in types bits v d ≡ command.Start node
     → IsNodeLine line.Start (codes "start") d node
 start_by_verb types bits (line.Feed v) d node verb holds is = cc
+start_by_verb types bits line.Search d node verb holds is = cc
 start_by_verb types bits line.State d node verb holds is = cc
 start_by_verb types bits line.Stop d node verb holds is = cc
 start_by_verb types bits line.Start d node verb holds is =
@@ -216,6 +219,7 @@ net_parts types bits d lane fates verb holds is =
 net_by_verb : (types : Types) (bits : ℕ) (v : LineVerb) (d : Data) (lane : ℕ) (fates : List Fate) → verb_of d ≡ Some v → first_cause (tests types bits v d) ≡ None
     → command_in types bits v d ≡ command.Net lane fates → IsNet bits d lane fates
 net_by_verb types bits (line.Feed v) d lane fates verb holds is = cc
+net_by_verb types bits line.Search d lane fates verb holds is = cc
 net_by_verb types bits line.State d lane fates verb holds is = cc
 net_by_verb types bits line.Stop d lane fates verb holds is = cc
 net_by_verb types bits line.Start d lane fates verb holds is = cc

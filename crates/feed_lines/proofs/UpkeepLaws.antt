@@ -39,6 +39,7 @@ maintain_parts types bits d verb holds =
 maintain_by_verb : (types : Types) (bits : ℕ) (v : LineVerb) (d : Data) → verb_of d ≡ Some v → first_cause (tests types bits v d) ≡ None
     → command_in types bits v d ≡ command.Maintain → IsMaintain d
 maintain_by_verb types bits (line.Feed v) d verb holds is = cc
+maintain_by_verb types bits line.Search d verb holds is = cc
 maintain_by_verb types bits line.State d verb holds is = cc
 maintain_by_verb types bits line.Stop d verb holds is = cc
 maintain_by_verb types bits line.Start d verb holds is = cc

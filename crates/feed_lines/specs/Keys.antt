@@ -7,15 +7,11 @@ use Rattle.feed_lines.specs.declared.keys.Verb.TheVariants as verb
 use Rattle.feed_lines.specs.declared.keys.LineVerb.{LineVerb}
 use Rattle.feed_lines.specs.declared.keys.LineVerb.TheVariants as line
 
--- the verbs that aren't built yet
-abbrev pub is_later_verb : List ℕ → Bool
-is_later_verb key = bytes_eq key (codes "search") || bytes_eq key (codes "barrier")
-
--- the verbs that ask for no document
+-- the verbs that ask for no document of an id; a barrier isn't built yet
 unfoldable pub other_verb : List ℕ → Option LineVerb
-other_verb key = if bytes_eq key (codes "state") then Some line.State else (if bytes_eq key (codes "stop") then Some line.Stop
+other_verb key = if bytes_eq key (codes "search") then Some line.Search else (if bytes_eq key (codes "state") then Some line.State else (if bytes_eq key (codes "stop") then Some line.Stop
     else (if bytes_eq key (codes "start") then Some line.Start else (if bytes_eq key (codes "net") then Some line.Net
-    else (if bytes_eq key (codes "maintain") then Some line.Maintain else (if is_later_verb key then Some line.Later else None)))))
+    else (if bytes_eq key (codes "maintain") then Some line.Maintain else (if bytes_eq key (codes "barrier") then Some line.Later else None))))))
 
 unfoldable pub verb_named : List ℕ → Option LineVerb
 verb_named key = if bytes_eq key (codes "put") then Some (line.Feed verb.Put) else (if bytes_eq key (codes "update") then Some (line.Feed verb.Update)
@@ -58,9 +54,10 @@ may_stand_with verb.Update key = bytes_eq key (codes "update") || stands_beside_
 may_stand_with verb.Remove key = bytes_eq key (codes "remove") || bytes_eq key (codes "condition") || bytes_eq key (codes "via")
 may_stand_with verb.Get key = bytes_eq key (codes "get") || bytes_eq key (codes "via")
 
--- a state may have `deaf` beside the verb; a stop, a start, a net and an upkeep have the verb alone
+-- a state may have `deaf` beside the verb; a search, a stop, a start, a net and an upkeep have the verb alone
 unfoldable pub may_stand : LineVerb → List ℕ → Bool
 may_stand (line.Feed v) key = may_stand_with v key
+may_stand line.Search key = bytes_eq key (codes "search")
 may_stand line.State key = bytes_eq key (codes "state") || bytes_eq key (codes "deaf")
 may_stand line.Stop key = bytes_eq key (codes "stop")
 may_stand line.Start key = bytes_eq key (codes "start")

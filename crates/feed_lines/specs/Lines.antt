@@ -84,6 +84,11 @@ abbrev pub SaysDeaf : Option Data → List ℕ → Type 0
 SaysDeaf None nodes = nodes ≡ []
 SaysDeaf (Some d) nodes = nodes_of d ≡ Some nodes
 
+-- the text of a query as the value of the verb
+pub record IsSearch (d : Data) (text : List ℕ) : Type 0 where
+  pub has_verb : HasVerb line.Search d
+  pub says_text : get (codes "search") d ≡ Some (string text)
+
 -- the text of a state, and the distributors that don't hear of it
 pub record IsState (d : Data) (text : List ℕ) (deaf : ℕ) : Type 0 where
   pub has_verb : HasVerb line.State d

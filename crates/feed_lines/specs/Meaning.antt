@@ -19,7 +19,7 @@ use Rattle.messages.specs.declared.operation.OpKind.{OpKind}
 use Rattle.messages.specs.declared.operation.OpKind.TheVariants as kind
 use Rattle.carriers.specs.declared.fate.Fate.{Fate}
 use Rattle.feed_lines.specs.Values.{node_of}
-use Rattle.feed_lines.specs.Tests.{or_false, first_cause, verb_of, id_in, Beside, beside_of, said_in, kinds_for, condition_in, kind_tests, id_tests, feed_tests, own_tests, state_in, deaf_in, node_in, lane_in, fates_in, text_of, tests}
+use Rattle.feed_lines.specs.Tests.{or_false, first_cause, verb_of, id_in, Beside, beside_of, said_in, kinds_for, condition_in, kind_tests, id_tests, feed_tests, own_tests, search_in, state_in, deaf_in, node_in, lane_in, fates_in, text_of, tests}
 use Rattle.feed_lines.specs.declared.command.Cause.{Cause}
 use Rattle.feed_lines.specs.declared.command.Cause.TheVariants as cause
 use Rattle.feed_lines.specs.declared.command.Command.{Command}
@@ -70,6 +70,7 @@ list_of (Some xs) = xs
 -- what a line of a verb asks for, where it meets all tests
 abbrev pub command_in : Types → ℕ → LineVerb → Data → Command
 command_in types bits (line.Feed v) d = feed_in types v (text_of (id_in v d)) (beside_of d)
+command_in types bits line.Search d = command.Search (text_of (search_in d))
 command_in types bits line.State d = command.State (text_of (state_in d)) (number_of (deaf_in d))
 command_in types bits line.Stop d = command.Stop (number_of (node_in (codes "stop") d))
 command_in types bits line.Start d = command.Start (number_of (node_in (codes "start") d))
@@ -114,9 +115,13 @@ fault_by right fault.NoMemory = fault.NoMemory
 abbrev pub id_said : Types → Verb → List ℕ → Beside → Result Command Cause
 id_said types v id b = answer_by (first_cause (id_tests types v id b)) (feed_in types v id b)
 
--- what an operation, a state, a stop, a start, a plan of messages and upkeep say behind their keys
+-- what an operation, a search, a state, a stop, a start, a plan of messages and upkeep say behind their keys
 abbrev pub feed_said : Types → Verb → Data → Result Command Cause
 feed_said types v d = answer_by (first_cause (feed_tests types v d)) (feed_in types v (text_of (id_in v d)) (beside_of d))
+
+abbrev pub search_said : Option (List ℕ) → Result Command Cause
+search_said (Some text) = Ok (command.Search text)
+search_said None = Err cause.Value
 
 abbrev pub state_said : Option (List ℕ) → Option ℕ → Result Command Cause
 state_said (Some text) (Some deaf) = Ok (command.State text deaf)

@@ -40,6 +40,7 @@ verb_of d = only_verb (members_of d)
 -- the verb is none of lines that aren't built yet
 abbrev pub is_built : LineVerb → Bool
 is_built (line.Feed v) = true
+is_built line.Search = true
 is_built line.State = true
 is_built line.Stop = true
 is_built line.Start = true
@@ -75,6 +76,7 @@ has_net_keys net = are_net_keys (net_members net) && is_some (in_net (codes "lan
 -- the keys that the verb wants
 abbrev pub has_own_keys : LineVerb → Data → Bool
 has_own_keys (line.Feed v) d = has_wanted v (fields_of d)
+has_own_keys line.Search d = true
 has_own_keys line.State d = true
 has_own_keys line.Stop d = true
 has_own_keys line.Start d = true
@@ -189,6 +191,10 @@ text_of (Some text) = text
 abbrev pub feed_tests : Types → Verb → Data → List (Bool × Cause)
 feed_tests types v d = (is_some (id_in v d), cause.Id) ∷ id_tests types v (text_of (id_in v d)) (beside_of d)
 
+-- the text of a query
+abbrev pub search_in : Data → Option (List ℕ)
+search_in d = option_and_then as_str (get (codes "search") d)
+
 -- a state's text
 abbrev pub state_in : Data → Option (List ℕ)
 state_in d = option_and_then as_str (get (codes "state") d)
@@ -220,6 +226,7 @@ is_true_in key d = or_false (option_and_then as_bool (get key d))
 -- what else a line of a verb has to meet
 abbrev pub own_tests : Types → ℕ → LineVerb → Data → List (Bool × Cause)
 own_tests types bits (line.Feed v) d = feed_tests types v d
+own_tests types bits line.Search d = (is_some (search_in d), cause.Value) ∷ []
 own_tests types bits line.State d = (is_some (state_in d) && is_some (deaf_in d), cause.Value) ∷ []
 own_tests types bits line.Stop d = (is_some (node_in (codes "stop") d), cause.Value) ∷ []
 own_tests types bits line.Start d = (is_some (node_in (codes "start") d), cause.Value) ∷ []

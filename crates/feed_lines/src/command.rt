@@ -18,6 +18,10 @@ pub enum Command {
         operation: Operation,
         via: Option<u8>,
     },
+    /// What the query of a text finds is counted.
+    Search {
+        text: TextValue,
+    },
     /// The state that a text says is published, and these distributors don't hear of it.
     State {
         text: TextValue,

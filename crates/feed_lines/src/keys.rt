@@ -1,6 +1,6 @@
 ghost use Rattle.std.specs.Prelude.{◌≡◌};
 ghost use Rattle.serde_json.specs.View.{members_view};
-ghost use Rattle.feed_lines.specs.Keys.{is_later_verb, other_verb, verb_named, only_verb, stands_beside_fields, may_stand_with, may_stand, all_stand, is_net_key, are_net_keys, name_of};
+ghost use Rattle.feed_lines.specs.Keys.{other_verb, verb_named, only_verb, stands_beside_fields, may_stand_with, may_stand, all_stand, is_net_key, are_net_keys, name_of};
 
 use serde_json::{Map, Value};
 
@@ -13,10 +13,11 @@ pub enum Verb {
     Get,
 }
 
-/// What a line does; `Later` are the verbs that aren't built yet.
+/// What a line does; `Later` is the verb that isn't built yet.
 #[derive(Clone, Copy, PartialEq, Eq)]
 pub enum LineVerb {
     Feed(Verb),
+    Search,
     State,
     Stop,
     Start,
@@ -25,19 +26,14 @@ pub enum LineVerb {
     Later,
 }
 
-/// Whether a key is a verb that isn't built yet.
-fn is_later_verb(key: &str) -> bool
-    ensures { result ≡ is_later_verb key.now }
-{
-    key == "search" || key == "barrier"
-}
-
 /// The verb that a key is, if it is one that asks for no document.
 #[tactic(auto, unfolding(crate::specs::Keys::other_verb))]
 fn other_verb(key: &str) -> Option<LineVerb>
     ensures { result ≡ other_verb key.now }
 {
-    if key == "state" {
+    if key == "search" {
+        Some(LineVerb::Search)
+    } else if key == "state" {
         Some(LineVerb::State)
     } else if key == "stop" {
         Some(LineVerb::Stop)
@@ -47,7 +43,7 @@ fn other_verb(key: &str) -> Option<LineVerb>
         Some(LineVerb::Net)
     } else if key == "maintain" {
         Some(LineVerb::Maintain)
-    } else if is_later_verb(key) {
+    } else if key == "barrier" {
         Some(LineVerb::Later)
     } else {
         None
@@ -127,6 +123,7 @@ fn may_stand(verb: LineVerb, key: &str) -> bool
 {
     match verb {
         LineVerb::Feed(verb) => may_stand_with(verb, key),
+        LineVerb::Search => key == "search",
         LineVerb::State => key == "state" || key == "deaf",
         LineVerb::Stop => key == "stop",
         LineVerb::Start => key == "start",

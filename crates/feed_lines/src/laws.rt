@@ -12,7 +12,7 @@ ghost use Rattle.conditions.specs.Formulas.{Formula};
 ghost use Rattle.doc_selection.specs.declared.terms.Term.{Term};
 ghost use Rattle.messages.specs.declared.operation.OpKind.TheVariants as kind;
 ghost use Rattle.messages.specs.declared.operation.Operation.{Operation};
-ghost use Rattle.feed_lines.specs.Lines.{Asks, IsLine, IsPut, IsUpdate, IsState, IsNodeLine, IsNet, IsMaintain};
+ghost use Rattle.feed_lines.specs.Lines.{Asks, IsLine, IsPut, IsUpdate, IsSearch, IsState, IsNodeLine, IsNet, IsMaintain};
 ghost use Rattle.feed_lines.specs.Meaning.{data_said, line_said};
 ghost use Rattle.feed_lines.specs.Values.{set_of, most_fates, IsFate};
 ghost use Rattle.feed_lines.specs.declared.command.Command.TheVariants as command;
@@ -40,6 +40,12 @@ pub fn lines_are_operations()
     ensures bare_remove { (types : Types) (d : Data) (id : List ℕ) (condition : Option (Formula Term))
         (create : Bool) (via : Option ℕ)
         → IsLine types verb.Remove d id condition create via → create ≡ false }
+{}
+
+/// A line asks a search exactly where the verb stands alone and its value is a text.
+pub fn lines_are_searches()
+    ensures query { (types : Types) (bits : ℕ) (d : Data) (text : List ℕ)
+        → (data_said types bits d ≡ Ok (command.Search text)) ↔ IsSearch d text }
 {}
 
 /// A line asks for a state, a stop, a start, a plan of messages or upkeep exactly where all that its verb wants

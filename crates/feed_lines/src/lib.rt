@@ -11,6 +11,7 @@
 //! {"put":"id:ns:music:n=0:a","fields":{"year":2},"condition":"music.year == 1","create":true}
 //! {"remove":"id:ns:music:n=0:a","condition":"music.year < 1950"}
 //! {"get":"id:ns:music:n=0:a","via":1}
+//! {"search":"select * from music where year < 1950 | all(group(artist) each(output(count())))"}
 //! {"state":"version:2 distributor:2 storage:4 storage.3.s:d","deaf":[1]}
 //! {"stop":3}
 //! {"start":3}

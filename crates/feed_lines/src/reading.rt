@@ -8,7 +8,9 @@ use crate::command::{Cause, Command, LineFault};
 use crate::keys::LineVerb;
 use crate::operations::feed_command;
 use crate::options::bad;
-use crate::settings::{maintain_command, net_command, start_command, state_command, stop_command};
+use crate::settings::{
+    maintain_command, net_command, search_command, start_command, state_command, stop_command,
+};
 use crate::shape::{has_right_keys, is_built, verb_of};
 use doc_types::Schema;
 use io_ends::LONGEST;
@@ -48,6 +50,7 @@ fn own_command(
 {
     match verb {
         LineVerb::Feed(verb) => feed_command(alloc, verb, line, schema),
+        LineVerb::Search => search_command(alloc, line),
         LineVerb::State => state_command(alloc, line),
         LineVerb::Stop => stop_command(line),
         LineVerb::Start => start_command(line),

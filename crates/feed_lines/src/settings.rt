@@ -1,7 +1,7 @@
 ghost use Rattle.std.specs.Prelude.{◌≡◌, codes, IfOk};
 ghost use Rattle.serde_json.specs.View.{view};
-ghost use Rattle.feed_lines.specs.Meaning.{state_said, stop_said, start_said, net_said, maintain_said, Gives};
-ghost use Rattle.feed_lines.specs.Tests.{state_in, deaf_in, node_in, lane_in, fates_in, is_true_in};
+ghost use Rattle.feed_lines.specs.Meaning.{search_said, state_said, stop_said, start_said, net_said, maintain_said, Gives};
+ghost use Rattle.feed_lines.specs.Tests.{search_in, state_in, deaf_in, node_in, lane_in, fates_in, is_true_in};
 
 use crate::command::{Cause, Command, LineFault};
 use crate::options::{bad, or_false};
@@ -11,6 +11,18 @@ use carriers::FateList;
 use serde_json::Value;
 use std::alloc::Global;
 use value_lists::{NoMemory, TextValue};
+
+/// The text whose query a line asks.
+pub fn search_command(alloc: Global, line: &Value) -> Result<Command, LineFault>
+    ensures { Gives result (search_said (search_in (view line.now))) }
+{
+    match text_at("search", line) {
+        Some(text) => Ok(Command::Search {
+            text: TextValue::of(String::from_str(alloc, text)?),
+        }),
+        None => Err(bad(Cause::Value)),
+    }
+}
 
 /// The state that a line publishes.
 pub fn state_command(alloc: Global, line: &Value) -> Result<Command, LineFault>

@@ -26,6 +26,7 @@ pub fn is_built(verb: LineVerb) -> bool
 {
     match verb {
         LineVerb::Feed(_)
+        | LineVerb::Search
         | LineVerb::State
         | LineVerb::Stop
         | LineVerb::Start
@@ -90,8 +91,12 @@ fn has_own_keys(verb: LineVerb, line: &Value) -> bool
     match verb {
         LineVerb::Feed(verb) => has_wanted(verb, line),
         LineVerb::Net => has_net_keys(line.get("net")),
-        LineVerb::State | LineVerb::Stop | LineVerb::Start | LineVerb::Maintain | LineVerb::Later =>
-            true,
+        LineVerb::Search
+        | LineVerb::State
+        | LineVerb::Stop
+        | LineVerb::Start
+        | LineVerb::Maintain
+        | LineVerb::Later => true,
     }
 }
 

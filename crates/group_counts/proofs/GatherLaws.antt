@@ -1,16 +1,18 @@
 -- Groups of tallies.
-use Rattle.std.proofs.Common.{filter, ◌≡◌, ℕ, ℤ, ◌++◌, ◌||◌, ◌&&◌, Bool, true, false, cond, T, List, [], ◌∷◌, map, length, Option, None, Some, option_map, String, Result, Ok, Err, OnOk, refl, sym, ap, ap₂, subst, ◌∙◌}
+use Rattle.std.proofs.Common.{filter, ◌≡◌, ℕ, ℤ, ◌++◌, ◌||◌, ◌&&◌, Bool, true, false, cond, T, List, [], ◌∷◌, map, length, Option, None, Some, option_map, String, refl, sym, ap, ap₂, subst, ◌∙◌}
 use Rattle.std.specs.List.{AllByRecursion, list_any}
 use Rattle.std.specs.List.Sorted.{IsStrictlySortedBy}
 use Rattle.std.specs.Ordering.{int_cmp, nat_cmp, eq_by_cmp, is_eq, is_lt}
 use Rattle.std.specs.declared.cmp.Ordering.{Ordering}
 use Rattle.std.specs.declared.cmp.Ordering.TheVariants.{Less, Equal, Greater}
-use Rattle.std.specs.Cmp.{IsTotalOrder, int_cmp_total}
+use Rattle.std.specs.Cmp.{IsTotalOrder, int_cmp_total, eq_by_cmp_equiv}
 use Rattle.std.specs.Cmp.Lexicographic.{slice_cmp, nat_list_cmp_total}
 use Rattle.std.specs.Map.{lookup, keys_of}
 use Rattle.std.specs.BTreeMap as tree
 use Rattle.std.specs.BTreeMap.{BTreeMap, is_at, get_by_text}
 use Rattle.std.specs.String.{string_bytes, string_cmp}
+use Rattle.std.proofs.lemmas.Map.Keys.{IsDistinct-from_sorted}
+use Rattle.std.proofs.lemmas.Map.Entries.{option_filter, lookup-filter-values}
 use Rattle.std.specs.FinMap as fin
 use Rattle.std.specs.FinMap.{IsAntisymmetric, same_map, get-from_entries, get-from_sorted, entries-from_sorted, int_cmp-IsAntisymmetric, nat_cmp-IsAntisymmetric, slice_cmp-IsAntisymmetric}
 use Rattle.std.specs.FinMap.Entries.{below_all}
@@ -19,17 +21,12 @@ use Rattle.doc_types.specs.declared.values.FieldValue.TheVariants.{Int, Text}
 use Rattle.doc_types.specs.declared.outputs.OutputKind.{OutputKind}
 use Rattle.documents.specs.Fields.{Contents}
 use Rattle.query_groups.specs.declared.groups.GroupBy.{GroupBy}
-use Rattle.search_answers.specs.declared.answers.Group.{Group}
+use Rattle.query_groups.specs.declared.answers.Group.{Group}
 use Rattle.group_counts.specs.Numbers.{onto, found}
 use Rattle.group_counts.specs.Keyed.{number_in, text_in, is_key, with_key, output_over, group_over, groups_by}
 use Rattle.group_counts.specs.Groups.{groups_of}
-use Rattle.group_counts.specs.Tallies.{Told, told_of, tally_of, AreTallies, told_outputs, told_group}
+use Rattle.group_counts.specs.Tallies.{Told, told_of, tally_of, AreTallies, is_counted, counted, counted_of, AreTaken, told_outputs, told_group}
 use Rattle.group_counts.specs.Gathered.{Gathered, gathered_as, HasTallies, IsGathered}
-
--- two facts of an answer
-pub on_both : {X E P Q S : Type 0} (r : Result X E) → (P → Q → S) → OnOk r P → OnOk r Q → OnOk r S
-on_both (Ok x) f p q = f p q
-on_both (Err e) f p q = tt
 
 -- ---- one group
 
@@ -152,44 +149,95 @@ text-groups : {X Y : Type 0} (f : List ℕ → X → Group) (es : List (String Y
 text-groups f [] = refl
 text-groups f (e ∷ es) = ap (λ gs. f (string_bytes e.0) e.1 ∷ gs) (text-groups f es)
 
+-- ---- the tallies that count
+
+module _ {K : Type 0} (R : K → K → Ordering) where
+  below-counted : (k : K) (es : List (K × Told)) → AllByRecursion (λ y. R k y ≡ Less) (keys_of es) → AllByRecursion (λ y. R k y ≡ Less) (keys_of (counted_of es))
+  below-counted k [] h = tt
+  below-counted k (e ∷ es) h = by (is_counted e.1) (below-counted k es h.1)
+    where
+      by : (t : Bool) → AllByRecursion (λ y. R k y ≡ Less) (keys_of (counted_of es)) → AllByRecursion (λ y. R k y ≡ Less) (keys_of (cond t (e ∷ counted_of es) (counted_of es)))
+      by true ih = (h.0, ih)
+      by false ih = ih
+
+  sorted-counted : (es : List (K × Told)) → IsStrictlySortedBy R (keys_of es) → IsStrictlySortedBy R (keys_of (counted_of es))
+  unfolding IsStrictlySortedBy
+  sorted-counted [] h = tt
+  sorted-counted (e ∷ es) h = by (is_counted e.1) (sorted-counted es h.1)
+    where
+      by : (t : Bool) → IsStrictlySortedBy R (keys_of (counted_of es)) → IsStrictlySortedBy R (keys_of (cond t (e ∷ counted_of es) (counted_of es)))
+      by true ih = (below-counted e.0 es h.0, ih)
+      by false ih = ih
+
+  counted-lookup : IsTotalOrder R → (q : K) (es : List (K × Told)) → IsStrictlySortedBy R (keys_of es) → lookup (is_at (R q)) (counted_of es) ≡ counted (lookup (is_at (R q)) es)
+  counted-lookup o q es sorted = lookup-filter-values (eq_by_cmp_equiv o) is_counted q es (IsDistinct-from_sorted R (keys_of es) sorted) ∙ filtered (lookup (is_at (R q)) es)
+    where
+      filtered : (x : Option Told) → option_filter is_counted x ≡ counted x
+      filtered None = refl
+      filtered (Some t) = refl
+
+counted-texts : {Y : Type 0} (es : List (String Y × Told)) → map {B = List ℕ × Told} (λ e. (string_bytes e.0, e.1)) (counted_of es) ≡ counted_of (map {B = List ℕ × Told} (λ e. (string_bytes e.0, e.1)) es)
+counted-texts [] = refl
+counted-texts (e ∷ es) = by (is_counted e.1) (counted-texts es)
+  where
+    by : (t : Bool) → map {B = List ℕ × Told} (λ e. (string_bytes e.0, e.1)) (counted_of es) ≡ counted_of (map {B = List ℕ × Told} (λ e. (string_bytes e.0, e.1)) es)
+        → map {B = List ℕ × Told} (λ e. (string_bytes e.0, e.1)) (cond t (e ∷ counted_of es) (counted_of es)) ≡ cond t ((string_bytes e.0, e.1) ∷ counted_of (map {B = List ℕ × Told} (λ e. (string_bytes e.0, e.1)) es)) (counted_of (map {B = List ℕ × Told} (λ e. (string_bytes e.0, e.1)) es))
+    by true ih = ap (λ l. (string_bytes e.0, e.1) ∷ l) ih
+    by false ih = ih
+
+number-shown : (numbers : BTreeMap ℤ Told) → tree.IsOrdered int_cmp numbers → (z : ℤ) → lookup (is_at (int_cmp z)) (counted_of numbers.entries) ≡ counted (tree.get int_cmp numbers z)
+number-shown numbers ordered z = counted-lookup int_cmp int_cmp_total z numbers.entries ordered
+
+text-shown : {Y : Type 0} (texts : BTreeMap (String Y) Told) → tree.IsOrdered string_cmp texts → (t : List ℕ) → lookup (is_at (slice_cmp nat_cmp t)) (map (λ e. (string_bytes e.0, e.1)) (counted_of texts.entries)) ≡ counted (get_by_text texts t)
+text-shown texts ordered t =
+    ap (lookup (is_at (slice_cmp nat_cmp t))) (counted-texts texts.entries)
+    ∙ counted-lookup (slice_cmp nat_cmp) nat_list_cmp_total t (map (λ e. (string_bytes e.0, e.1)) texts.entries) (text-sorted texts.entries ordered)
+    ∙ ap counted (text-lookup t texts.entries)
+
 -- ---- what is kept
 
-module _ {Y : Type 0} (numbers : BTreeMap ℤ Told) (texts : BTreeMap (String Y) Told) where
-  pub to-texts : (by : GroupBy) (docs : List Contents) (views : ℕ) → HasTallies by docs (gathered_as (Some by) views numbers texts) → AreTallies (slice_cmp nat_cmp) by.outputs (text_in by.field) docs (get_by_text texts)
-  to-texts by docs views h = λ t. sym (text-lookup t texts.entries) ∙ h.texts t
+-- no documents
+pub gathered-none : {Y : Type 0} (by : Option GroupBy) (views : ℕ) (numbers : BTreeMap ℤ Told) (texts : BTreeMap (String Y) Told) → numbers.entries ≡ [] → texts.entries ≡ [] → IsGathered [] (gathered_as by views numbers texts)
+gathered-none None views numbers texts n t = tt
+gathered-none (Some by) views numbers texts n t = record {
+  numbers = λ z. ap (λ es. lookup (is_at (int_cmp z)) (counted_of es)) n;
+  texts = λ q. ap (λ es. lookup (is_at (slice_cmp nat_cmp q)) (map (λ e. (string_bytes e.0, e.1)) (counted_of es))) t;
+}
 
-  pub from-tallies : (by : GroupBy) (docs : List Contents) (views : ℕ) → AreTallies int_cmp by.outputs (number_in by.field) docs (tree.get int_cmp numbers)
-      → AreTallies (slice_cmp nat_cmp) by.outputs (text_in by.field) docs (get_by_text texts) → HasTallies by docs (gathered_as (Some by) views numbers texts)
-  from-tallies by docs views n t = record { numbers = n; texts = λ q. text-lookup q texts.entries ∙ t q }
+-- more places
+pub gathered-same : {Y : Type 0} (by : Option GroupBy) (views : ℕ) (numbers next_numbers : BTreeMap ℤ Told) (texts next_texts : BTreeMap (String Y) Told) → counted_of next_numbers.entries ≡ counted_of numbers.entries → counted_of next_texts.entries ≡ counted_of texts.entries
+    → gathered_as by views next_numbers next_texts ≡ gathered_as by views numbers texts
+gathered-same by views numbers next_numbers texts next_texts n t = ap₂ {C = Gathered} (λ a b. record { by = by; views = views; numbers = a; texts = map (λ e. (string_bytes e.0, e.1)) b }) n t
 
-  -- no documents
-  pub gathered-none : (by : Option GroupBy) (views : ℕ) → numbers.entries ≡ [] → texts.entries ≡ [] → IsGathered [] (gathered_as by views numbers texts)
-  gathered-none None views n t = tt
-  gathered-none (Some by) views n t = from-tallies by [] views (λ k. ap (lookup (is_at (int_cmp k))) n) (λ q. ap (lookup (is_at (λ k. slice_cmp nat_cmp q (string_bytes k)))) t)
+-- the groups
+groups-told : {Y : Type 0} (numbers : BTreeMap ℤ Told) (texts : BTreeMap (String Y) Told) (by : GroupBy) (docs : List Contents) (views : ℕ) → tree.IsOrdered int_cmp numbers → tree.IsOrdered string_cmp texts → HasTallies by docs (gathered_as (Some by) views numbers texts)
+    → map (λ e. told_group by.outputs (Int e.0) e.1) (counted_of numbers.entries) ++ map (λ e. told_group by.outputs (Text (string_bytes e.0)) e.1) (counted_of texts.entries) ≡ groups_of (Some by) docs
+groups-told numbers texts by docs views n t h = ap₂ (λ a b. a ++ b)
+    (groups-are int_cmp int_cmp-IsAntisymmetric int_cmp_total Int by.outputs (number_in by.field) docs (counted_of numbers.entries) (sorted-counted int_cmp numbers.entries n) h.numbers)
+    (sym (text-groups (λ k v. told_group by.outputs (Text k) v) (counted_of texts.entries))
+    ∙ groups-are (slice_cmp nat_cmp) (slice_cmp-IsAntisymmetric nat_cmp-IsAntisymmetric) nat_list_cmp_total Text by.outputs (text_in by.field) docs (map (λ e. (string_bytes e.0, e.1)) (counted_of texts.entries)) (text-sorted (counted_of texts.entries) (sorted-counted string_cmp texts.entries t)) h.texts)
 
-  -- the groups
-  pub groups-told : (by : GroupBy) (docs : List Contents) (views : ℕ) → tree.IsOrdered int_cmp numbers → tree.IsOrdered string_cmp texts → HasTallies by docs (gathered_as (Some by) views numbers texts)
-      → map (λ e. told_group by.outputs (Int e.0) e.1) numbers.entries ++ map (λ e. told_group by.outputs (Text (string_bytes e.0)) e.1) texts.entries ≡ groups_of (Some by) docs
-  groups-told by docs views n t h = ap₂ (λ a b. a ++ b)
-      (groups-are int_cmp int_cmp-IsAntisymmetric int_cmp_total Int by.outputs (number_in by.field) docs numbers.entries n h.numbers)
-      (sym (text-groups (λ k v. told_group by.outputs (Text k) v) texts.entries)
-      ∙ groups-are (slice_cmp nat_cmp) (slice_cmp-IsAntisymmetric nat_cmp-IsAntisymmetric) nat_list_cmp_total Text by.outputs (text_in by.field) docs (map (λ e. (string_bytes e.0, e.1)) texts.entries) (text-sorted texts.entries t) h.texts)
-
--- what is kept, with more documents
-pub gathered-more : {Y : Type 0} (o : Option GroupBy) (by : GroupBy) (views more : ℕ) (numbers next_numbers : BTreeMap ℤ Told) (texts next_texts : BTreeMap (String Y) Told) (g : Gathered) (ds : List Contents) → o ≡ Some by
+-- what is kept, with places and then documents more
+pub gathered-more : {Y : Type 0} (o : Option GroupBy) (by : GroupBy) (views more : ℕ) (numbers placed_numbers next_numbers : BTreeMap ℤ Told) (texts placed_texts next_texts : BTreeMap (String Y) Told) (g : Gathered) (ds : List Contents) (n : ℕ) → o ≡ Some by
     → gathered_as o views numbers texts ≡ g
-    → ((docs : List Contents) → AreTallies int_cmp by.outputs (number_in by.field) docs (tree.get int_cmp numbers) → AreTallies int_cmp by.outputs (number_in by.field) (docs ++ ds) (tree.get int_cmp next_numbers))
-    → ((docs : List Contents) → AreTallies (slice_cmp nat_cmp) by.outputs (text_in by.field) docs (get_by_text texts) → AreTallies (slice_cmp nat_cmp) by.outputs (text_in by.field) (docs ++ ds) (get_by_text next_texts))
+    → tree.IsOrdered int_cmp placed_numbers → tree.IsOrdered string_cmp placed_texts → tree.IsOrdered int_cmp next_numbers → tree.IsOrdered string_cmp next_texts
+    → counted_of placed_numbers.entries ≡ counted_of numbers.entries → counted_of placed_texts.entries ≡ counted_of texts.entries
+    → AreTaken int_cmp by.outputs (number_in by.field) ds n (tree.get int_cmp placed_numbers) (tree.get int_cmp next_numbers)
+    → AreTaken (slice_cmp nat_cmp) by.outputs (text_in by.field) ds n (get_by_text placed_texts) (get_by_text next_texts)
     → (docs : List Contents) → IsGathered docs g → IsGathered (docs ++ ds) (gathered_as o more next_numbers next_texts)
-gathered-more o by views more numbers next_numbers texts next_texts g ds is same n t = λ docs h.
-    let own : HasTallies by docs (gathered_as (Some by) views numbers texts) = subst (λ p. IsGathered docs (gathered_as p views numbers texts)) is (subst (IsGathered docs) (sym same) h) in
-    subst (λ p. IsGathered (docs ++ ds) (gathered_as p more next_numbers next_texts)) (sym is)
-    (from-tallies next_numbers next_texts by (docs ++ ds) more (n docs own.numbers) (t docs (to-texts numbers texts by docs views own)))
+gathered-more o by views more numbers placed_numbers next_numbers texts placed_texts next_texts g ds n is same pn pt nn nt sn st an at = λ docs h.
+    let own : HasTallies by docs (gathered_as (Some by) views placed_numbers placed_texts) =
+    subst (HasTallies by docs) (sym (gathered-same (Some by) views numbers placed_numbers texts placed_texts sn st)) (subst (λ p. IsGathered docs (gathered_as p views numbers texts)) is (subst (IsGathered docs) (sym same) h)) in
+    let all : HasTallies by (docs ++ ds) (gathered_as (Some by) more next_numbers next_texts) = record {
+      numbers = λ z. number-shown next_numbers nn z ∙ an.tallies docs (λ y. sym (number-shown placed_numbers pn y) ∙ own.numbers y) z;
+      texts = λ q. text-shown next_texts nt q ∙ at.tallies docs (λ y. sym (text-shown placed_texts pt y) ∙ own.texts y) q;
+    } in
+    subst (λ p. IsGathered (docs ++ ds) (gathered_as p more next_numbers next_texts)) (sym is) all
 
 -- the groups of what is kept
 pub groups-gathered : {Y : Type 0} (o : Option GroupBy) (by : GroupBy) (views : ℕ) (numbers : BTreeMap ℤ Told) (texts : BTreeMap (String Y) Told) (g : Gathered) (docs : List Contents) → o ≡ Some by
     → gathered_as o views numbers texts ≡ g → tree.IsOrdered int_cmp numbers → tree.IsOrdered string_cmp texts → IsGathered docs g
-    → map (λ e. told_group by.outputs (Int e.0) e.1) numbers.entries ++ map (λ e. told_group by.outputs (Text (string_bytes e.0)) e.1) texts.entries ≡ groups_of g.by docs
+    → map (λ e. told_group by.outputs (Int e.0) e.1) (counted_of numbers.entries) ++ map (λ e. told_group by.outputs (Text (string_bytes e.0)) e.1) (counted_of texts.entries) ≡ groups_of g.by docs
 groups-gathered o by views numbers texts g docs is same n t h =
     groups-told numbers texts by docs views n t (subst (λ p. IsGathered docs (gathered_as p views numbers texts)) is (subst (IsGathered docs) (sym same) h))
     ∙ ap (λ p. groups_of p docs) (sym is ∙ ap (λ g. g.by) same)
@@ -200,11 +248,11 @@ groups-none o views numbers texts g docs is same = ap (λ p. groups_of p docs) (
 
 -- the groups of numbers and then of texts, put one behind the other
 pub groups-pushed : {Y : Type 0} (o : Option GroupBy) (by : GroupBy) (views : ℕ) (numbers : BTreeMap ℤ Told) (texts : BTreeMap (String Y) Told) (g : Gathered) (first second : List OutputKind) (empty one two : List Group) (docs : List Contents)
-    → empty ≡ [] → first ≡ by.outputs → second ≡ by.outputs → one ≡ empty ++ map (λ e. told_group first (Int e.0) e.1) numbers.entries → two ≡ one ++ map (λ e. told_group second (Text (string_bytes e.0)) e.1) texts.entries
+    → empty ≡ [] → first ≡ by.outputs → second ≡ by.outputs → one ≡ empty ++ map (λ e. told_group first (Int e.0) e.1) (counted_of numbers.entries) → two ≡ one ++ map (λ e. told_group second (Text (string_bytes e.0)) e.1) (counted_of texts.entries)
     → o ≡ Some by → gathered_as o views numbers texts ≡ g → tree.IsOrdered int_cmp numbers → tree.IsOrdered string_cmp texts → IsGathered docs g → two ≡ groups_of g.by docs
 groups-pushed o by views numbers texts g first second empty one two docs none k l n t is same ordered texts_ordered h =
-    t ∙ ap₂ (λ a ks. a ++ map (λ e. told_group ks (Text (string_bytes e.0)) e.1) texts.entries)
-    (n ∙ ap₂ (λ a ks. a ++ map (λ e. told_group ks (Int e.0) e.1) numbers.entries) none k) l
+    t ∙ ap₂ (λ a ks. a ++ map (λ e. told_group ks (Text (string_bytes e.0)) e.1) (counted_of texts.entries))
+    (n ∙ ap₂ (λ a ks. a ++ map (λ e. told_group ks (Int e.0) e.1) (counted_of numbers.entries)) none k) l
     ∙ groups-gathered o by views numbers texts g docs is same ordered texts_ordered h
 
 -- ---- the group of a key

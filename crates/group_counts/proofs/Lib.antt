@@ -1,7 +1,7 @@
 pub mod FigureLaws
 pub mod TallyLaws
+pub mod PlaceLaws
 pub mod GatherLaws
 pub mod StepLaws
-pub mod FewLaws
 pub mod KeyLaws
 pub mod LeastLaws

@@ -1,12 +1,15 @@
 -- Tallies with a document more.
-use Rattle.std.proofs.Common.{◌≡◌, ℕ, ◌+◌, ◌≤◌, ◌++◌, Bool, true, false, cond, List, [], ◌∷◌, filter, Option, None, Some, refl, sym, ap, ap₂, subst, ◌∙◌, arith, append-nil}
+use Rattle.std.proofs.Common.{◌≡◌, ℕ, ◌+◌, ◌≤◌, ◌++◌, Bool, true, false, cond, List, [], ◌∷◌, filter, Option, None, Some, refl, sym, ap, ap₂, subst, ◌∙◌, arith, append-nil, append_assoc}
+use Rattle.std.specs.Prelude.{nat_lt, IsSome}
+use Rattle.std.proofs.lemmas.Bool.Decides.{nat_tests}
 use Rattle.std.specs.Option.{IfSome}
 use Rattle.std.specs.Ordering.{eq_by_cmp}
 use Rattle.std.specs.declared.cmp.Ordering.{Ordering}
 use Rattle.doc_types.specs.declared.outputs.OutputKind.{OutputKind}
 use Rattle.documents.specs.Fields.{Contents}
 use Rattle.group_counts.specs.Keyed.{is_key, with_key}
-use Rattle.group_counts.specs.Tallies.{Told, told_of, tally_of, told_with, tally_with, AreTallies, AreWithin}
+use Rattle.proof_basics.proofs.Options.{some_same, none_some}
+use Rattle.group_counts.specs.Tallies.{Told, told_of, tally_of, told_with, tally_with, AreTallies, IsKept, AreKept, is_counted, counted, AreTaken}
 use Rattle.group_counts.proofs.FigureLaws.{length-more, values-more}
 
 told-more : (ks : List OutputKind) (docs : List Contents) (d : Contents) → told_of ks (docs ++ d ∷ []) ≡ told_with ks d (told_of ks docs)
@@ -51,33 +54,86 @@ module _ {K : Type 0} (R : K → K → Ordering) where
       ∙ ap (λ o. tally_of ks (with_key R key q docs ++ cond (is_key R q o) (d ∷ []) [])) (sym none)
       ∙ ap (tally_of ks) (sym (filter-more (λ e. is_key R q (key e)) docs d))
 
-one_more : (n : ℕ) (ks : List OutputKind) (d : Contents) (o : Option Told) → IfSome o (λ t. t.count ≤ n) → (tally_with ks d o).count ≤ n + 1
-one_more n ks d None h = omega arith
-one_more n ks d (Some t) h = omega (arith, h)
+-- ---- tallies that count
 
-wider : (n : ℕ) (o : Option Told) → IfSome o (λ t. t.count ≤ n) → IfSome o (λ t. t.count ≤ n + 1)
-wider n None h = tt
-wider n (Some t) h = omega (arith, h)
+positive : (n : ℕ) → nat_lt 0 (n + 1) ≡ true
+positive n = grind (arith, nat_tests)
 
-module _ {K : Type 0} where
-  pub within-with : (n : ℕ) (ks : List OutputKind) (d : Contents) (k : K) (test : K → Bool) (old new : K → Option Told)
-      → ((q : K) → new q ≡ cond (test q) (Some (tally_with ks d (old k))) (old q)) → AreWithin n old → AreWithin (n + 1) new
-  within-with n ks d k test old new changed h = λ q. subst (λ o. IfSome o (λ t. t.count ≤ n + 1)) (sym (changed q)) (by q (test q))
+none-of : (n : ℕ) → nat_lt 0 n ≡ false → n ≡ 0
+none-of n e = grind (arith, nat_tests)
+
+counted-with : (ks : List OutputKind) (d : Contents) (n : ℕ) (o : Option Told) → IfSome o (IsKept ks n) → counted (Some (tally_with ks d o)) ≡ Some (tally_with ks d (counted o))
+counted-with ks d n None h = ap (λ b. cond b (Some (tally_with ks d None)) None) (positive 0)
+counted-with ks d n (Some t) h = ap (λ b. cond b (Some (told_with ks d t)) None) (positive t.count) ∙ by (is_counted t) refl
+  where
+    by : (b : Bool) → is_counted t ≡ b → Some (told_with ks d t) ≡ Some (tally_with ks d (cond b (Some t) None))
+    by true e = refl
+    by false e = ap (λ u. Some (told_with ks d u)) (h.1 (none-of t.count e))
+
+-- ---- how many documents they count
+
+one_more : (n : ℕ) (ks : List OutputKind) (d : Contents) (o : Option Told) → IfSome o (IsKept ks n) → IsKept ks (n + 1) (tally_with ks d o)
+one_more n ks d None h = (omega arith, λ e. absurd (omega (arith, e)))
+one_more n ks d (Some t) h = (let f : t.count ≤ n = h.0 in omega (arith, f), λ e. absurd (omega (arith, e)))
+
+wide : (ks : List OutputKind) (m n : ℕ) (o : Option Told) → m ≤ n → IfSome o (IsKept ks m) → IfSome o (IsKept ks n)
+wide ks m n None l h = tt
+wide ks m n (Some t) l h = (let f : t.count ≤ m = h.0 in omega (arith, f, l), h.1)
+
+module _ {K : Type 0} (ks : List OutputKind) where
+  pub kept-wide : (m n : ℕ) (tallies : K → Option Told) → m ≤ n → AreKept ks m tallies → AreKept ks n tallies
+  kept-wide m n tallies l h = λ q. wide ks m n (tallies q) l (h q)
+
+  -- a tally that is there counts no more
+  pub count-kept : (n : ℕ) (tallies : K → Option Told) (k : K) (t : Told) → AreKept ks n tallies → tallies k ≡ Some t → t.count ≤ n
+  count-kept n tallies k t h e = by (tallies k) (h k) e
     where
-      by : (q : K) (t : Bool) → IfSome (cond t (Some (tally_with ks d (old k))) (old q)) (λ t. t.count ≤ n + 1)
-      by q true = one_more n ks d (old k) (h k)
-      by q false = wider n (old q) (h q)
+      by : (o : Option Told) → IfSome o (IsKept ks n) → o ≡ Some t → t.count ≤ n
+      by None f e = absurd (none_some t e)
+      by (Some u) f e = let same : u.count ≡ t.count = ap (λ x. x.count) (some_same u t e) in let l : u.count ≤ n = f.0 in omega (arith, same, l)
 
-  pub within-past : (n : ℕ) (old new : K → Option Told) → ((q : K) → new q ≡ old q) → AreWithin n old → AreWithin (n + 1) new
-  within-past n old new still h = λ q. subst (λ o. IfSome o (λ t. t.count ≤ n + 1)) (sym (still q)) (wider n (old q) (h q))
+-- ---- tallies with documents more
 
-  pub within-wide : (m n : ℕ) (tallies : K → Option Told) → m ≤ n → AreWithin m tallies → AreWithin n tallies
-  within-wide m n tallies l h = λ q. by (tallies q) (h q)
+module _ {K : Type 0} (R : K → K → Ordering) (ks : List OutputKind) (key : Contents → Option K) where
+  pub taken-none : (old : K → Option Told) → AreTaken R ks key [] 0 old old
+  taken-none old = record {
+    tallies = λ docs are. subst (λ ds. AreTallies R ks key ds (λ k. counted (old k))) (sym (append-nil docs)) are;
+    kept = λ m h. kept-wide ks m (m + 0) old (omega arith) h;
+    stay = λ k h. h;
+  }
+
+  pub taken-both : (more ds : List Contents) (n m : ℕ) (old now next : K → Option Told) → AreTaken R ks key more n old now → AreTaken R ks key ds m now next → AreTaken R ks key (more ++ ds) (n + m) old next
+  taken-both more ds n m old now next a b = record {
+    tallies = λ docs are. subst (λ all. AreTallies R ks key all (λ k. counted (next k))) (append_assoc docs more ds) (b.tallies (docs ++ more) (a.tallies docs are));
+    kept = λ k h. kept-wide ks (k + n + m) (k + (n + m)) next (omega arith) (b.kept (k + n) (a.kept k h));
+    stay = λ k h. b.stay k (a.stay k h);
+  }
+
+  -- a document with a key
+  pub taken-key : ((x y : K) → eq_by_cmp R x y ≡ true → x ≡ y) → (d : Contents) (k : K) (test : K → Bool) (m : ℕ) (old new : K → Option Told) → key d ≡ Some k → ((q : K) → test q ≡ eq_by_cmp R q k) → AreKept ks m old
+      → ((q : K) → new q ≡ cond (test q) (Some (tally_with ks d (old k))) (old q)) → AreTaken R ks key (d ∷ []) 1 old new
+  taken-key same d k test m old new own tests held changed = record {
+    tallies = λ docs are. tallies-with R same ks key docs d k test (λ q. counted (old q)) (λ q. counted (new q)) own tests (λ q. ap counted (changed q) ∙ shown q (test q)) are;
+    kept = λ n h q. subst (λ o. IfSome o (IsKept ks (n + 1))) (sym (changed q)) (small n h q (test q));
+    stay = λ q h. subst (λ o. IsSome o) (sym (changed q)) (there q (test q) h);
+  }
     where
-      by : (o : Option Told) → IfSome o (λ t. t.count ≤ m) → IfSome o (λ t. t.count ≤ n)
-      by None f = tt
-      by (Some t) f = omega (arith, f, l)
+      shown : (q : K) (t : Bool) → counted (cond t (Some (tally_with ks d (old k))) (old q)) ≡ cond t (Some (tally_with ks d (counted (old k)))) (counted (old q))
+      shown q true = counted-with ks d m (old k) (held k)
+      shown q false = refl
 
-  -- a tally that is there counts fewer
-  pub count-within : (n : ℕ) (tallies : K → Option Told) (k : K) (t : Told) → AreWithin n tallies → tallies k ≡ Some t → t.count ≤ n
-  count-within n tallies k t h e = subst (λ o. IfSome o (λ t. t.count ≤ n)) e (h k)
+      small : (n : ℕ) → AreKept ks n old → (q : K) (t : Bool) → IfSome (cond t (Some (tally_with ks d (old k))) (old q)) (IsKept ks (n + 1))
+      small n h q true = one_more n ks d (old k) (h k)
+      small n h q false = wide ks n (n + 1) (old q) (omega arith) (h q)
+
+      there : (q : K) (t : Bool) → IsSome (old q) → IsSome (cond t (Some (tally_with ks d (old k))) (old q))
+      there q true h = refl
+      there q false h = h
+
+  -- a document without one
+  pub taken-past : (d : Contents) (old : K → Option Told) → key d ≡ None → AreTaken R ks key (d ∷ []) 1 old old
+  taken-past d old none = record {
+    tallies = λ docs are. tallies-past R ks key docs d (λ q. counted (old q)) (λ q. counted (old q)) none (λ q. refl) are;
+    kept = λ m h. kept-wide ks m (m + 1) old (omega arith) h;
+    stay = λ k h. h;
+  }

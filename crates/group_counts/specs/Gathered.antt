@@ -1,21 +1,22 @@
 -- What the code keeps of the documents that came.
-use Rattle.std.specs.Prelude.{ℕ, ℤ, List, map, Option, None, Some, String}
+use Rattle.std.specs.Prelude.{ℕ, ℤ, List, [], map, Option, None, Some, String}
 use Rattle.std.specs.Ordering.{int_cmp, nat_cmp}
 use Rattle.std.specs.Cmp.Lexicographic.{slice_cmp}
 use Rattle.std.specs.Map.{lookup}
 use Rattle.std.specs.BTreeMap.{BTreeMap, is_at}
 use Rattle.std.specs.String.{string_bytes}
+use Rattle.doc_types.specs.declared.outputs.OutputKind.{OutputKind}
 use Rattle.documents.specs.Fields.{Contents}
 use Rattle.query_groups.specs.declared.groups.GroupBy.{GroupBy}
 use Rattle.document_rows.specs.Reading.{row_at}
-use Rattle.lane_views.specs.Views.{View}
-use Rattle.lane_views.specs.Serving.{rows_of}
+use Rattle.view_changes.specs.Views.{View}
+use Rattle.view_changes.specs.Serving.{rows_of}
 use Rattle.match_views.specs.declared.hits.Hit.{Hit}
 use Rattle.group_counts.specs.Numbers.{found}
 use Rattle.group_counts.specs.Keyed.{number_in, text_in}
-use Rattle.group_counts.specs.Tallies.{Told, AreTallies}
+use Rattle.group_counts.specs.Tallies.{Told, AreTallies, counted_of}
 
--- what the code keeps: by what it groups, how many views came, and the tallies of numbers and of texts
+-- what the code keeps: by what it groups, how many views came, and of numbers and of texts the tallies that count
 pub record Gathered : Type 0 where
   pub by : Option GroupBy
   pub views : ℕ
@@ -23,7 +24,12 @@ pub record Gathered : Type 0 where
   pub texts : List (List ℕ × Told)
 
 abbrev pub gathered_as : {Y : Type 0} → Option GroupBy → ℕ → BTreeMap ℤ Told → BTreeMap (String Y) Told → Gathered
-gathered_as by views numbers texts = record { by = by; views = views; numbers = numbers.entries; texts = map (λ e. (string_bytes e.0, e.1)) texts.entries }
+gathered_as by views numbers texts = record { by = by; views = views; numbers = counted_of numbers.entries; texts = map (λ e. (string_bytes e.0, e.1)) (counted_of texts.entries) }
+
+-- what is said of a group; nothing where there are none
+abbrev pub outputs_by : Option GroupBy → List OutputKind
+outputs_by None = []
+outputs_by (Some by) = by.outputs
 
 abbrev pub number_tally : Gathered → ℤ → Option Told
 number_tally g z = lookup (is_at (int_cmp z)) g.numbers

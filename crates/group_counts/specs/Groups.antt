@@ -6,7 +6,7 @@ use Rattle.std.specs.FinMap as fin
 use Rattle.doc_types.specs.declared.values.FieldValue.TheVariants.{Int, Text}
 use Rattle.documents.specs.Fields.{Contents}
 use Rattle.query_groups.specs.declared.groups.GroupBy.{GroupBy}
-use Rattle.search_answers.specs.declared.answers.Group.{Group}
+use Rattle.query_groups.specs.declared.answers.Group.{Group}
 use Rattle.group_counts.specs.Keyed.{number_in, text_in, groups_by}
 
 -- the groups of numbers, and behind them those of texts; without a field to group by there are none

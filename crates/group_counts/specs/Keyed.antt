@@ -8,7 +8,7 @@ use Rattle.doc_types.specs.declared.values.FieldValue.TheVariants.{Int, Text}
 use Rattle.doc_types.specs.declared.outputs.OutputKind.{OutputKind}
 use Rattle.doc_types.specs.declared.outputs.OutputKind.TheVariants as output
 use Rattle.documents.specs.Fields.{Contents}
-use Rattle.search_answers.specs.declared.answers.Group.{Group}
+use Rattle.query_groups.specs.declared.answers.Group.{Group}
 use Rattle.group_counts.specs.Numbers.{found, sum_of, least, greatest}
 
 -- ---- values

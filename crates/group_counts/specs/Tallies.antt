@@ -1,5 +1,5 @@
 -- How the code keeps groups: of each value that some document had a tally.
-use Rattle.std.specs.Prelude.{◌≡◌, ◌≤◌, ◌+◌, ◌*◌, ◌+ℤ◌, ℕ, ℤ, pos, List, [], ◌∷◌, map, length, Option, None, Some, option_map, IfSome}
+use Rattle.std.specs.Prelude.{◌≡◌, ◌≤◌, ◌+◌, ◌*◌, ◌+ℤ◌, ◌++◌, ℕ, nat_lt, ℤ, pos, Bool, List, [], ◌∷◌, map, filter, length, Option, None, Some, option_map, IfSome, IsSome, if◌then◌else◌}
 use Rattle.std.specs.Int.Signed.{◌≤ℤ◌}
 use Rattle.std.specs.List.{AllByRecursion}
 use Rattle.std.specs.Int.{int_min, int_max}
@@ -8,8 +8,8 @@ use Rattle.doc_types.specs.declared.values.FieldValue.{FieldValue}
 use Rattle.doc_types.specs.declared.outputs.OutputKind.{OutputKind}
 use Rattle.doc_types.specs.declared.outputs.OutputKind.TheVariants as output
 use Rattle.documents.specs.Fields.{Contents}
-use Rattle.search_answers.specs.declared.answers.Group.{Group}
-use Rattle.search_answers.specs.declared.answers.Output.{Output}
+use Rattle.query_groups.specs.declared.answers.Group.{Group}
+use Rattle.query_groups.specs.declared.answers.Output.{Output}
 use Rattle.group_counts.specs.Numbers.{either}
 use Rattle.group_counts.specs.Keyed.{number_in, output_over, with_key}
 
@@ -74,9 +74,44 @@ tally_with kinds d (Some t) = told_with kinds d t
 abbrev pub AreTallies : {K : Type 0} → (K → K → Ordering) → List OutputKind → (Contents → Option K) → List Contents → (K → Option Told) → Type 0
 AreTallies {K} R kinds key docs tallies = (k : K) → tallies k ≡ tally_of kinds (with_key R key k docs)
 
--- no tally counts more documents
-abbrev pub AreWithin : {K : Type 0} → ℕ → (K → Option Told) → Type 0
-AreWithin {K} n tallies = (k : K) → IfSome (tallies k) (λ t. t.count ≤ n)
+-- no tally counts more documents, and one of none is as at first
+abbrev pub IsKept : List OutputKind → ℕ → Told → Type 0
+IsKept kinds n t = (t.count ≤ n) × (t.count ≡ 0 → t ≡ told_of kinds [])
+
+abbrev pub AreKept : {K : Type 0} → List OutputKind → ℕ → (K → Option Told) → Type 0
+AreKept {K} kinds n tallies = (k : K) → IfSome (tallies k) (IsKept kinds n)
+
+-- ---- places: a tally of no document keeps the place of a key, and counts for nothing
+
+abbrev pub is_counted : Told → Bool
+is_counted t = nat_lt 0 t.count
+
+abbrev pub counted : Option Told → Option Told
+counted None = None
+counted (Some t) = if is_counted t then Some t else None
+
+abbrev pub counted_of : {K : Type 0} → List (K × Told) → List (K × Told)
+counted_of es = filter (λ e. is_counted e.1) es
+
+-- the key, if there is one, has a place
+abbrev pub HasPlace : {K : Type 0} → Option K → (K → Option Told) → Type 0
+HasPlace key tallies = IfSome key (λ k. IsSome (tallies k))
+
+-- the keys of some documents have places
+abbrev pub ArePlaced : {K : Type 0} → (Contents → Option K) → List Contents → (K → Option Told) → Type 0
+ArePlaced key docs tallies = AllByRecursion (λ d. HasPlace (key d) tallies) docs
+
+-- there may be more places, and no tally that counts has changed
+pub record ArePlacesMore {K Q : Type 0} (kinds : List OutputKind) (es fs : List (K × Told)) (old new : Q → Option Told) : Type 0 where
+  pub counted : counted_of fs ≡ counted_of es
+  pub kept : (n : ℕ) → AreKept kinds n old → AreKept kinds n new
+  pub stay : (q : Q) → IsSome (old q) → IsSome (new q)
+
+-- tallies with some documents more, which are at most so many
+pub record AreTaken {K : Type 0} (R : K → K → Ordering) (kinds : List OutputKind) (key : Contents → Option K) (more : List Contents) (n : ℕ) (old new : K → Option Told) : Type 0 where
+  pub tallies : (docs : List Contents) → AreTallies R kinds key docs (λ k. counted (old k)) → AreTallies R kinds key (docs ++ more) (λ k. counted (new k))
+  pub kept : (m : ℕ) → AreKept kinds m old → AreKept kinds (m + n) new
+  pub stay : (k : K) → IsSome (old k) → IsSome (new k)
 
 -- ---- a group of a tally
 

@@ -1,25 +1,25 @@
-ghost use Rattle.std.specs.Prelude.{◌≡◌, ◌≤◌, ◌<◌, ◌+◌, ◌++◌, List, [], map, length, IfOk, OnOk};
+ghost use Rattle.std.specs.Prelude.{◌≡◌, ◌≤◌, ◌<◌, ◌+◌, ◌++◌, List, [], map, length, IfOk, OnOk, OnErr};
 ghost use Rattle.std.specs.Ordering.{int_cmp};
 ghost use Rattle.std.specs.BTreeMap as tree;
 ghost use Rattle.std.specs.String.{string_bytes, string_cmp};
 ghost use Rattle.documents.specs.Fields.{Contents};
 ghost use Rattle.doc_types.specs.declared.values.FieldValue.TheVariants.{Int, Text};
 ghost use Rattle.group_counts.specs.Groups.{groups_of};
-ghost use Rattle.group_counts.specs.Tallies.{told_group};
+ghost use Rattle.group_counts.specs.Tallies.{told_group, counted_of};
 ghost use Rattle.group_counts.specs.Gathered.{IsGathered, documents_at};
 
-use crate::taking::take_all;
+use crate::taking::{place_all, take_all};
+use crate::tallies::keys_rise;
 use crate::tally::Tally;
 use doc_types::{FieldValue, OutputKind};
-use lane_views::Shown;
 use match_views::Hits;
-use query_groups::GroupBy;
+use query_groups::{Group, GroupBy, GroupList};
 use query_text::Query;
-use search_answers::{Group, GroupList};
 use std::alloc::Global;
 use std::collections::BTreeMap;
 use std::marker::Model;
 use value_lists::{NoMemory, TextValue};
+use view_changes::Shown;
 
 /// The groups of documents that come view by view.
 #[derive(Drop)]
@@ -35,15 +35,15 @@ impl<'a> Model for Groups<'a> {
     ghost use Rattle.std.specs.Ordering.{int_cmp};
     ghost use Rattle.std.specs.BTreeMap as tree;
     ghost use Rattle.std.specs.BTreeMap.{get_by_text};
-    ghost use Rattle.group_counts.specs.Tallies.{AreWithin};
-    ghost use Rattle.group_counts.specs.Gathered.{Gathered, gathered_as};
+    ghost use Rattle.group_counts.specs.Tallies.{AreKept};
+    ghost use Rattle.group_counts.specs.Gathered.{Gathered, gathered_as, outputs_by};
 
     ghost Value = { Gathered };
 
     ghost view = { λ g. gathered_as (option_map (λ by. by.now) g.by) g.views g.numbers g.texts };
 
-    ghost invariant = { λ g. AreWithin (g.views * 137438953472) (tree.get int_cmp g.numbers)
-        × AreWithin (g.views * 137438953472) (get_by_text g.texts) };
+    ghost invariant = { λ g. AreKept (outputs_by (option_map (λ by. by.now) g.by)) (g.views * 137438953472) (tree.get int_cmp g.numbers)
+        × AreKept (outputs_by (option_map (λ by. by.now) g.by)) (g.views * 137438953472) (get_by_text g.texts) };
 }
 
 /// The groups of numbers, rising. The only error is want of memory.
@@ -54,11 +54,13 @@ fn push_numbers(
     tallies: &BTreeMap<i64, Tally>,
 ) -> Result<(), NoMemory>
     ensures groups { OnOk result (groups.new.items
-        ≡ groups.old.items ++ map (λ e. told_group kinds.now (Int e.0) e.1) tallies.now.entries) }
+        ≡ groups.old.items ++ map (λ e. told_group kinds.now (Int e.0) e.1) (counted_of tallies.now.entries)) }
     ensures ordered { tree.IsOrdered int_cmp tallies.now }
 {
     for (number, tally) in tallies {
-        groups.push(tally.group(alloc, kinds, FieldValue::Int(*number))?)?;
+        if tally.is_counted() {
+            groups.push(tally.group(alloc, kinds, FieldValue::Int(*number))?)?;
+        }
     }
     Ok(())
 }
@@ -71,12 +73,14 @@ fn push_texts(
     tallies: &BTreeMap<String, Tally>,
 ) -> Result<(), NoMemory>
     ensures groups { OnOk result (groups.new.items
-        ≡ groups.old.items ++ map (λ e. told_group kinds.now (Text (string_bytes e.0)) e.1) tallies.now.entries) }
+        ≡ groups.old.items ++ map (λ e. told_group kinds.now (Text (string_bytes e.0)) e.1) (counted_of tallies.now.entries)) }
     ensures ordered { tree.IsOrdered string_cmp tallies.now }
 {
     for (text, tally) in tallies {
-        let value = FieldValue::Text(TextValue::of(String::from_str(alloc, text.as_str())?));
-        groups.push(tally.group(alloc, kinds, value)?)?;
+        if tally.is_counted() {
+            let value = FieldValue::Text(TextValue::of(String::from_str(alloc, text.as_str())?));
+            groups.push(tally.group(alloc, kinds, value)?)?;
+        }
     }
     Ok(())
 }
@@ -97,33 +101,31 @@ impl<'a> Groups<'a> {
     }
 
     /// The documents of a view that `matches` found for the query come behind those that came before. A hit without a
-    /// document counts as none. Takes for each document the logarithm of the groups. The only error is want of memory,
-    /// after which some of the view's documents have come and others haven't, and the view counts as one that was added.
+    /// document counts as none. Takes for each document the logarithm of the groups. The only error is want of memory;
+    /// then the groups are as they were.
     pub fn add<V: Shown>(&mut self, alloc: Global, view: &V, hits: &Hits) -> Result<(), NoMemory>
         requires views { self.old.views < 64 }
 
-        // `hits_are_few` says it of what `matches` finds.
+        // `matches` finds no more.
         requires hits { length hits.now ≤ 137438953472 }
 
         ensures by { self.new.by ≡ self.old.by }
-        ensures views { self.new.views ≡ self.old.views + 1 }
+        ensures views { OnOk result (self.new.views ≡ self.old.views + 1) }
         ensures documents { OnOk result ((docs : List Contents) → IsGathered docs self.old
             → IsGathered (docs ++ documents_at (V.seen view.now) hits.now) self.new) }
+        ensures err { OnErr result (self.new ≡ self.old) }
     {
+        let Some(by) = self.by else {
+            self.views += 1;
+            return Ok(());
+        };
+        let hits = hits.items();
+        place_all(alloc, by, &mut self.numbers, &mut self.texts, view, hits)?;
+        keys_rise(&self.numbers, &self.texts);
+        take_all(by, &mut self.numbers, &mut self.texts, view, hits);
+        keys_rise(&self.numbers, &self.texts);
         self.views += 1;
-        match self.by {
-            Some(by) => {
-                take_all(
-                    alloc,
-                    by,
-                    &mut self.numbers,
-                    &mut self.texts,
-                    view,
-                    hits.items(),
-                )
-            }
-            None => Ok(()),
-        }
+        Ok(())
     }
 
     /// The groups of the documents that came, rising by value. The only error is want of memory.

@@ -1,6 +1,6 @@
-//! Laws of groups and of hits; no function here does anything.
+//! Laws of groups; no function here does anything.
 
-ghost use Rattle.std.specs.Prelude.{◌≡◌, ◌≤◌, ◌<◌, ℕ, ℤ, List, length, None, Some, if◌then◌else◌};
+ghost use Rattle.std.specs.Prelude.{◌≡◌, ℕ, ℤ, List, None, Some, if◌then◌else◌};
 ghost use Rattle.std.specs.List.{AllByRecursion, list_any};
 ghost use Rattle.std.specs.Int.Signed.{◌≤ℤ◌};
 ghost use Rattle.std.specs.Ordering.{int_cmp, nat_cmp};
@@ -9,17 +9,8 @@ ghost use Rattle.std.specs.FinMap as fin;
 ghost use Rattle.doc_types.specs.declared.values.FieldValue.TheVariants.{Int, Text};
 ghost use Rattle.doc_types.specs.declared.outputs.OutputKind.{OutputKind};
 ghost use Rattle.documents.specs.Fields.{Contents};
-ghost use Rattle.lane_views.specs.Views.{View};
-ghost use Rattle.query_text.specs.declared.query.Query.{Query};
-ghost use Rattle.match_views.specs.Hits.{hits_of};
 ghost use Rattle.group_counts.specs.Numbers.{least, greatest};
 ghost use Rattle.group_counts.specs.Keyed.{number_in, text_in, is_key, with_key, group_over, groups_by};
-
-/// `matches` finds no more than 2^37 documents of a view: each of 32 nodes has 2^32 local ids.
-pub fn hits_are_few()
-    ensures { (q : Query) (w : ℕ) (v : View) → AllByRecursion (λ hit. hit.local < 4294967296) (hits_of q w v)
-        → length (hits_of q w v) ≤ 137438953472 }
-{}
 
 /// A number that some document has in the field has one group, that of the documents that have it; a number that none
 /// has has no group. The same holds of texts.

@@ -1,10 +1,13 @@
 //! Of each value that some document had, its tally.
+//!
+//! A value gets its place first, a tally of no document; that alone takes memory. Then a document is counted in it.
 
-ghost use Rattle.std.specs.Prelude.{◌≡◌, ℕ, ℤ, List, Some, if◌then◌else◌, bytes_eq, OnOk, OnErr};
+ghost use Rattle.std.specs.Prelude.{◌≡◌, ℕ, ℤ, List, Some, IsSome, if◌then◌else◌, bytes_eq, OnOk};
 ghost use Rattle.std.specs.Ordering.{int_cmp, int_eq};
 ghost use Rattle.std.specs.BTreeMap as tree;
 ghost use Rattle.std.specs.BTreeMap.{get_by_text};
-ghost use Rattle.group_counts.specs.Tallies.{tally_with, AreWithin};
+ghost use Rattle.std.specs.String.{string_cmp};
+ghost use Rattle.group_counts.specs.Tallies.{tally_with, AreKept, ArePlacesMore};
 
 use crate::tally::Tally;
 use doc_types::OutputKind;
@@ -13,50 +16,84 @@ use std::alloc::Global;
 use std::collections::BTreeMap;
 use value_lists::NoMemory;
 
-/// A document with a number more. The only error is want of memory.
-pub fn take_number(
+/// A place for a number, if it has none. The only error is want of memory.
+pub fn place_number(
     alloc: Global,
     tallies: &mut BTreeMap<i64, Tally>,
     number: i64,
     kinds: &[OutputKind],
-    document: &Document,
 ) -> Result<(), NoMemory>
-    requires { AreWithin 9223372036854775807 (tree.get int_cmp tallies.old) }
-    ensures ok { OnOk result ((z : ℤ) → tree.get int_cmp tallies.new z
-        ≡ (if int_eq number z then Some (tally_with kinds.now document.now (tree.get int_cmp tallies.old number))
-        else tree.get int_cmp tallies.old z)) }
-    ensures err { OnErr result ((z : ℤ) → tree.get int_cmp tallies.new z ≡ tree.get int_cmp tallies.old z) }
+    ensures places { ArePlacesMore kinds.now tallies.old.entries tallies.new.entries
+        (tree.get int_cmp tallies.old) (tree.get int_cmp tallies.new) }
+    ensures placed { OnOk result (IsSome (tree.get int_cmp tallies.new number)) }
 {
-    if let Some(tally) = tallies.get_mut(&number) {
-        tally.take(kinds, document);
-        return Ok(());
+    if !tallies.contains_key(&number) {
+        let tally = Tally::new(alloc, kinds)?;
+        tallies.insert(number, tally)?;
     }
-    let mut tally = Tally::new(alloc, kinds)?;
-    tally.take(kinds, document);
-    tallies.insert(number, tally)?;
     Ok(())
 }
 
-/// A document with a text more. The only error is want of memory.
-pub fn take_text(
+/// A place for a text, if it has none. The only error is want of memory.
+pub fn place_text(
     alloc: Global,
     tallies: &mut BTreeMap<String, Tally>,
     text: &str,
     kinds: &[OutputKind],
-    document: &Document,
 ) -> Result<(), NoMemory>
-    requires { AreWithin 9223372036854775807 (get_by_text tallies.old) }
-    ensures ok { OnOk result ((t : List ℕ) → get_by_text tallies.new t
+    ensures places { ArePlacesMore kinds.now tallies.old.entries tallies.new.entries
+        (get_by_text tallies.old) (get_by_text tallies.new) }
+    ensures placed { OnOk result (IsSome (get_by_text tallies.new text.now)) }
+{
+    if !tallies.contains_key(text) {
+        let tally = Tally::new(alloc, kinds)?;
+        let key = String::from_str(alloc, text)?;
+        tallies.insert(key, tally)?;
+    }
+    Ok(())
+}
+
+/// A document with a number more; takes no memory.
+pub fn take_number(
+    tallies: &mut BTreeMap<i64, Tally>,
+    number: i64,
+    kinds: &[OutputKind],
+    document: &Document,
+)
+    requires few { AreKept kinds.now 9223372036854775807 (tree.get int_cmp tallies.old) }
+    requires placed { IsSome (tree.get int_cmp tallies.old number) }
+    ensures { (z : ℤ) → tree.get int_cmp tallies.new z
+        ≡ (if int_eq number z then Some (tally_with kinds.now document.now (tree.get int_cmp tallies.old number))
+        else tree.get int_cmp tallies.old z) }
+{
+    if let Some(tally) = tallies.get_mut(&number) {
+        tally.take(kinds, document);
+    }
+}
+
+/// A document with a text more; takes no memory.
+pub fn take_text(
+    tallies: &mut BTreeMap<String, Tally>,
+    text: &str,
+    kinds: &[OutputKind],
+    document: &Document,
+)
+    requires few { AreKept kinds.now 9223372036854775807 (get_by_text tallies.old) }
+    requires placed { IsSome (get_by_text tallies.old text.now) }
+    ensures { (t : List ℕ) → get_by_text tallies.new t
         ≡ (if bytes_eq text.now t then Some (tally_with kinds.now document.now (get_by_text tallies.old text.now))
-        else get_by_text tallies.old t)) }
-    ensures err { OnErr result ((t : List ℕ) → get_by_text tallies.new t ≡ get_by_text tallies.old t) }
+        else get_by_text tallies.old t) }
 {
     if let Some(tally) = tallies.get_mut(text) {
         tally.take(kinds, document);
-        return Ok(());
     }
-    let mut tally = Tally::new(alloc, kinds)?;
-    tally.take(kinds, document);
-    tallies.insert(String::from_str(alloc, text)?, tally)?;
-    Ok(())
+}
+
+/// The numbers and the texts rise; this does nothing.
+pub fn keys_rise(numbers: &BTreeMap<i64, Tally>, texts: &BTreeMap<String, Tally>)
+    ensures numbers { tree.IsOrdered int_cmp numbers.now }
+    ensures texts { tree.IsOrdered string_cmp texts.now }
+{
+    // `len` says it of every map.
+    let _ = (numbers.len(), texts.len());
 }

@@ -1,10 +1,10 @@
 ghost use Rattle.std.specs.Prelude.{◌≡◌, ◌+◌, ◌<◌, ℕ, [], IfOk};
-ghost use Rattle.group_counts.specs.Tallies.{told_of, told_with, told_outputs, told_group, next_values, AreSmall};
+ghost use Rattle.group_counts.specs.Tallies.{told_of, told_with, told_outputs, told_group, next_values, is_counted, AreSmall};
 
 use crate::figures::{first_value, next_value};
 use doc_types::{FieldValue, OutputKind};
 use documents::Document;
-use search_answers::{Group, Output, OutputList};
+use query_groups::{Group, Output, OutputList};
 use std::alloc::Global;
 use std::marker::Model;
 use value_lists::{NoMemory, TryCopy};
@@ -89,6 +89,13 @@ impl Tally {
     {
         take_values(&mut self.values, kinds, document);
         self.count += 1;
+    }
+
+    /// Whether there are any documents.
+    pub fn is_counted(&self) -> bool
+        ensures { result ≡ is_counted self.now }
+    {
+        self.count > 0
     }
 
     /// The group of these documents. The only error is want of memory.

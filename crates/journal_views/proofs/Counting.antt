@@ -8,10 +8,11 @@ use Rattle.global_ids.specs.Keys as keys
 use Rattle.doc_types.specs.SchemaCodes.{Types}
 use Rattle.documents.specs.Fields.{Contents}
 use Rattle.document_rows.specs.Rows.{Rows, has_row, document_of}
-use Rattle.lane_views.specs.Views.{NodeView, in_regions, node_at, view_after}
-use Rattle.lane_views.specs.Kept.{IsView}
-use Rattle.lane_views.specs.Shown.{shown}
-use Rattle.lane_views.specs.Serving.{serves}
+use Rattle.view_changes.specs.Views.{NodeView, in_regions, node_at, view_after}
+use Rattle.view_changes.specs.Opening.{opening}
+use Rattle.view_changes.specs.Kept.{IsView}
+use Rattle.view_changes.specs.Shown.{shown}
+use Rattle.view_changes.specs.Serving.{serves}
 use Rattle.search_laws.specs.Searches as searches
 use Rattle.search_laws.specs.Searches.{Seen, times_counted, covered, LieIn, AreLanes, SomeNode, SomeSeen, EachNode, EachSeen}
 use Rattle.lane_journals.specs.Stamps.{Stamp, Le}
@@ -34,8 +35,8 @@ use Rattle.lane_keeping.specs.NodeKeeping.{regions}
 use Rattle.journal_views.proofs.Members.{In, in-contains, contains-in}
 use Rattle.lane_keeping.proofs.Regions.{said}
 use Rattle.lane_keeping.proofs.Words.{contains-is, key-is}
-use Rattle.journal_views.specs.Changes.{changes_of}
-use Rattle.journal_views.specs.JournalViews.{IsWrittenAs, held_entry, view_of, HasRead, Shows, opening_view, FindRoom}
+use Rattle.lane_changes.specs.Changes.{changes_of}
+use Rattle.journal_views.specs.JournalViews.{IsWrittenAs, held_entry, view_of, HasRead, Shows, FindRoom}
 use Rattle.journal_views.specs.Fronts.{Front, IsFront, NoneHas, AreFronts, seen_at, one_if, IsCountedAs}
 use Rattle.journal_views.proofs.Lanes.{region-lies}
 use Rattle.journal_views.proofs.Standing.{within-is}
@@ -43,9 +44,9 @@ use Rattle.journal_views.proofs.Standing.{within-is}
 -- ---- what is known
 
 pub record Laws : Type 0 where
-  pub shown : InAllKept (λ S J. (types : Types) → IsBucket S.lane → FindRoom J → Shows (view_of types J) (view_after (opening_view types) (changes_of J)))
-  pub view : InAllKept (λ S J. (types : Types) → IsBucket S.lane → FindRoom J → IsView (view_after (opening_view types) (changes_of J)))
-  pub lane : InAllKept (λ S J. (types : Types) → IsBucket S.lane → FindRoom J → LieIn S.lane (view_after (opening_view types) (changes_of J)).nodes)
+  pub shown : InAllKept (λ S J. (types : Types) → IsBucket S.lane → FindRoom J → Shows (view_of types J) (view_after (opening types) (changes_of J)))
+  pub view : InAllKept (λ S J. (types : Types) → IsBucket S.lane → FindRoom J → IsView (view_after (opening types) (changes_of J)))
+  pub lane : InAllKept (λ S J. (types : Types) → IsBucket S.lane → FindRoom J → LieIn S.lane (view_after (opening types) (changes_of J)).nodes)
   pub full : (w : ℕ) (test : NodeView → Bool) (ls : List Seen) → AreLanes ls → EachSeen w (λ n. test n ≡ true) ls → covered w ls ≡ 2 ^ 58 → (key : ℕ) → key < 2 ^ 58 → SomeSeen w key (λ n. test n ≡ true) ls
   pub there : (w : ℕ) (id : Id) (ls : List Seen) → AreLanes ls → SomeSeen w (keys.key_of id) (λ n. has_row id n.rows ≡ true) ls → times_counted w id ls ≡ 1
   pub absent : (w : ℕ) (id : Id) (ls : List Seen) → AreLanes ls → SomeSeen w (keys.key_of id) (λ n. has_row id n.rows ≡ false) ls → times_counted w id ls ≡ 0

@@ -5,13 +5,13 @@ use Rattle.std.proofs.lemmas.Bool.Decides.{nat_tests}
 use Rattle.bucket_ids.specs.Buckets.{IsBucket}
 use Rattle.doc_types.specs.SchemaCodes.{Types}
 use Rattle.documents.specs.declared.entry.Entry.{Entry}
-use Rattle.lane_views.specs.Views.{NodeView, View, new_node, stopped_as, at, node_at, changed, view_after}
-use Rattle.lane_views.specs.Kept.{IsNode, AreNodes, IsActiveOver, IsView, HasBucket}
-use Rattle.lane_views.specs.Shown.{Keeping, ShowsNode}
-use Rattle.lane_views.specs.Deeds.{NodeDeed, Looks, Stores, Unites, Drops, Activates, takes, adoption, changes_of as changes_told, ViewShows}
-use Rattle.lane_views.specs.declared.change.LaneChange.{LaneChange}
-use Rattle.lane_views.specs.declared.change.LaneChange.TheVariants.{Adopt}
-use Rattle.journal_views.specs.JournalViews.{new_nodes, opening_view}
+use Rattle.view_changes.specs.Views.{NodeView, View, stopped_as, at, node_at, changed, view_after}
+use Rattle.view_changes.specs.Opening.{opening}
+use Rattle.view_changes.specs.Kept.{IsNode, AreNodes, IsView, HasBucket}
+use Rattle.view_changes.specs.Shown.{Keeping, ShowsNode}
+use Rattle.view_changes.specs.Deeds.{NodeDeed, Looks, Stores, Unites, Drops, Activates, takes, adoption, changes_of as changes_told, ViewShows}
+use Rattle.view_changes.specs.declared.change.LaneChange.{LaneChange}
+use Rattle.view_changes.specs.declared.change.LaneChange.TheVariants.{Adopt}
 
 pub after-append : (v : View) (xs ys : List LaneChange) → view_after v (xs ++ ys) ≡ view_after (view_after v xs) ys
 after-append v [] ys = refl
@@ -66,29 +66,8 @@ counted-from (c ∷ cs) v low =
     let ih = counted-from cs (changed v c) most in
     omega (arith, low, ih)
 
-pub counted : (types : Types) (cs : List LaneChange) → (view_after (opening_view types) cs).generation ≡ min (length cs) 18446744073709551615
-counted types cs = let h = counted-from cs (opening_view types) (omega arith) in omega (arith, h)
-
--- ---- where views begin
-
-pub new-length : (k : ℕ) → length (new_nodes k) ≡ k
-new-length zero = refl
-new-length (suc k) = ap suc (new-length k)
-
-pub new-node : (n k : ℕ) → node_at n (new_nodes k) ≡ new_node
-new-node n zero = refl
-new-node zero (suc k) = refl
-new-node (suc n) (suc k) = new-node n k
-
-new-nodes : (k : ℕ) → AreNodes (new_nodes k)
-new-nodes zero = tt
-new-nodes (suc k) = (record { regions = tt; inside = tt; distinct = tt }, new-nodes k)
-
-pub opening-view : (types : Types) → IsView (opening_view types)
-opening-view types = record { many = new-length 32; nodes = new-nodes 32; apart = λ w key n m ln lm on om. absurd (none n w key on) }
-  where
-    none : (n w key : ℕ) → IsActiveOver w key (node_at n (new_nodes 32)) → ⊥
-    none n w key o = let o2 = subst (IsActiveOver w key) (new-node n 32) o in true≢false (sym o2.1)
+pub counted : (types : Types) (cs : List LaneChange) → (view_after (opening types) cs).generation ≡ min (length cs) 18446744073709551615
+counted types cs = let h = counted-from cs (opening types) (omega arith) in omega (arith, h)
 
 -- ---- one node of all
 

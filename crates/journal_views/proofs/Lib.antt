@@ -1,10 +1,10 @@
+-- Shared: other crates cite these.
+pub mod Writes
+pub mod Folds
+pub mod Reading
+-- Of this crate alone.
 mod Members
-mod Noted
-mod Kept
 mod Lanes
-mod Writes
-mod Folds
 mod Standing
-mod Reading
-mod Telling
 mod Counting
+mod Searched

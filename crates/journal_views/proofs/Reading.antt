@@ -9,10 +9,11 @@ use Rattle.documents.specs.Fields.{Contents}
 use Rattle.documents.specs.declared.entry.Entry.{Entry}
 use Rattle.std.proofs.lemmas.Slice.Eq.{bytes_eq-Decides}
 use Rattle.document_rows.specs.Rows.{fitted}
-use Rattle.lane_views.specs.Views.{NodeView, View, in_regions, node_at, view_after}
-use Rattle.lane_views.specs.Kept.{IsView}
-use Rattle.lane_views.specs.Shown.{Keeping, ShowsNode, shown, body_shown}
-use Rattle.lane_views.specs.declared.change.LaneChange.{LaneChange}
+use Rattle.view_changes.specs.Views.{NodeView, View, in_regions, node_at, view_after}
+use Rattle.view_changes.specs.Opening.{opening}
+use Rattle.view_changes.specs.Kept.{IsView}
+use Rattle.view_changes.specs.Shown.{Keeping, ShowsNode, shown, body_shown}
+use Rattle.view_changes.specs.declared.change.LaneChange.{LaneChange}
 use Rattle.search_laws.specs.Searches.{LieIn}
 use Rattle.lane_journals.specs.Stamps.{Stamp}
 use Rattle.lane_journals.specs.Buckets.{Bucket, Id}
@@ -28,11 +29,11 @@ use Rattle.lane_journals.proofs.Meant.{meant-legal}
 use Rattle.lane_keeping.specs.NodeKeeping.{regions, stamp_of}
 use Rattle.lane_keeping.proofs.Words.{contains-is}
 use Rattle.lane_keeping.proofs.Regions.{said, back}
-use Rattle.journal_views.specs.Deliveries.{keeping}
-use Rattle.journal_views.specs.Changes.{changes_by, changes_of, prefix_with}
-use Rattle.journal_views.specs.JournalViews.{IsWrittenAs, entry_named, held_entry, NodeRead, view_of, view_at, body_in, AreFit, HasRead, Shows, opening_view, written_entries, FindRoom}
+use Rattle.lane_changes.specs.Deliveries.{keeping}
+use Rattle.lane_changes.specs.Changes.{changes_by, changes_of}
+use Rattle.journal_views.specs.JournalViews.{IsWrittenAs, entry_named, held_entry, NodeRead, view_of, prefix_with, view_at, body_in, AreFit, HasRead, Shows, written_entries, FindRoom}
 use Rattle.journal_views.proofs.Members.{In, contains-in}
-use Rattle.journal_views.proofs.Kept.{AreStamped, KeptAs, kept}
+use Rattle.lane_changes.proofs.Kept.{AreStamped, KeptAs, kept}
 use Rattle.journal_views.proofs.Lanes.{region-lies}
 use Rattle.journal_views.proofs.Writes.{entry-among, room-before}
 use Rattle.journal_views.proofs.Folds.{types-after}
@@ -50,13 +51,13 @@ held-is J n k h id = by_get (fin.get k.entries id) refl
 
 -- ---- the nodes of a view
 
-lie-nodes : (lane : Low) (ns : List NodeView) → ((n key : ℕ) → n < length ns → in_regions (node_at n ns).regions key ≡ true → has_key lane key ≡ true) → LieIn lane ns
+pub lie-nodes : (lane : Low) (ns : List NodeView) → ((n key : ℕ) → n < length ns → in_regions (node_at n ns).regions key ≡ true → has_key lane key ≡ true) → LieIn lane ns
 lie-nodes lane [] f = tt
 lie-nodes lane (x ∷ xs) f = ((λ key h. f zero key (omega arith) h), lie-nodes lane xs (λ n key l h. f (suc n) key (omega (arith, l)) h))
 
 module _ (g : Given) (S : Setting) (some : 1 ≤ S.acks) (lane : IsBucket S.lane) (types : Types) where
   abbrev view : List LaneEvent → View
-  view J = view_after (opening_view types) (changes_of J)
+  view J = view_after (opening types) (changes_of J)
 
   node-reads : (J : List LaneEvent) → IsLegal S J → (n : ℕ) (x : NodeView) → ShowsNode (view J).types (keeping n J) (stopped n (history J)) x → HasRead (view_of types J n) x
   node-reads J l n x h =
@@ -66,7 +67,7 @@ module _ (g : Given) (S : Setting) (some : 1 ≤ S.acks) (lane : IsBucket S.lane
         stopped_is = h.stopped_is;
         regions_are = h.regions_are ∙ k.regions_are;
         documents_are = λ id. h.documents_are id
-            ∙ ap₂ (λ (rs : List Low) (y : Types). cond {A = Option Contents} (in_regions rs (keys.key_of id)) (shown y id (fin.get (keeping n J).entries id)) None) k.regions_are (types-after (changes_of J) (opening_view types))
+            ∙ ap₂ (λ (rs : List Low) (y : Types). cond {A = Option Contents} (in_regions rs (keys.key_of id)) (shown y id (fin.get (keeping n J).entries id)) None) k.regions_are (types-after (changes_of J) (opening types))
             ∙ ap (λ (o : Option Entry). cond {A = Option Contents} (in_regions (regions n (history J)) (keys.key_of id)) (shown types id o) None) (held-is J n (keeping n J) k id);
       }
 
@@ -120,15 +121,15 @@ some-is : (a b : ℕ → NodeRead) → ◌≡◌ {A = Option (ℕ → NodeRead)}
 some-is a b e = ap (λ (o : Option (ℕ → NodeRead)). unwrap_or o a) e
 
 pub fronts-read : Given → (S : Setting) → 1 ≤ S.acks → (J : List LaneEvent) → IsLegal S J → (types : Types) → IsBucket S.lane → FindRoom J → (g : ℕ) (read : ℕ → NodeRead) → view_at types g J ≡ Some read
-    → Shows read (view_after (opening_view types) (take g (changes_of J)))
+    → Shows read (view_after (opening types) (take g (changes_of J)))
 fronts-read given S some J l types lane room g read h = by_prefix (prefix_with g J) refl h
   where
-    by_prefix : (o : Option (List LaneEvent)) → prefix_with g J ≡ o → option_map (view_of types) o ≡ Some read → Shows read (view_after (opening_view types) (take g (changes_of J)))
+    by_prefix : (o : Option (List LaneEvent)) → prefix_with g J ≡ o → option_map (view_of types) o ≡ Some read → Shows read (view_after (opening types) (take g (changes_of J)))
     by_prefix None e f = cc
     by_prefix (Some K) e f =
         let p = prefixed S g J l room K e in
-        subst (λ (x : ℕ → NodeRead). Shows x (view_after (opening_view types) (take g (changes_of J)))) (some-is (view_of types K) read f)
-        (subst (λ (cs : List LaneChange). Shows (view_of types K) (view_after (opening_view types) cs)) (sym (taken S g J K p)) (reads given S some lane types K p.legal p.room))
+        subst (λ (x : ℕ → NodeRead). Shows x (view_after (opening types) (take g (changes_of J)))) (some-is (view_of types K) read f)
+        (subst (λ (cs : List LaneChange). Shows (view_of types K) (view_after (opening types) cs)) (sym (taken S g J K p)) (reads given S some lane types K p.legal p.room))
 
 -- ---- a longer journal
 

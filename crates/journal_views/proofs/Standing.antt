@@ -22,13 +22,14 @@ use Rattle.pieces.specs.declared.piece.Piece.{Piece}
 use Rattle.std.specs.Str.{bytes_eq}
 use Rattle.entry_maps.specs.Joins.{joined}
 use Rattle.document_rows.specs.Rows.{Rows, has_row, document_of, AreDistinct}
-use Rattle.lane_views.specs.Views.{NodeView, View, in_regions, listed, is_fresh, node_at, changed, view_after}
-use Rattle.lane_views.specs.Kept.{IsNode, IsActiveOver, IsView}
-use Rattle.lane_views.specs.Shown.{shown, Keeping, ShowsNode, AreOwn, adopt}
-use Rattle.lane_views.specs.Room.{AllAt, AllHave}
-use Rattle.lane_views.specs.Deeds.{NodeDeed, after_deed, is_seen, adoption, changes_of as changes_told, RoomAlong, MayDo, ViewShows, with_node}
-use Rattle.lane_views.specs.declared.change.LaneChange.{LaneChange}
-use Rattle.lane_views.specs.declared.change.LaneChange.TheVariants as change
+use Rattle.view_changes.specs.Views.{NodeView, View, in_regions, listed, is_fresh, node_at, changed, view_after}
+use Rattle.view_changes.specs.Opening.{opening}
+use Rattle.view_changes.specs.Kept.{IsNode, IsActiveOver, IsView}
+use Rattle.view_changes.specs.Shown.{shown, Keeping, ShowsNode, AreOwn, adopt}
+use Rattle.view_changes.specs.Room.{AllAt, AllHave}
+use Rattle.view_changes.specs.Deeds.{NodeDeed, after_deed, is_seen, adoption, changes_of as changes_told, RoomAlong, MayDo, ViewShows, with_node}
+use Rattle.view_changes.specs.declared.change.LaneChange.{LaneChange}
+use Rattle.view_changes.specs.declared.change.LaneChange.TheVariants as change
 use Rattle.lane_journals.specs.Stamps.{Stamp, Le}
 use Rattle.lane_journals.specs.Buckets.{Bucket, Id, key_of}
 use Rattle.lane_journals.specs.Events as plain
@@ -51,14 +52,15 @@ use Rattle.lane_durability.specs.Durability.{CountedOnce}
 use Rattle.lane_keeping.specs.NodeKeeping.{regions, stamp_of, AreWritten}
 use Rattle.lane_keeping.proofs.Words.{contains-is, key-is, inside-is}
 use Rattle.lane_keeping.proofs.Regions.{within, said}
-use Rattle.journal_views.specs.Deliveries.{NotedMessage, noted_message, entries_named, storing, deed_of, deed_by, after_delivery, keeping}
-use Rattle.journal_views.specs.Changes.{changes_at, changes_by, changes_of}
-use Rattle.journal_views.specs.JournalViews.{opening_view, FindRoom}
-use Rattle.journal_views.proofs.Noted.{AllThere, NotedAs, sent-noted}
-use Rattle.journal_views.proofs.Kept.{AreStamped, KeptAs, adopt-version, adopt-regions, adopt-entries, inside-written, deed-written, kept}
+use Rattle.lane_changes.specs.Deliveries.{NotedMessage, noted_message, entries_named, storing, deed_of, deed_by, after_delivery, keeping}
+use Rattle.lane_changes.specs.Changes.{changes_at, changes_by, changes_of}
+use Rattle.journal_views.specs.JournalViews.{FindRoom}
+use Rattle.lane_changes.proofs.Noted.{AllThere, NotedAs, sent-noted}
+use Rattle.lane_changes.proofs.Kept.{AreStamped, KeptAs, adopt-version, adopt-regions, adopt-entries, inside-written, deed-written, kept}
+use Rattle.view_changes.proofs.OpeningLaws.{node-new, opening-view}
 use Rattle.journal_views.proofs.Lanes.{activated-lies, serving-small}
 use Rattle.journal_views.proofs.Writes.{few-written, room-before}
-use Rattle.journal_views.proofs.Folds.{after-append, ViewsKeep, view-after, adoption-buckets, NamesBucket, told-buckets, new-node, opening-view, node-of, same-shown, switched}
+use Rattle.journal_views.proofs.Folds.{after-append, ViewsKeep, view-after, adoption-buckets, NamesBucket, told-buckets, node-of, same-shown, switched}
 
 -- the region of a node as a view tests it
 pub within-is : (key : ℕ) (rs : List Bucket) → within key rs ≡ in_regions rs key
@@ -154,7 +156,7 @@ module _ (g : Given) (S : Setting) (some : 1 ≤ S.acks) (lane : IsBucket S.lane
   named = g.stamped
 
   abbrev pub seen : List LaneEvent → View
-  seen J = view_after (opening_view types) (changes_of J)
+  seen J = view_after (opening types) (changes_of J)
 
   pub record Stands (J : List LaneEvent) : Type 0 where
     pub is_view : IsView (seen J)
@@ -400,7 +402,7 @@ module _ (g : Given) (S : Setting) (some : 1 ≤ S.acks) (lane : IsBucket S.lane
 
     seen-is : seen (Delivered c r ∷ J) ≡ v2
     seen-is =
-        after-append (opening_view types) (changes_of J) (changes_at J r (noted_message c J))
+        after-append (opening types) (changes_of J) (changes_at J r (noted_message c J))
         ∙ ap (λ (o : Option NotedMessage). view_after (seen J) (changes_at J r o)) a.found
         ∙ after-append (seen J) (adoption n w k) (changes_told n k1 deed)
 
@@ -427,7 +429,7 @@ module _ (g : Given) (S : Setting) (some : 1 ≤ S.acks) (lane : IsBucket S.lane
   quiet J e none keeps stops st = record { is_view = subst IsView (sym same) st.is_view; shows = subst (ViewShows (λ i. keeping i (e ∷ J)) (λ i. stopped i (history (e ∷ J)))) (sym same) shows }
     where
       same : seen (e ∷ J) ≡ seen J
-      same = ap (λ (cs : List LaneChange). view_after (opening_view types) (changes_of J ++ cs)) none ∙ ap (view_after (opening_view types)) (append-nil (changes_of J))
+      same = ap (λ (cs : List LaneChange). view_after (opening types) (changes_of J ++ cs)) none ∙ ap (view_after (opening types)) (append-nil (changes_of J))
 
       shows : ViewShows (λ i. keeping i (e ∷ J)) (λ i. stopped i (history (e ∷ J))) (seen J)
       shows i l = subst (λ (t : Bool). ShowsNode (seen J).types (keeping i (e ∷ J)) t (node_at i (seen J).nodes)) (sym (stops i))
@@ -443,18 +445,18 @@ module _ (g : Given) (S : Setting) (some : 1 ≤ S.acks) (lane : IsBucket S.lane
   pub stands : (J : List LaneEvent) → IsLegal S J → FindRoom J → Stands J
   stands [] l room = record {
     is_view = opening-view types;
-    shows = λ i low. subst (λ (y : NodeView). ShowsNode types (keeping i []) false y) (sym (new-node i 32)) (record { version_is = refl; stopped_is = refl; regions_are = refl; documents_are = λ id. refl });
+    shows = λ i low. subst (λ (y : NodeView). ShowsNode types (keeping i []) false y) (sym (node-new i 32)) (record { version_is = refl; stopped_is = refl; regions_are = refl; documents_are = λ id. refl });
   }
   stands (Delivered c r ∷ J) l room = delivered-stands J c r l (room-before J (Delivered c r) room) (stands J l.0 (room-before J (Delivered c r) room))
   stands (Stopped n ∷ J) l room = let st = stands J l.0 (room-before J (Stopped n) room) in
-      let same : seen (Stopped n ∷ J) ≡ changed (seen J) (change.Stop n) = after-append (opening_view types) (changes_of J) (change.Stop n ∷ []) in record {
+      let same : seen (Stopped n ∷ J) ≡ changed (seen J) (change.Stop n) = after-append (opening types) (changes_of J) (change.Stop n ∷ []) in record {
         is_view = subst IsView (sym same) (view-after g.views (change.Stop n ∷ []) (tt, tt) (seen J) st.is_view);
         shows = subst (ViewShows (λ i. keeping i J) (λ i. stopped i (history (Stopped n ∷ J)))) (sym same)
             (switched true n (seen J) (changed (seen J) (change.Stop n)) (λ i. keeping i J) (λ i. stopped i (history J)) (λ i. stopped i (history (Stopped n ∷ J))) refl refl
             (ap (λ t. cond t true (stopped n (history J))) (eq-eqb n n refl)) (λ i ne. ap (λ t. cond t true (stopped i (history J))) (other-node n i ne)) st.shows);
       }
   stands (Started n ∷ J) l room = let st = stands J l.0 (room-before J (Started n) room) in
-      let same : seen (Started n ∷ J) ≡ changed (seen J) (change.Start n) = after-append (opening_view types) (changes_of J) (change.Start n ∷ []) in record {
+      let same : seen (Started n ∷ J) ≡ changed (seen J) (change.Start n) = after-append (opening types) (changes_of J) (change.Start n ∷ []) in record {
         is_view = subst IsView (sym same) (view-after g.views (change.Start n ∷ []) (tt, tt) (seen J) st.is_view);
         shows = subst (ViewShows (λ i. keeping i J) (λ i. stopped i (history (Started n ∷ J)))) (sym same)
             (switched false n (seen J) (changed (seen J) (change.Start n)) (λ i. keeping i J) (λ i. stopped i (history J)) (λ i. stopped i (history (Started n ∷ J))) refl refl

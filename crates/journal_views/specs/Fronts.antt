@@ -3,8 +3,9 @@ use Rattle.std.specs.Prelude.{◌≡◌, ◌≤◌, ℕ, Bool, true, false, List
 use Rattle.doc_types.specs.SchemaCodes.{Types}
 use Rattle.bucket_ids.specs.Buckets.{IsBucket, has_key}
 use Rattle.document_rows.specs.Rows.{document_of}
-use Rattle.lane_views.specs.Views.{node_at, view_after}
-use Rattle.lane_views.specs.Shown.{shown}
+use Rattle.view_changes.specs.Views.{node_at, view_after}
+use Rattle.view_changes.specs.Opening.{opening}
+use Rattle.view_changes.specs.Shown.{shown}
 use Rattle.search_laws.specs.Searches.{Seen}
 use Rattle.lane_journals.specs.Stamps.{Stamp, Le}
 use Rattle.lane_journals.specs.Buckets.{Id, key_of}
@@ -14,8 +15,8 @@ use Rattle.lane_journals.specs.Meanings.{history}
 use Rattle.lane_journals.specs.Places.{Setting}
 use Rattle.lane_journals.specs.KeptJournals.{IsLegal}
 use Rattle.lane_journals.specs.declared.event.LaneEvent.{LaneEvent}
-use Rattle.journal_views.specs.Changes.{changes_of}
-use Rattle.journal_views.specs.JournalViews.{IsWrittenAs, held_entry, opening_view, FindRoom}
+use Rattle.lane_changes.specs.Changes.{changes_of}
+use Rattle.journal_views.specs.JournalViews.{IsWrittenAs, held_entry, FindRoom}
 
 -- a lane with a prefix of its journal
 pub record Front : Type 0 where
@@ -41,7 +42,7 @@ AreFronts (f ∷ fs) = IsFront f × ((key : ℕ) → has_key (f.setting).lane ke
 
 -- the view of the changes that the prefix gives
 abbrev pub seen_at : Types → Front → Seen
-seen_at types f = record { lane = (f.setting).lane; view = view_after (opening_view types) (changes_of f.journal) }
+seen_at types f = record { lane = (f.setting).lane; view = view_after (opening types) (changes_of f.journal) }
 
 abbrev pub one_if : Bool → ℕ
 one_if t = cond t 1 0

@@ -1,22 +1,22 @@
 -- What a view has, read off a journal alone: of each node its version, whether it is stopped, its region, and the
 -- documents of its store that lie there.
-use Rattle.std.specs.Prelude.{◌≡◌, ◌<◌, ℕ, zero, suc, Bool, Contains, List, [], ◌∷◌, length, Option, None, Some, option_map, if◌then◌else◌}
+use Rattle.std.specs.Prelude.{◌≡◌, ◌==◌, ◌<◌, ℕ, Bool, Contains, List, [], ◌∷◌, length, Option, None, Some, option_map, if◌then◌else◌}
 use Rattle.doc_types.specs.SchemaCodes.{Types}
 use Rattle.documents.specs.Fields.{Contents}
 use Rattle.documents.specs.declared.entry.Entry.{Entry}
 use Rattle.bucket_ids.specs.Buckets.{Low}
 use Rattle.global_ids.specs.Keys.{key_of}
 use Rattle.document_rows.specs.Rows.{fitted, document_of}
-use Rattle.lane_views.specs.Views.{NodeView, View, new_node, in_regions, node_at}
-use Rattle.lane_views.specs.Shown.{shown}
+use Rattle.view_changes.specs.Views.{NodeView, View, in_regions, node_at}
+use Rattle.view_changes.specs.Shown.{shown}
 use Rattle.lane_journals.specs.Stamps.{Stamp}
 use Rattle.lane_journals.specs.Buckets.{Id}
-use Rattle.lane_journals.specs.Readers.{version, stopped, store}
+use Rattle.lane_journals.specs.Readers.{or_else, only_if, version, stopped, store}
 use Rattle.lane_journals.specs.Meanings.{entry_at, history}
 use Rattle.lane_journals.specs.declared.event.LaneEvent.{LaneEvent}
 use Rattle.lane_journals.specs.declared.event.LaneEvent.TheVariants.{Wrote}
 use Rattle.lane_keeping.specs.NodeKeeping.{regions}
-use Rattle.journal_views.specs.Changes.{prefix_with}
+use Rattle.lane_changes.specs.Changes.{changes_of}
 
 -- ---- what is read
 
@@ -50,6 +50,11 @@ view_of types J n = record {
   document = λ id. if in_regions (regions n (history J)) (key_of id) then shown types id (held_entry n id J) else None;
 }
 
+-- the shortest prefix of the journal that has so many changes
+abbrev pub prefix_with : ℕ → List LaneEvent → Option (List LaneEvent)
+prefix_with g [] = only_if (0 == g) []
+prefix_with g (e ∷ J) = or_else (prefix_with g J) (only_if (length (changes_of (e ∷ J)) == g) (e ∷ J))
+
 -- the view of the shortest prefix that has so many changes
 abbrev pub view_at : Types → ℕ → List LaneEvent → Option (ℕ → NodeRead)
 view_at types g J = option_map (view_of types) (prefix_with g J)
@@ -76,16 +81,6 @@ pub record HasRead (x : NodeRead) (n : NodeView) : Type 0 where
 pub record Shows (read : ℕ → NodeRead) (v : View) : Type 0 where
   pub many : length v.nodes ≡ 32
   pub nodes : (n : ℕ) → n < 32 → HasRead (read n) (node_at n v.nodes)
-
--- ---- where views begin
-
-abbrev pub new_nodes : ℕ → List NodeView
-new_nodes zero = []
-new_nodes (suc k) = new_node ∷ new_nodes k
-
--- nothing was heard of 32 nodes
-abbrev pub opening_view : Types → View
-opening_view types = record { types = types; nodes = new_nodes 32; generation = 0 }
 
 -- ---- how many entries there are
 

@@ -1,8 +1,5 @@
--- `Deliveries` says what nodes keep, delivery by delivery, `Changes` which changes of a view the events give,
--- `JournalViews` what a view has, read off a journal, `Telling` which changes a node of the code tells, and `Fronts`
--- what a search sees of prefixes of some lanes' journals.
-pub mod Deliveries
-pub mod Changes
+-- `JournalViews` says what a view has, read off a journal, `Fronts` what a search sees of prefixes of some lanes'
+-- journals, and `Searched` what it answers of what was read.
 pub mod JournalViews
-pub mod Telling
 pub mod Fronts
+pub mod Searched

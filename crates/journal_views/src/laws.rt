@@ -4,12 +4,10 @@ ghost use Rattle.std.specs.Prelude.{◌≡◌, ◌↔◌, ◌<◌, ◌≤◌, �
 ghost use Rattle.doc_types.specs.SchemaCodes.{Types};
 ghost use Rattle.bucket_ids.specs.Buckets.{IsBucket};
 ghost use Rattle.global_ids.specs.Keys.{key_of};
-ghost use Rattle.lane_views.specs.Views.{in_regions, view_after};
-ghost use Rattle.lane_views.specs.Kept.{IsView};
+ghost use Rattle.view_changes.specs.Views.{View, in_regions, view_after};
+ghost use Rattle.view_changes.specs.Opening.{opening};
+ghost use Rattle.view_changes.specs.Kept.{IsView};
 ghost use Rattle.search_laws.specs.Searches.{LieIn, AreLanes, times_counted, covered};
-ghost use Rattle.messages.specs.declared.message.Message.{Message};
-ghost use Rattle.messages.specs.declared.reply.Reply.{Reply};
-ghost use Rattle.service_layer.specs.Nodes.{Node};
 ghost use Rattle.lane_journals.specs.Stamps.{Stamp};
 ghost use Rattle.lane_journals.specs.Buckets.{Id};
 ghost use Rattle.lane_journals.specs.Readers.{wrote, version, store};
@@ -19,20 +17,19 @@ ghost use Rattle.lane_journals.specs.Places.{Setting};
 ghost use Rattle.lane_journals.specs.KeptJournals.{IsLegal};
 ghost use Rattle.lane_journals.specs.declared.event.LaneEvent.{LaneEvent};
 ghost use Rattle.lane_durability.specs.Laws.{InAllKept};
-ghost use Rattle.lane_keeping.specs.NodeKeeping.{regions, NodeKeeps};
-ghost use Rattle.lane_keeping.specs.Flights.{IsInFlight};
-ghost use Rattle.lane_keeping.specs.Replaying.{delivered};
-ghost use Rattle.journal_views.specs.Deliveries.{keeping};
-ghost use Rattle.journal_views.specs.Telling.{kept_of, changes_taken};
-ghost use Rattle.journal_views.specs.Changes.{changes_of};
-ghost use Rattle.journal_views.specs.JournalViews.{IsWrittenAs, held_entry, NodeRead, view_of, view_at, body_in, AreFit, Shows, opening_view, written_entries, FindRoom};
+ghost use Rattle.lane_keeping.specs.NodeKeeping.{regions};
+ghost use Rattle.lane_changes.specs.Changes.{changes_of};
+ghost use Rattle.journal_views.specs.JournalViews.{IsWrittenAs, held_entry, NodeRead, view_of, view_at, body_in, AreFit, Shows, written_entries, FindRoom};
+ghost use Rattle.query_text.specs.declared.query.Query.{Query};
+ghost use Rattle.search_views.specs.Answers.{search_answer};
+ghost use Rattle.journal_views.specs.Searched.{LaneRead, IsAnswer, AreShown};
 ghost use Rattle.journal_views.specs.Fronts.{Front, AreFronts, seen_at, IsCountedAs};
 
 use global_ids::laws::keys_locate;
 use lane_durability::theorem::regions_count_once;
 use lane_keeping::node_laws::entries_are_written;
-use lane_views::laws::{deeds_are_shown, deeds_find_room, entries_find_room, views_keep};
 use search_laws::laws::searches_count_once;
+use view_changes::laws::{deeds_are_shown, deeds_find_room, entries_find_room, views_keep};
 
 /// What a view reads off a journal: a node's region has the keys of the Activates that it accepted at its version;
 /// what it holds of a document was written of that document; and where the documents that were written are fit, they
@@ -56,16 +53,16 @@ pub fn journals_are_read()
 /// the lane, and it counts its changes. A longer journal gives the same changes first.
 pub fn journals_are_shown()
     ensures shown { InAllKept (λ S J. (types : Types) → IsBucket S.lane → FindRoom J
-        → Shows (view_of types J) (view_after (opening_view types) (changes_of J))) }
+        → Shows (view_of types J) (view_after (opening types) (changes_of J))) }
     ensures fronts { InAllKept (λ S J. (types : Types) → IsBucket S.lane → FindRoom J
         → (g : ℕ) (read : ℕ → NodeRead) → view_at types g J ≡ Some read
-        → Shows read (view_after (opening_view types) (take g (changes_of J)))) }
+        → Shows read (view_after (opening types) (take g (changes_of J)))) }
     ensures view { InAllKept (λ S J. (types : Types) → IsBucket S.lane → FindRoom J
-        → IsView (view_after (opening_view types) (changes_of J))) }
+        → IsView (view_after (opening types) (changes_of J))) }
     ensures lane { InAllKept (λ S J. (types : Types) → IsBucket S.lane → FindRoom J
-        → LieIn S.lane (view_after (opening_view types) (changes_of J)).nodes) }
+        → LieIn S.lane (view_after (opening types) (changes_of J)).nodes) }
     ensures counted { (types : Types) (J : List LaneEvent)
-        → (view_after (opening_view types) (changes_of J)).generation ≡ min (length (changes_of J)) 18446744073709551615 }
+        → (view_after (opening types) (changes_of J)).generation ≡ min (length (changes_of J)) 18446744073709551615 }
     ensures grows { (N J : List LaneEvent) → take (length (changes_of J)) (changes_of (N ++ J)) ≡ changes_of J }
 {
     views_keep();
@@ -74,18 +71,6 @@ pub fn journals_are_shown()
     deeds_find_room();
     entries_are_written();
     regions_count_once();
-}
-
-/// In a lane that keeps its journal a node keeps, as far as a view shows it, what its deliveries have it keep; and as
-/// it takes a message that is on its way, with whatever reply, the changes that it tells are the next ones.
-pub fn nodes_tell_changes()
-    ensures kept { (S : Setting) (J : List LaneEvent) (n : ℕ) (x : Node) → IsLegal S J → NodeKeeps J n x
-        → keeping n J ≡ kept_of x }
-    ensures told { (S : Setting) (J : List LaneEvent) (number : ℕ) (m : Message) (x : Node) (r : Reply) → IsLegal S J
-        → IsInFlight J number m → NodeKeeps J m.receiver x
-        → changes_of (delivered number r ∷ J) ≡ changes_of J ++ changes_taken x m r }
-{
-    entries_are_written();
 }
 
 /// A search under one version, over a prefix of the journal of each lane, counts each document once at most; and
@@ -105,3 +90,10 @@ pub fn fronts_count_once()
     regions_count_once();
     keys_locate();
 }
+
+/// A search over views that show what was read of some lanes gives the answer of what was read. In which order a view
+/// has its documents counts for nothing.
+pub fn answers_are_of_what_is_read()
+    ensures { (q : Query) (w : ℕ) (reads : List LaneRead) (vs : List View) → AreShown reads vs
+        → IsAnswer q w reads (search_answer q w vs) }
+{}

@@ -24,7 +24,7 @@ use Rattle.lane_journals.specs.declared.event.LaneEvent.{LaneEvent}
 use Rattle.lane_journals.specs.declared.event.LaneEvent.TheVariants as event
 use Rattle.lane_keeping.specs.Replaying.{sending}
 use Rattle.lane_keeping.specs.Acting.{IsActing}
-use Rattle.round_keeping.specs.RoundKeeping.{KnowsRound}
+use Rattle.lane_keeping.specs.RoundKeeping.{KnowsRound}
 use Rattle.operation_keeping.specs.OperationKeeping.{beginning_of, IsUnderWay}
 use Rattle.operation_keeping.specs.Wants.{Adds, Wants, OpeningGives, RoundGives, BodyGives, NextGives, UnpreparedWants}
 

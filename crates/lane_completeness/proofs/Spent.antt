@@ -22,7 +22,7 @@ use Rattle.lane_journals.proofs.BucketLaws.{same_bucket-refl}
 use Rattle.lane_journals.proofs.Basics.{sent-stays, sent-cases, sent_before, returned-cases, returned-replied, replied-sent, first_reply-stays, number-fresh}
 use Rattle.lane_journals.proofs.Rows.{IsRound, IsRound-stays, isround-one, running-round, sent-round}
 use Rattle.lane_journals.proofs.Serials.{answer_of-parts}
-use Rattle.round_keeping.specs.RoundKeeping.{was_sent, is_apply, is_of, is_among_first}
+use Rattle.lane_keeping.specs.RoundKeeping.{was_sent, is_apply, is_of, is_among_first}
 use Rattle.lane_completeness.specs.Causes.{just_sent}
 use Rattle.operation_keeping.proofs.Sizes.{member-place}
 use Rattle.lane_completeness.proofs.Additions.{Ending}

@@ -96,7 +96,7 @@ module _ (x : Work) (j : Job) (k : IsWork x) (is : x.job ≡ Some j) (r : IsRead
       pub fit-work : ((u : Standing) → messages_left u ≤ 64) → (y : LaneState) (place : Option Job) (t : Standing) (origin : Origin) → IsBegun (plan_of origin j.operation j.stamp row.complete row.active x.state.rules.acks) t
           → KnowsOperation x.state.lane x.state.rules (Prepared j.line row.bucket row.complete ∷ journal_of x.state) j.distributor r.state j.line row.bucket None t
           → place ≡ Some (record j { phase = phase.Prepared t row.bucket false }) → y ≡ record x.state { journal = y.journal } → IsKept y
-          → journal_of y ≡ Prepared j.line row.bucket row.complete ∷ journal_of x.state → vec_len y.journal + 0 + x.state.spare ≤ vec_capacity y.journal
+          → journal_of y ≡ Prepared j.line row.bucket row.complete ∷ journal_of x.state → vec_len y.journal.events + 0 + x.state.spare ≤ vec_capacity y.journal.events
           → IsWork (record { state = y; drawn = x.drawn; places = x.places; has_room = x.has_room; job = place })
       fit-work few y place t origin begun operation put after kept grows room =
           let lane : y.lane ≡ x.state.lane = ap (λ (z : LaneState). z.lane) after in
@@ -131,4 +131,4 @@ module _ (x : Work) (j : Job) (k : IsWork x) (is : x.job ≡ Some j) (r : IsRead
             };
             lasts = (let much = r.lasts in omega (arith, much), (let much = r.lasts in let most = few t in omega (arith, much, most)));
           }))
-          (finds-noted (place_of x.places) x.state.journal.items (Prepared j.line row.bucket row.complete) refl k.finds)
+          (finds-noted (place_of x.places) x.state.journal.events.items (Prepared j.line row.bucket row.complete) refl k.finds)

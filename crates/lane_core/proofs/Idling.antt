@@ -15,7 +15,7 @@ use Rattle.lane_journals.specs.declared.event.LaneEvent.{LaneEvent}
 use Rattle.lane_journals.specs.declared.event.LaneEvent.TheVariants.{Published, Heard, Stopped, Started}
 use Rattle.lane_journals.proofs.Basics.{held-published}
 use Rattle.lane_keeping.specs.LaneKeeping.{IsIdle}
-use Rattle.operation_keeping.specs.OperationKeeping.{IsFresh}
+use Rattle.lane_keeping.specs.Lines.{IsFresh}
 use Rattle.lane_journals.specs.Facts.{AllClosed}
 use Rattle.lane_carriage.specs.Carriage.{IsCarried, Other}
 use Rattle.lane_keeping.specs.Tidings.{is_older, heard_next, announced, stopped_next, started_next}

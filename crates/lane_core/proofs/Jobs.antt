@@ -192,7 +192,7 @@ onward x y e q = record {
   quiet = q;
 }
 
-pub work-on : (x : Work) (y : LaneState) (places : StampPlaces) (j k : Job) → IsWork x → x.job ≡ Some j → IsOnward x.state y → IsKept y → HasRoom 0 y → IsJob y.lane y.rules (journal_of y) k → PhaseLasts k.left k.phase → FindsEntries (place_of places) y.journal.items
+pub work-on : (x : Work) (y : LaneState) (places : StampPlaces) (j k : Job) → IsWork x → x.job ≡ Some j → IsOnward x.state y → IsKept y → HasRoom 0 y → IsJob y.lane y.rules (journal_of y) k → PhaseLasts k.left k.phase → FindsEntries (place_of places) y.journal.events.items
     → IsWork (record { state = y; drawn = x.drawn; places = places; has_room = x.has_room; job = Some k })
 work-on x y places j k w is on kept room job lasts finds = record {
   set_up = rw (on.lane, on.rules) w.set_up;
@@ -299,7 +299,7 @@ module _ (x : Work) (y : LaneState) (j : Job) (t : Standing) (row : Low) (writte
   lasts : PhaseLasts (j.left - 1) p
   lasts = let le = (lasting).1 in let one = some in lasts-by y j.line row t (j.left - 1) p a (omega (arith, le, one)) comes
 
-  pub keeps-stepped : HasRoom 0 y → (places : StampPlaces) → FindsEntries (place_of places) y.journal.items → IsWork (record { state = y; drawn = x.drawn; places = places; has_room = x.has_room; job = Some (record j { left = j.left - 1; phase = p }) })
+  pub keeps-stepped : HasRoom 0 y → (places : StampPlaces) → FindsEntries (place_of places) y.journal.events.items → IsWork (record { state = y; drawn = x.drawn; places = places; has_room = x.has_room; job = Some (record j { left = j.left - 1; phase = p }) })
   keeps-stepped room places finds = work-on x y places j (record j { left = j.left - 1; phase = p }) w is on kept room job lasts finds
 
   pub advances-stepped : (places : StampPlaces) (given now planned : List Fate) (takes : Bool) → IsRun x.state.lane x.state.rules j.line t.plan.operation (journal_of x.state) (journal_of y)

@@ -5,7 +5,7 @@ use Rattle.messages.specs.declared.outcome.Outcome.{Outcome}
 use Rattle.lane_journals.specs.Meanings.{history}
 use Rattle.lane_journals.specs.declared.event.LaneEvent.{LaneEvent}
 use Rattle.lane_journals.specs.declared.event.LaneEvent.TheVariants.{Refused}
-use Rattle.operation_keeping.specs.OperationKeeping.{IsFresh}
+use Rattle.lane_keeping.specs.Lines.{IsFresh}
 use Rattle.lane_keeping.specs.Tidings.{heard_next}
 use Rattle.lane_lives.specs.LaneValues.{LaneValue, IsLaneValue, Begins, BeginsAtOwner, Refuses, IsAt}
 use Rattle.lane_lives.specs.declared.progress.Progress.TheVariants as progress

@@ -175,7 +175,7 @@ module _ (x : Work) (j : Job) (w : IsWork x) (is : x.job ≡ Some j) (begun : ju
 
     pub keeps-searched : IsKept y → HasRoom 0 y → AddsNoEntry (journal_of x.state) (journal_of y) → IsWork after
     keeps-searched kept room adds = subst (λ (o : Option Job). IsWork (record { state = y; drawn = x.drawn; places = x.places; has_room = x.has_room; job = spent o })) (sym is)
-        (work-on x y x.places j (record j { left = j.left - 1; phase = phase.Short }) w is on kept room job tt (finds-grown (place_of x.places) x.state.journal.items y.journal.items adds w.finds))
+        (work-on x y x.places j (record j { left = j.left - 1; phase = phase.Short }) w is on kept room job tt (finds-grown (place_of x.places) x.state.journal.events.items y.journal.events.items adds w.finds))
 
     -- ---- what it comes to
 

@@ -12,7 +12,7 @@ use Rattle.lane_journals.specs.Meanings.{history}
 use Rattle.lane_journals.specs.Places.{told}
 use Rattle.lane_journals.specs.declared.event.LaneEvent.{LaneEvent}
 use Rattle.lane_keeping.specs.LaneKeeping.{setting_of}
-use Rattle.operation_keeping.specs.OperationKeeping.{IsFresh}
+use Rattle.lane_keeping.specs.Lines.{IsFresh}
 use Rattle.lane_keeping.specs.Tidings.{announced, stopped_next, started_next, last_state}
 use Rattle.lane_lives.specs.LaneValues.{LaneValue, IsLaneValue}
 use Rattle.lane_lives.specs.declared.setting.Setting.{Setting}

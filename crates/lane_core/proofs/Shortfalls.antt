@@ -54,7 +54,7 @@ work-over x o t n k f = by_job x.job refl k.job_is f
           };
           lasts = tt;
         })
-        (finds-still (place_of x.places) x.state.journal.items k.finds))
+        (finds-still (place_of x.places) x.state.journal.events.items k.finds))
 
 pub over-under : (q : Option Job) (o t : Outcome) (n : ℕ) → under_way_in (with_phase (Over o t n) q) ≡ is_over (under_way_in q)
 over-under None o t n = refl

@@ -100,7 +100,7 @@ upkept-short x y given now planned takes idle (inr m) = (ap under_way_in idle, i
 
 -- ---- the lane's value behind its view
 
-pub lane-told : (x y : Work) (given now p q : List Fate) (t u : Bool) (v : LaneValue) (answer result : Upkeep) (from : ℕ) → value_of x given p t ≡ v → q ≡ p → u ≡ t → x.job ≡ None → from ≡ length x.state.journal.items → MaintainsBy x y given now → OpensBy x y → RestsBy x y now
+pub lane-told : (x y : Work) (given now p q : List Fate) (t u : Bool) (v : LaneValue) (answer result : Upkeep) (from : ℕ) → value_of x given p t ≡ v → q ≡ p → u ≡ t → x.job ≡ None → from ≡ length x.state.journal.events.items → MaintainsBy x y given now → OpensBy x y → RestsBy x y now
     → (answer ≡ NoMemory) ⊎ IsCause now from (journal_of y.state) answer → result ≡ answer → IsUpkept v (value_of y now q u) result
 lane-told x y given now p q t u v answer result from view planned kind idle at m opens rests told is =
     subst (λ (o : LaneValue). IsUpkept o (value_of y now q u) result) view
@@ -108,7 +108,7 @@ lane-told x y given now p q t u v answer result from view planned kind idle at m
     (subst (λ (a : List Fate). IsUpkept (value_of x given p t) (value_of y now a u) answer) (sym planned)
     (subst (λ (a : Bool). IsUpkept (value_of x given p t) (value_of y now p a) answer) (sym kind)
     (upkept-told (value_of x given p t) (value_of y now p t) answer (ap under_way_in idle) (m p t) opens rests
-    (cause-of x.state.journal.items (journal_of y.state) now answer (subst (λ (n : ℕ). (answer ≡ NoMemory) ⊎ IsCause now n (journal_of y.state) answer) at told))))))
+    (cause-of x.state.journal.events.items (journal_of y.state) now answer (subst (λ (n : ℕ). (answer ≡ NoMemory) ⊎ IsCause now n (journal_of y.state) answer) at told))))))
 
 pub lane-short : (x y : Work) (given now p q : List Fate) (t u : Bool) (v : LaneValue) (result : Upkeep) → value_of x given p t ≡ v → q ≡ p → u ≡ t → x.job ≡ None → MayMaintain x y given now → result ≡ NoMemory → IsUpkept v (value_of y now q u) result
 lane-short x y given now p q t u v result view planned kind idle m is =

@@ -95,7 +95,7 @@ work-passed x y o now w idle leaves b on =
       job_is = subst (λ (j : Option Job). JobKeeps y.lane y.rules (journal_of y) j) (sym idle)
           (all-closed (journal_of x.state) (journal_of y) leaves.begun leaves.ended (subst (λ (j : Option Job). JobKeeps x.state.lane x.state.rules (journal_of x.state) j) idle w.job_is));
       lasts = subst JobLasts (sym idle) tt;
-      finds = finds-grown _ x.state.journal.items y.journal.items (adds-span o.distributor (o.state).version (journal_of x.state) (journal_of y) on.grows) w.finds;
+      finds = finds-grown _ x.state.journal.events.items y.journal.events.items (adds-span o.distributor (o.state).version (journal_of x.state) (journal_of y) on.grows) w.finds;
     }
 
 -- between two lines the owner may make a pass

@@ -27,7 +27,8 @@ use Rattle.lane_journals.specs.declared.event.LaneEvent.TheVariants.{Begun, Clos
 use Rattle.lane_keeping.specs.LaneKeeping.{Holds, PartKeeps}
 use Rattle.lane_keeping.specs.Acting.{IsActing}
 use Rattle.lane_keeping.proofs.Acting.{one-owner}
-use Rattle.operation_keeping.specs.OperationKeeping.{KnowsPreparing, IsPlainGet}
+use Rattle.operation_keeping.specs.OperationKeeping.{KnowsPreparing}
+use Rattle.op_machine.specs.Plans.{IsPlainGet}
 use Rattle.lane_journals.specs.Facts.{AllClosed}
 use Rattle.lane_core.specs.declared.work.Job.{Job}
 use Rattle.lane_core.specs.declared.work.Work.{Work}
@@ -79,7 +80,7 @@ work-by w J set_up kept room spare parted resting is lines finds =
       no_round = k.no_round;
       job_is = k.job_is;
       lasts = k.lasts;
-      finds = subst (λ (xs : List LaneEvent). FindsEntries (place_of w.places) xs) (ap past (sym is) ∙ past-past w.state.journal.items) finds;
+      finds = subst (λ (xs : List LaneEvent). FindsEntries (place_of w.places) xs) (ap past (sym is) ∙ past-past w.state.journal.events.items) finds;
     }
 
 -- the value with another journal and another operation
@@ -176,7 +177,7 @@ counts-begun J line d v id (Some s) old new next is after w = after w ∙ by_tes
 -- ---- an event that is noted, with room for more of them kept free
 
 pub work-noted : (x : Work) (y : LaneState) (J : List LaneEvent) (counts : BTreeMap ℕ ℕ) (extra : ℕ) (job : Option Job) → IsWork x → y ≡ record x.state { journal = y.journal } → journal_of y ≡ J → IsKept y
-    → vec_len y.journal + (x.state.spare + extra) ≤ vec_capacity y.journal → x.state.spare + extra ≡ room_for x.has_room + one_if (is_some job)
+    → vec_len y.journal.events + (x.state.spare + extra) ≤ vec_capacity y.journal.events → x.state.spare + extra ≡ room_for x.has_room + one_if (is_some job)
     → KeepsLines x.state.lane x.state.rules J x.state.newest (count_of counts) job → FindsEntries (place_of x.places) (past J)
     → IsWork (record { state = record y { spare = y.spare + extra }; drawn = counts; places = x.places; has_room = x.has_room; job = job })
 work-noted x y J counts extra job k after is kept room spare lines finds =
@@ -205,18 +206,18 @@ work-between x y J room k idle lane rules is kept resting free spare parted line
 
 -- the close of the operation under way
 pub work-closed : (x : Work) (y : LaneState) (rest : Option Job) (j : Job) (line : ℕ) (o : Outcome) → IsWork x → x.job ≡ Some j → rest ≡ None → y.lane ≡ x.state.lane → y.rules ≡ x.state.rules → y.newest ≡ x.state.newest
-    → y.spare ≡ x.state.spare - 1 → vec_len y.parts ≡ vec_len x.state.parts → IsKept y → AreResting y → journal_of y ≡ Closed line o ∷ journal_of x.state → vec_len y.journal ≡ vec_len x.state.journal + 1 → vec_capacity x.state.journal ≤ vec_capacity y.journal
+    → y.spare ≡ x.state.spare - 1 → vec_len y.parts ≡ vec_len x.state.parts → IsKept y → AreResting y → journal_of y ≡ Closed line o ∷ journal_of x.state → vec_len y.journal.events ≡ vec_len x.state.journal.events + 1 → vec_capacity x.state.journal.events ≤ vec_capacity y.journal.events
     → AllClosed (history (Closed line o ∷ journal_of x.state)) → IsWork (record { state = y; drawn = x.drawn; places = x.places; has_room = x.has_room; job = rest })
 work-closed x y rest j line o k is none lane rules newest spare parted kept resting grows len cap closed =
     let one : one_if (is_some x.job) ≡ 1 = ap (λ (z : Option Job). one_if (is_some z)) is in
     let all : x.state.spare ≡ room_for x.has_room + one_if (is_some x.job) = k.spare_is in
-    let room : vec_len x.state.journal + 0 + x.state.spare ≤ vec_capacity x.state.journal = k.room in
+    let room : vec_len x.state.journal.events + 0 + x.state.spare ≤ vec_capacity x.state.journal.events = k.room in
     let left : y.spare ≡ room_for x.has_room = omega (arith, one, all, spare) in
     work-by (record { state = y; drawn = x.drawn; places = x.places; has_room = x.has_room; job = rest }) (Closed line o ∷ journal_of x.state)
     (rw (lane, rules) k.set_up) kept (omega (arith, one, all, room, left, len, cap))
     (rw none (let e = left in omega (arith, e))) (λ made. let all = k.parted made in omega (arith, all, parted)) resting grows
     (rw (lane, rules, newest, none) (record { newest_is = k.newest_is; counts_are = k.counts_are; no_round = k.no_round; job_is = closed; lasts = tt }))
-    (finds-noted (place_of x.places) x.state.journal.items (Closed line o) refl k.finds)
+    (finds-noted (place_of x.places) x.state.journal.events.items (Closed line o) refl k.finds)
 
 -- ---- a lane in which nothing happened
 

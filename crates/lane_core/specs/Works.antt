@@ -27,7 +27,8 @@ use Rattle.lane_journals.specs.declared.event.LaneEvent.TheVariants as event
 use Rattle.lane_journals.specs.declared.event.LaneEvent.TheVariants.{Closed}
 use Rattle.lane_keeping.specs.LaneKeeping.{setting_of}
 use Rattle.lane_keeping.specs.Acting.{IsActing}
-use Rattle.operation_keeping.specs.OperationKeeping.{IsUnderWay, IsPlainGet}
+use Rattle.operation_keeping.specs.OperationKeeping.{IsUnderWay}
+use Rattle.op_machine.specs.Plans.{IsPlainGet}
 use Rattle.lane_journals.specs.Facts.{AllClosed}
 use Rattle.operation_keeping.specs.Left.{messages_left}
 use Rattle.lane_core.specs.declared.work.Job.{Job}
@@ -201,4 +202,4 @@ pub record IsWork (w : Work) : Type 0 where
   pub no_round : (v : ℕ) (b : Low) → running v b (history (journal_of w.state)) ≡ false
   pub job_is : JobKeeps w.state.lane w.state.rules (journal_of w.state) w.job
   pub lasts : JobLasts w.job
-  pub finds : FindsEntries (place_of w.places) w.state.journal.items
+  pub finds : FindsEntries (place_of w.places) w.state.journal.events.items

@@ -13,11 +13,12 @@ ghost use Rattle.lane_journals.specs.KeptJournals.{past};
 ghost use Rattle.lane_journals.specs.declared.event.LaneEvent.TheVariants as event;
 ghost use Rattle.lane_keeping.specs.NodeKeeping.{NodeKeeps};
 ghost use Rattle.lane_keeping.specs.LaneKeeping.{setting_of};
-ghost use Rattle.operation_keeping.specs.OperationKeeping.{IsFresh, IsPlainGet};
+ghost use Rattle.lane_keeping.specs.Lines.{IsFresh};
+ghost use Rattle.op_machine.specs.Plans.{IsPlainGet};
 ghost use Rattle.lane_keeping.specs.Tidings.{heard_next, announced, stopped_next, started_next, last_state};
 ghost use Rattle.lane_lives.specs.LaneValues.{LaneValue, new_value, IsLaneValue, IsBeginning, BeginsAtOwner, IsAt, MayClose, closed_by};
 ghost use Rattle.lane_core.specs.Advancing.{IsAdvance, IsOutcome};
-ghost use Rattle.lane_states.specs.LaneStates.{IsSetUp};
+ghost use Rattle.lane_states.specs.LaneStates.{IsSetUp, change_count};
 ghost use Rattle.lane_keeping.specs.Shown.{node_or_new, HasEntries, HasRows};
 ghost use Rattle.lane_lives.specs.Upkept.{IsUpkept};
 ghost use Rattle.lane_lives.specs.declared.progress.Progress.TheVariants as progress;
@@ -250,10 +251,12 @@ impl<C: Carrier + Drop> Lane<C> {
         if let Some(job) = &self.work.job {
             return Upkeep::Held { by: job.line };
         }
-        let from = self.work.state.journal.len();
+        let from = self.work.state.journal.events.len();
         let sent = self.work.state.last;
         match self.work.upkeep(&mut self.carrier, self.owner.as_ref()) {
-            Ok(()) => self.carrier.tell(&self.work.state.journal, from, sent),
+            Ok(()) => self
+                .carrier
+                .tell(&self.work.state.journal.events, from, sent),
             Err(NoMemory) => Upkeep::NoMemory,
         }
     }
@@ -279,14 +282,21 @@ impl<C: Carrier + Drop> Lane<C> {
         ensures events { past result.now ≡ self.now.journal }
         ensures lane { IsLaneValue self.now }
     {
-        &self.work.state.journal
+        &self.work.state.journal.events
+    }
+
+    /// How many changes of what a search sees its events give; at 2^64 - 1 so many or more.
+    pub fn change_count(&self) -> u64
+        ensures { result ≡ change_count self.now.journal }
+    {
+        self.work.state.change_count()
     }
 
     /// The entry that was written with a stamp.
     pub fn entry(&self, stamp: Stamp) -> Option<&Entry>
         ensures { option_copied result ≡ entry_at stamp self.now.journal }
     {
-        entry_in(&self.work.places, &self.work.state.journal, stamp)
+        entry_in(&self.work.places, &self.work.state.journal.events, stamp)
     }
 
     /// A node's part, which is what the journal says of it; one that isn't there took no message.

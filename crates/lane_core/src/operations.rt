@@ -6,7 +6,8 @@ ghost use Rattle.op_machine.specs.Plans.{is_get, IsOwn, IsPlan, plan_of};
 ghost use Rattle.lane_journals.specs.Readers.{held, stamps_of};
 ghost use Rattle.lane_journals.specs.Meanings.{history};
 ghost use Rattle.lane_keeping.specs.Acting.{IsActing};
-ghost use Rattle.operation_keeping.specs.OperationKeeping.{IsFresh, IsPlainGet};
+ghost use Rattle.lane_keeping.specs.Lines.{IsFresh};
+ghost use Rattle.op_machine.specs.Plans.{IsPlainGet};
 ghost use Rattle.lane_states.specs.LaneStates.{journal_of, part_of, HasRoom, StaysCarried, IsCarriedBy, IsKept};
 ghost use Rattle.lane_lives.specs.LaneValues.{drawn, Begins, BeginsAtOwner, Refuses, IsBeginning};
 ghost use Rattle.lane_keeping.specs.Tidings.{last_state};
@@ -105,7 +106,7 @@ impl Work {
     /// The stamp that an operation draws under a version; a get draws none. Each stamp has an event.
     fn next_stamp(&self, kind: &OpKind, version: u32) -> Option<Stamp>
         requires keeps { IsWork self.now }
-        requires room { vec_len self.now.state.journal + 1 ≤ vec_capacity self.now.state.journal }
+        requires room { vec_len self.now.state.journal.events + 1 ≤ vec_capacity self.now.state.journal.events }
         ensures { result ≡ drawn kind.now version (journal_of self.now.state) }
     {
         if is_get(kind) {
@@ -231,13 +232,16 @@ impl Work {
         ensures room { OnOk result (HasRoom events self.new.state) }
         ensures counted { OnOk result (IsSome (tree.get nat_cmp self.new.drawn version)) }
         ensures same { SameValue self.old self.new }
-        ensures items { self.new.state.journal.items ≡ self.old.state.journal.items }
+        ensures items { self.new.state.journal.events.items ≡ self.old.state.journal.events.items }
         ensures after { self.new ≡ record self.old {
           state = record self.old.state { journal = self.new.state.journal };
           drawn = self.new.drawn;
         } }
     {
-        self.state.journal.reserve(events + self.state.spare)?;
+        self.state
+            .journal
+            .events
+            .reserve(events + self.state.spare)?;
         make_count(&mut self.drawn, version)
     }
 
@@ -314,7 +318,7 @@ impl Work {
     {
         lines_are_refused();
         let version = state.version();
-        self.state.journal.reserve(1 + self.state.spare)?;
+        self.state.journal.events.reserve(1 + self.state.spare)?;
         self.state.note(LaneEvent::Refused {
             line,
             distributor: via,
@@ -481,10 +485,10 @@ fn step_phase<C: Carrier>(
     requires carried { IsCarriedBy state.old (C.given carrier.old) }
     requires stands { OfPrepared (StandsIn state.old line) phase.old }
     requires key { OfPrepared (λ row written machine. key ≡ key_of machine.plan.operation.id) phase.old }
-    requires finds { FindsEntries (place_of places.old) state.old.journal.items }
+    requires finds { FindsEntries (place_of places.old) state.old.journal.events.items }
     ensures keeps { IsKept state.new }
     ensures spare { HasRoom 0 state.new }
-    ensures finds { FindsEntries (place_of places.new) state.new.journal.items }
+    ensures finds { FindsEntries (place_of places.new) state.new.journal.events.items }
     ensures carried { IsCarriedBy state.new (C.given carrier.new) }
     ensures planned { C.planned carrier.new ≡ C.planned carrier.old }
     ensures kind { C.takes_plans carrier.new ≡ C.takes_plans carrier.old }
@@ -530,10 +534,10 @@ fn step_job<C: Carrier>(
     requires stands { OfPrepared (StandsIn state.old job.old.line) job.old.phase }
     requires key { OfPrepared (λ row written machine. job.old.key ≡ key_of machine.plan.operation.id) job.old.phase }
     requires left { 1 ≤ job.old.left }
-    requires finds { FindsEntries (place_of places.old) state.old.journal.items }
+    requires finds { FindsEntries (place_of places.old) state.old.journal.events.items }
     ensures keeps { IsKept state.new }
     ensures spare { HasRoom 0 state.new }
-    ensures finds { FindsEntries (place_of places.new) state.new.journal.items }
+    ensures finds { FindsEntries (place_of places.new) state.new.journal.events.items }
     ensures carried { IsCarriedBy state.new (C.given carrier.new) }
     ensures planned { C.planned carrier.new ≡ C.planned carrier.old }
     ensures kind { C.takes_plans carrier.new ≡ C.takes_plans carrier.old }
@@ -645,7 +649,7 @@ impl Work {
             sender: job.distributor,
         };
         let machine = machine_of(self.state.alloc, job, origin, &row, self.state.rules.acks)?;
-        self.state.journal.reserve(1 + self.state.spare)?;
+        self.state.journal.events.reserve(1 + self.state.spare)?;
         self.state.note(LaneEvent::Prepared {
             line,
             row: row.bucket,

@@ -197,7 +197,7 @@ impl Work {
             return Ok(());
         }
         self.need_part(31)?;
-        self.state.journal.reserve(33 + self.state.spare)?;
+        self.state.journal.events.reserve(33 + self.state.spare)?;
         self.state.spare += 33;
         self.has_room = true;
         Ok(())

@@ -4,7 +4,7 @@ use mathlib.Core.Bool.{true≢false}
 use Rattle.std.proofs.lemmas.Bool.Decides.{nat_tests}
 use Rattle.std.specs.List.{list_any}
 use Rattle.bucket_ids.specs.Buckets as ids
-use Rattle.service_layer.specs.Nodes.{with_region}
+use Rattle.view_changes.specs.Shown.{with_region}
 use Rattle.lane_journals.specs.Buckets.{Bucket, contains}
 use Rattle.lane_journals.specs.Events.{Body, Ask, Read, ReadDoc, Store, Apply, Delete, Split, Join, Ready, Activate, Reply, Answer, Newer, NoBucket, Differs, NoMemory, Event, Delivered}
 use Rattle.lane_journals.specs.Readers.{Journal, Message, sent, Accepted, is_answer, version}

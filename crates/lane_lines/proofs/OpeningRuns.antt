@@ -31,7 +31,8 @@ use Rattle.lane_keeping.specs.Replaying.{sending}
 use Rattle.lane_keeping.specs.LaneKeeping.{setting_of}
 use Rattle.lane_keeping.specs.Acting.{IsNoHearing}
 use Rattle.lane_keeping.proofs.Owners.{acting-stays}
-use Rattle.operation_keeping.specs.OperationKeeping.{IsOfNoLine, WasShort}
+use Rattle.operation_keeping.specs.OperationKeeping.{WasShort}
+use Rattle.lane_keeping.specs.Lines.{IsOfNoLine}
 use Rattle.operation_keeping.proofs.Lines.{preparing-waits}
 use Rattle.operation_keeping.proofs.Messages.{short-on, short-cases}
 use Rattle.operation_keeping.specs.Wants.{WasAskedIn, is_ask}

@@ -25,7 +25,7 @@ use Rattle.lane_journals.specs.declared.event.LaneEvent.TheVariants.{Delivered, 
 use Rattle.lane_keeping.specs.Replaying.{sending}
 use Rattle.lane_keeping.specs.Acting.{IsActing, IsKnownRow}
 use Rattle.lane_keeping.specs.LaneKeeping.{PartKeeps}
-use Rattle.round_keeping.specs.RoundKeeping.{KnowsRound}
+use Rattle.lane_keeping.specs.RoundKeeping.{KnowsRound}
 use Rattle.operation_keeping.specs.OperationKeeping.{IsUnderWay}
 use Rattle.operation_keeping.specs.Wants.{Adds, Wants, NoRoundSince, RoundGives, IsRun, Same, More, IsCutRun}
 use Rattle.lane_carriage.specs.Carrying.{met_at}

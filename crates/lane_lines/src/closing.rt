@@ -6,7 +6,8 @@ ghost use Rattle.lane_lines.specs.Closing.{MayAcknowledge, MayEndWith};
 
 use lane_journals::LaneEvent;
 use lane_keeping::laws::{marks_are_kept, owners_act};
-use lane_states::lane_state::{LaneState, push_within};
+use lane_states::event_log::push_within;
+use lane_states::lane_state::LaneState;
 use messages::Outcome;
 use node_sets::NodeSet;
 use stamps::Stamp;
@@ -22,20 +23,20 @@ pub fn acknowledge(
 )
     requires keeps { IsKept lane.old }
     requires may { MayAcknowledge lane.old line distributor key stamp answered }
-    requires room { vec_len lane.old.journal + 1 ≤ vec_capacity lane.old.journal }
+    requires room { vec_len lane.old.journal.events + 1 ≤ vec_capacity lane.old.journal.events }
     ensures keeps { IsKept lane.new }
     ensures grows { journal_of lane.new ≡ event.Closed line (outcome.Acked stamp) ∷ journal_of lane.old }
     ensures after { lane.new ≡ record lane.old { journal = lane.new.journal; parts = lane.new.parts } }
     ensures parts { vec_len lane.new.parts ≡ vec_len lane.old.parts }
     ensures resting { AreResting lane.old → AreResting lane.new }
-    ensures len { vec_len lane.new.journal ≡ vec_len lane.old.journal + 1 }
-    ensures capacity { vec_capacity lane.old.journal ≤ vec_capacity lane.new.journal }
+    ensures len { vec_len lane.new.journal.events ≡ vec_len lane.old.journal.events + 1 }
+    ensures capacity { vec_capacity lane.old.journal.events ≤ vec_capacity lane.new.journal.events }
 {
     owners_act();
     marks_are_kept();
     lane.parts[usize::from(distributor)].closed(key, answered);
     push_within(
-        &mut lane.journal,
+        &mut lane.journal.events,
         LaneEvent::Closed {
             line,
             outcome: Outcome::Acked { stamp },
@@ -54,14 +55,14 @@ pub fn note_end(
 )
     requires keeps { IsKept lane.old }
     requires may { MayEndWith lane.old line distributor key outcome answered }
-    requires room { vec_len lane.old.journal + 1 ≤ vec_capacity lane.old.journal }
+    requires room { vec_len lane.old.journal.events + 1 ≤ vec_capacity lane.old.journal.events }
     ensures keeps { IsKept lane.new }
     ensures grows { journal_of lane.new ≡ event.Closed line outcome ∷ journal_of lane.old }
     ensures after { lane.new ≡ record lane.old { journal = lane.new.journal; parts = lane.new.parts } }
     ensures parts { vec_len lane.new.parts ≡ vec_len lane.old.parts }
     ensures resting { AreResting lane.old → AreResting lane.new }
-    ensures len { vec_len lane.new.journal ≡ vec_len lane.old.journal + 1 }
-    ensures capacity { vec_capacity lane.old.journal ≤ vec_capacity lane.new.journal }
+    ensures len { vec_len lane.new.journal.events ≡ vec_len lane.old.journal.events + 1 }
+    ensures capacity { vec_capacity lane.old.journal.events ≤ vec_capacity lane.new.journal.events }
 {
     match outcome {
         Outcome::Acked { stamp } => acknowledge(lane, line, distributor, key, stamp, answered),

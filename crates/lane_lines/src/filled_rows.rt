@@ -103,7 +103,7 @@ pub fn fill_row<C: Carrier>(
     preparing_ends();
     operations_end();
     rounds_are_wanted();
-    lane.journal.reserve(2 + lane.spare)?;
+    lane.journal.events.reserve(2 + lane.spare)?;
     let Some(begun) = begin_round(lane, distributor, key) else {
         return Ok(None);
     };

@@ -34,19 +34,19 @@ fn write_entry(
     requires spare { HasRoom 0 lane.old }
     requires legal { IsLegalStep (setting_of lane.old.lane lane.old.rules) (journal_of lane.old)
         (event.Wrote line entry.now) }
-    requires finds { FindsEntries (place_of places.old) lane.old.journal.items }
+    requires finds { FindsEntries (place_of places.old) lane.old.journal.events.items }
     ensures keeps { IsKept lane.new }
     ensures spare { HasRoom 0 lane.new }
-    ensures finds { FindsEntries (place_of places.new) lane.new.journal.items }
+    ensures finds { FindsEntries (place_of places.new) lane.new.journal.events.items }
     ensures grows { OnOk result (journal_of lane.new ≡ event.Wrote line entry.now ∷ journal_of lane.old) }
     ensures err { OnErr result (journal_of lane.new ≡ journal_of lane.old) }
     ensures after { lane.new ≡ record lane.old { journal = lane.new.journal } }
 {
     entries_are_written();
     let entry = entry.copy(lane.alloc)?;
-    lane.journal.reserve(1 + lane.spare)?;
+    lane.journal.events.reserve(1 + lane.spare)?;
     let stamp = entry.entry().stamp;
-    keep_place(lane.alloc, places, stamp, lane.journal.len())?;
+    keep_place(lane.alloc, places, stamp, lane.journal.events.len())?;
     lane.note(LaneEvent::Wrote { line, entry });
     Ok(())
 }
@@ -63,10 +63,10 @@ fn write_wanted(
     requires keeps { IsKept lane.old }
     requires spare { HasRoom 0 lane.old }
     requires wants { IsToWrite lane.old line written message.now }
-    requires finds { FindsEntries (place_of places.old) lane.old.journal.items }
+    requires finds { FindsEntries (place_of places.old) lane.old.journal.events.items }
     ensures keeps { IsKept lane.new }
     ensures spare { HasRoom 0 lane.new }
-    ensures finds { FindsEntries (place_of places.new) lane.new.journal.items }
+    ensures finds { FindsEntries (place_of places.new) lane.new.journal.events.items }
     ensures ready { IfOk result (λ now. IsReady now message.now.body) }
     ensures writes { IfOk result (λ now. WritesOn lane.old lane.new line written now message.now) }
     ensures carried { StaysCarried lane.old lane.new }
@@ -152,10 +152,10 @@ pub fn send_next<C: Carrier>(
     requires carried { IsCarriedBy lane.old (C.given carrier.old) }
     requires stands { IsPreparedIn lane.old line written.old machine.old }
     requires key { key ≡ key_of machine.old.plan.operation.id }
-    requires finds { FindsEntries (place_of places.old) lane.old.journal.items }
+    requires finds { FindsEntries (place_of places.old) lane.old.journal.events.items }
     ensures keeps { IsKept lane.new }
     ensures spare { HasRoom 0 lane.new }
-    ensures finds { FindsEntries (place_of places.new) lane.new.journal.items }
+    ensures finds { FindsEntries (place_of places.new) lane.new.journal.events.items }
     ensures carried { IsCarriedBy lane.new (C.given carrier.new) }
     ensures planned { C.planned carrier.new ≡ C.planned carrier.old }
     ensures kind { C.takes_plans carrier.new ≡ C.takes_plans carrier.old }

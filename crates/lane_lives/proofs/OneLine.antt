@@ -15,7 +15,7 @@ use Rattle.lane_journals.specs.Readers.{Journal, or_else, only_if, held, stopped
 use Rattle.lane_journals.specs.Meanings.{history, entry_at, is_acked, version_in}
 use Rattle.lane_journals.specs.declared.event.LaneEvent.{LaneEvent}
 use Rattle.lane_journals.specs.declared.event.LaneEvent.TheVariants as event
-use Rattle.operation_keeping.specs.OperationKeeping.{IsFresh}
+use Rattle.lane_keeping.specs.Lines.{IsFresh}
 use Rattle.lane_keeping.specs.Tidings.{heard_next, announced, stopped_next, started_next}
 use Rattle.upkeep_spans.specs.Spans.{AreUpkeep}
 use Rattle.lane_lives.specs.declared.setting.Setting.{Setting}

@@ -6,7 +6,7 @@ use Rattle.carriers.specs.declared.fate.Fate.{Fate}
 use Rattle.messages.specs.declared.message.Message.{Message}
 use Rattle.merge_rounds.specs.Rounds.{RoundState, IsNext}
 use Rattle.lane_carriage.specs.Carriage.{due}
-use Rattle.round_keeping.specs.RoundKeeping.{KnowsRound}
+use Rattle.lane_keeping.specs.RoundKeeping.{KnowsRound}
 use Rattle.lane_states.specs.declared.lane_state.LaneState.{LaneState}
 use Rattle.lane_states.specs.LaneStates.{journal_of, Went}
 use Rattle.round_keeping.specs.RoundRuns.{Nothing, Further, RunsOn}

@@ -19,7 +19,7 @@ use Rattle.lane_journals.specs.declared.event.LaneEvent.TheVariants.{Returned}
 use Rattle.lane_keeping.specs.Replaying.{delivered}
 use Rattle.lane_keeping.specs.LaneKeeping.{setting_of, Keeps}
 use Rattle.lane_keeping.specs.Asking.{IsJustSent, IsTakenBy}
-use Rattle.round_keeping.specs.RoundKeeping.{KnowsRound, IsAwaited}
+use Rattle.lane_keeping.specs.RoundKeeping.{KnowsRound, IsAwaited}
 use Rattle.round_keeping.specs.RoundRuns.{IsRunning, GoesOn, RunsOn, left}
 use Rattle.round_keeping.specs.RoundShortages.{wants_memory, HadMemory}
 use Rattle.round_keeping.specs.declared.round_run.RoundRun.{RoundRun}

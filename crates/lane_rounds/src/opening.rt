@@ -13,7 +13,8 @@ use carriers::Carrier;
 use lane_journals::LaneEvent;
 use lane_keeping::laws::{asks_are_kept, openings_are_kept, parts_are_told};
 use lane_states::at_shortage::AtShortage;
-use lane_states::lane_state::{LaneState, push_within};
+use lane_states::event_log::push_within;
+use lane_states::lane_state::LaneState;
 use messages::{Job, Message, Reply, Step};
 use node_sets::NodeSet;
 use value_lists::NoMemory;
@@ -128,14 +129,14 @@ fn opening_step(lane: &mut LaneState, distributor: u8, key: u64) -> Result<Openi
 {
     openings_are_kept();
     parts_are_told();
-    lane.journal.reserve(1 + lane.spare)?;
+    lane.journal.events.reserve(1 + lane.spare)?;
     let step = lane.parts[usize::from(distributor)].next_step(lane.alloc, Job::Prepare { key })?;
     match step {
         Step::Send(message) => Ok(OpeningStep::Asks(message)),
         Step::Open { rows } => {
             let version = lane.parts[usize::from(distributor)].version();
             push_within(
-                &mut lane.journal,
+                &mut lane.journal.events,
                 LaneEvent::Opened {
                     distributor,
                     version,

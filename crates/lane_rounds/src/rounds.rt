@@ -27,7 +27,8 @@ use distributor_part::DistributorPart;
 use lane_journals::LaneEvent;
 use lane_keeping::laws::{events_are_kept, marks_are_kept, owners_act, parts_are_told};
 use lane_states::at_shortage::AtShortage;
-use lane_states::lane_state::{LaneState, push_within};
+use lane_states::event_log::push_within;
+use lane_states::lane_state::LaneState;
 use merge_rounds::Round;
 use messages::{Decision, Job, Origin, Reply, Step};
 use node_sets::NodeSet;
@@ -329,7 +330,7 @@ pub fn begin_round(lane: &mut LaneState, distributor: u8, key: u64) -> Option<Ro
     requires may { MayBegin lane.old.lane distributor (part_of lane.old distributor) key }
     requires none_runs { NoneRuns (journal_of lane.old) }
     requires idle { (v : ℕ) (b : Low) → Idle v b (history (journal_of lane.old)) }
-    requires room { vec_len lane.old.journal + 1 ≤ vec_capacity lane.old.journal }
+    requires room { vec_len lane.old.journal.events + 1 ≤ vec_capacity lane.old.journal.events }
     ensures keeps { IsKept lane.new }
     ensures begins { IfSome result (λ run. Begins lane.old.lane (journal_of lane.old) (journal_of lane.new)
         distributor key run) }
@@ -342,8 +343,8 @@ pub fn begin_round(lane: &mut LaneState, distributor: u8, key: u64) -> Option<Ro
     ensures others { OthersStay lane.old.lane lane.old.rules lane.old.parts.items lane.new.parts.items distributor }
     ensures after { lane.new ≡ record lane.old { journal = lane.new.journal; parts = lane.new.parts } }
     ensures parts { vec_len lane.new.parts ≡ vec_len lane.old.parts }
-    ensures len { vec_len lane.new.journal ≤ vec_len lane.old.journal + 1 }
-    ensures capacity { vec_capacity lane.old.journal ≤ vec_capacity lane.new.journal }
+    ensures len { vec_len lane.new.journal.events ≤ vec_len lane.old.journal.events + 1 }
+    ensures capacity { vec_capacity lane.old.journal.events ≤ vec_capacity lane.new.journal.events }
 {
     events_are_kept();
     owners_act();
@@ -359,7 +360,7 @@ pub fn begin_round(lane: &mut LaneState, distributor: u8, key: u64) -> Option<Ro
     // that it is a bucket is known once its bits are read
     let _bits = plan.bucket.bits();
     push_within(
-        &mut lane.journal,
+        &mut lane.journal.events,
         LaneEvent::Decided {
             distributor,
             version: state.version(),
@@ -380,7 +381,7 @@ pub fn begin_round_at(lane: &mut LaneState, distributor: u8, at: usize) -> Round
     requires may { MayBeginAt lane.old.lane distributor (part_of lane.old distributor) at }
     requires none_runs { NoneRuns (journal_of lane.old) }
     requires idle { (v : ℕ) (b : Low) → Idle v b (history (journal_of lane.old)) }
-    requires room { vec_len lane.old.journal + 1 ≤ vec_capacity lane.old.journal }
+    requires room { vec_len lane.old.journal.events + 1 ≤ vec_capacity lane.old.journal.events }
     ensures keeps { IsKept lane.new }
     ensures begins { Begins lane.old.lane (journal_of lane.old) (journal_of lane.new) distributor result.key
         result }
@@ -392,8 +393,8 @@ pub fn begin_round_at(lane: &mut LaneState, distributor: u8, at: usize) -> Round
     ensures others { OthersStay lane.old.lane lane.old.rules lane.old.parts.items lane.new.parts.items distributor }
     ensures after { lane.new ≡ record lane.old { journal = lane.new.journal; parts = lane.new.parts } }
     ensures parts { vec_len lane.new.parts ≡ vec_len lane.old.parts }
-    ensures len { vec_len lane.new.journal ≡ vec_len lane.old.journal + 1 }
-    ensures capacity { vec_capacity lane.old.journal ≤ vec_capacity lane.new.journal }
+    ensures len { vec_len lane.new.journal.events ≡ vec_len lane.old.journal.events + 1 }
+    ensures capacity { vec_capacity lane.old.journal.events ≤ vec_capacity lane.new.journal.events }
 {
     events_are_kept();
     owners_act();
@@ -408,7 +409,7 @@ pub fn begin_round_at(lane: &mut LaneState, distributor: u8, at: usize) -> Round
     let _bits = plan.bucket.bits();
     let key = plan.bucket.low();
     push_within(
-        &mut lane.journal,
+        &mut lane.journal.events,
         LaneEvent::Decided {
             distributor,
             version: state.version(),
@@ -428,7 +429,7 @@ pub fn end_round(lane: &mut LaneState, run: &RoundRun) -> RoundEnd
     requires runs { IsCutOff lane.old.lane (journal_of lane.old) run.now }
     requires run_by { IsRunBy (part_of lane.old run.now.distributor) run.now }
     requires inside { IsIn lane.old.lane run.now.key }
-    requires room { vec_len lane.old.journal + 1 ≤ vec_capacity lane.old.journal }
+    requires room { vec_len lane.old.journal.events + 1 ≤ vec_capacity lane.old.journal.events }
     ensures keeps { IsKept lane.new }
     ensures grows { EndsWith run.now (journal_of lane.old) (journal_of lane.new) }
     ensures end { IsEnd (journal_of lane.new) run.now result }
@@ -440,8 +441,8 @@ pub fn end_round(lane: &mut LaneState, run: &RoundRun) -> RoundEnd
         run.now.distributor }
     ensures after { lane.new ≡ record lane.old { journal = lane.new.journal; parts = lane.new.parts } }
     ensures parts { vec_len lane.new.parts ≡ vec_len lane.old.parts }
-    ensures len { vec_len lane.new.journal ≡ vec_len lane.old.journal + 1 }
-    ensures capacity { vec_capacity lane.old.journal ≤ vec_capacity lane.new.journal }
+    ensures len { vec_len lane.new.journal.events ≡ vec_len lane.old.journal.events + 1 }
+    ensures capacity { vec_capacity lane.old.journal.events ≤ vec_capacity lane.new.journal.events }
 {
     marks_are_kept();
     owners_act();
@@ -451,7 +452,7 @@ pub fn end_round(lane: &mut LaneState, run: &RoundRun) -> RoundEnd
     tell_over(part, &run.round);
     let row = end_step(lane.alloc, part, run.key);
     push_within(
-        &mut lane.journal,
+        &mut lane.journal.events,
         LaneEvent::Decided {
             distributor: run.distributor,
             version: run.state.version(),

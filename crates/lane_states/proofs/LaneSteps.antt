@@ -4,7 +4,6 @@ use Rattle.std.proofs.lemmas.List.{reverse-append, length-reverse}
 use Rattle.messages.specs.declared.message.Message.{Message}
 use Rattle.messages.specs.declared.body.Body.{Body}
 use Rattle.messages.specs.declared.body.Body.TheVariants as body
-use Rattle.messages.specs.declared.noted.NotedBody.TheVariants as noted
 use Rattle.messages.specs.declared.reply.Reply.{Reply}
 use Rattle.service_layer.specs.Nodes.{Node, new_node}
 use Rattle.service_layer.specs.Takes.{Takes, HasRoom}

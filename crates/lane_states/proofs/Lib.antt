@@ -1,5 +1,6 @@
 -- Shared: other crates cite these.
 pub mod Accepting
+pub mod Counts
 pub mod Exchanging
 pub mod Going
 pub mod Hearings

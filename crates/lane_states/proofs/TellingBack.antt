@@ -82,7 +82,7 @@ module _ (x b : LaneState) (number : ℕ) (m : Message) (r : Reply) (parts : Lis
   pub kept-told : AreAccepted x.lane x.rules (journal_of x) x.parts.items → AreTold x m r parts
       → (IsNoAsk m.body → Keeps x.lane x.rules (Returned number ∷ K) x.newest x.last b.nodes.items x.parts.items)
       → (IsAskerTold x m r parts → Keeps x.lane x.rules (Returned number ∷ K) x.newest x.last b.nodes.items parts)
-      → IsKeptBy b.lane b.rules (Returned number ∷ journal_of b) b.newest b.last b.nodes.items parts b.late.late b.stopped
+      → IsKeptBy b.lane b.rules (Returned number ∷ journal_of b) b.newest b.last b.nodes.items parts b.late.late b.stopped b.journal.told
   kept-told accepted (inl other) answered returned = kept_more kept
       (keeps-at (subst (λ (ps : List Part). Keeps x.lane x.rules (Returned number ∷ K) x.newest x.last b.nodes.items ps) (sym other.1) (answered other.0))) tt
       (accepted-at-told (subst (λ (ps : List Part). AreAccepted x.lane x.rules (journal_of x) ps) (sym other.1) accepted))

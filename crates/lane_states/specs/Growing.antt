@@ -6,7 +6,7 @@ use Rattle.messages.specs.declared.late.Late.{Late}
 use Rattle.lane_carriage.specs.Carriage.{IsGivenOut, is_cut_off}
 use Rattle.messages.specs.declared.noted.NotedReply.TheVariants as noted
 use Rattle.lane_journals.specs.Events as plain
-use Rattle.lane_journals.specs.Readers.{Journal, stopped, first_reply, returned}
+use Rattle.lane_journals.specs.Readers.{Journal, first_reply, returned}
 use Rattle.lane_journals.specs.Meanings.{history}
 use Rattle.lane_journals.specs.declared.event.LaneEvent.{LaneEvent}
 

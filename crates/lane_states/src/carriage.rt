@@ -15,12 +15,15 @@ ghost use Rattle.lane_states.specs.LaneStates.{journal_of, IsKept, IsKeptWithSom
 ghost use Rattle.lane_states.specs.Growing.{DeliversOne};
 ghost use Rattle.lane_carriage.specs.Carrying.{DeliversSome};
 
-use crate::lane_state::{LaneState, push_within};
+use crate::event_log::push_within;
+use crate::lane_state::LaneState;
 use crate::parts::make_nodes;
+use lane_changes::laws::nodes_tell_changes;
 use lane_journals::LaneEvent;
 use lane_keeping::laws::events_are_kept;
 use lane_keeping::node_laws::nodes_hold;
 use messages::{Late, Message, NotedBody, Reply};
+use service_layer::Taken;
 use value_lists::NoMemory;
 
 impl LaneState {
@@ -32,19 +35,19 @@ impl LaneState {
         requires brings { Brings (λ t. entry_at t (journal_of self.old)) message.now.body }
         requires whole { IsWhole message.now.body }
         requires noted { body ≡ noted_body message.now.body }
-        requires room { vec_len self.old.journal + 1 ≤ vec_capacity self.old.journal }
+        requires room { vec_len self.old.journal.events + 1 ≤ vec_capacity self.old.journal.events }
         ensures keeps { IsKept self.new }
         ensures grows { journal_of self.new ≡ sending (self.old.last + 1) message.now ∷ journal_of self.old }
         ensures sent { IsJustSent (journal_of self.new) (self.old.last + 1) message.now }
         ensures before { AreSentBefore (self.old.last + 1) self.old.late.late }
         ensures after { self.new ≡ record self.old { journal = self.new.journal; last = self.old.last + 1 } }
-        ensures len { vec_len self.new.journal ≡ vec_len self.old.journal + 1 }
-        ensures capacity { vec_capacity self.old.journal ≤ vec_capacity self.new.journal }
+        ensures len { vec_len self.new.journal.events ≡ vec_len self.old.journal.events + 1 }
+        ensures capacity { vec_capacity self.old.journal.events ≤ vec_capacity self.new.journal.events }
     {
         events_are_kept();
         self.last += 1;
         push_within(
-            &mut self.journal,
+            &mut self.journal.events,
             LaneEvent::Sent {
                 number: self.last,
                 version: message.version,
@@ -63,27 +66,30 @@ impl LaneState {
         requires receives { Receives self.old message.now.receiver }
         requires key { IfSome key (IsKeyOf message.now.body) }
         requires there { message.now.receiver < vec_len self.old.nodes }
-        requires room { vec_len self.old.journal + 1 ≤ vec_capacity self.old.journal }
+        requires room { vec_len self.old.journal.events + 1 ≤ vec_capacity self.old.journal.events }
         ensures keeps { StaysKept self.old self.new }
         ensures took { NodesOn self.old self.new }
         ensures taken { IsTakenBy self.old.nodes.items self.new.nodes.items message.now result }
         ensures grows { journal_of self.new ≡ delivered number result ∷ journal_of self.old }
         ensures after { self.new ≡ record self.old { journal = self.new.journal; nodes = self.new.nodes } }
         ensures nodes { vec_len self.new.nodes ≡ vec_len self.old.nodes }
-        ensures len { vec_len self.new.journal ≡ vec_len self.old.journal + 1 }
-        ensures capacity { vec_capacity self.old.journal ≤ vec_capacity self.new.journal }
+        ensures len { vec_len self.new.journal.events ≡ vec_len self.old.journal.events + 1 }
+        ensures capacity { vec_capacity self.old.journal.events ≤ vec_capacity self.new.journal.events }
     {
         events_are_kept();
         nodes_hold();
+        nodes_tell_changes();
         let taken = self.nodes[usize::from(message.receiver)].take_at(key, message);
-        push_within(
-            &mut self.journal,
+        let told = taken.changes.len();
+        let Taken { reply, noted, .. } = taken;
+        self.journal.push_telling(
             LaneEvent::Delivered {
                 number,
-                reply: taken.noted,
+                reply: noted,
             },
+            told,
         );
-        taken.reply
+        reply
     }
 
     /// Makes room for a message to a node: for its own events and those of the late messages that may fall due
@@ -93,7 +99,7 @@ impl LaneState {
         requires spare { HasRoom 0 self.old }
         ensures keeps { IsKept self.new }
         ensures spare { HasRoom 0 self.new }
-        ensures same { self.new.journal.items ≡ self.old.journal.items }
+        ensures same { self.new.journal.events.items ≡ self.old.journal.events.items }
         ensures late { self.new.late.late ≡ self.old.late.late }
         ensures nodes { (n : ℕ) → node_in self.new.nodes.items n ≡ node_in self.old.nodes.items n }
         ensures after { self.new
@@ -103,7 +109,7 @@ impl LaneState {
         ensures place { OnOk result (self.new.late.room ≡ true) }
     {
         let events = self.late.len().saturating_add(4).saturating_add(self.spare);
-        self.journal.reserve(events)?;
+        self.journal.events.reserve(events)?;
         self.late.room()?;
         make_nodes(self.alloc, &mut self.nodes, node)
     }
@@ -129,7 +135,7 @@ impl LaneState {
     /// stopped.
     fn deliver_first(&mut self) -> bool
         requires keeps { IsKeptWithSome self.old }
-        requires room { vec_len self.old.journal + length self.old.late.late ≤ vec_capacity self.old.journal }
+        requires room { vec_len self.old.journal.events + length self.old.late.late ≤ vec_capacity self.old.journal.events }
         ensures keeps { StaysKept self.old self.new }
         ensures took { NodesOn self.old self.new }
         ensures some { result ≡ true → DeliversOne self.old.last self.old.late.late self.new.late.late
@@ -140,9 +146,9 @@ impl LaneState {
         ensures after { self.new
             ≡ record self.old { journal = self.new.journal; nodes = self.new.nodes; late = self.new.late } }
         ensures nodes { vec_len self.new.nodes ≡ vec_len self.old.nodes }
-        ensures len { vec_len self.new.journal + length self.new.late.late
-            ≤ vec_len self.old.journal + length self.old.late.late }
-        ensures capacity { vec_capacity self.old.journal ≤ vec_capacity self.new.journal }
+        ensures len { vec_len self.new.journal.events + length self.new.late.late
+            ≤ vec_len self.old.journal.events + length self.old.late.late }
+        ensures capacity { vec_capacity self.old.journal.events ≤ vec_capacity self.new.journal.events }
     {
         let Some(late) = self.late.take_due(self.last) else {
             return false;
@@ -155,15 +161,15 @@ impl LaneState {
     fn give_out(&mut self, late: &Late)
         requires keeps { IsKeptWithSome self.old }
         requires coming { IsComing (journal_of self.old) self.old.nodes.items late.now }
-        requires room { vec_len self.old.journal + 1 ≤ vec_capacity self.old.journal }
+        requires room { vec_len self.old.journal.events + 1 ≤ vec_capacity self.old.journal.events }
         ensures keeps { StaysKept self.old self.new }
         ensures took { NodesOn self.old self.new }
         ensures given_out { IsGivenOut (is_cut_off late.now.number (journal_of self.old)) late.now.number
             (journal_of self.old) (journal_of self.new) }
         ensures after { self.new ≡ record self.old { journal = self.new.journal; nodes = self.new.nodes } }
         ensures nodes { vec_len self.new.nodes ≡ vec_len self.old.nodes }
-        ensures len { vec_len self.new.journal ≤ vec_len self.old.journal + 1 }
-        ensures capacity { vec_capacity self.old.journal ≤ vec_capacity self.new.journal }
+        ensures len { vec_len self.new.journal.events ≤ vec_len self.old.journal.events + 1 }
+        ensures capacity { vec_capacity self.old.journal.events ≤ vec_capacity self.new.journal.events }
     {
         if !self.is_stopped(late.message.receiver) {
             self.deliver(late.number, None, &late.message);
@@ -173,7 +179,7 @@ impl LaneState {
     /// Gives out the late messages that are due, in their order.
     pub(crate) fn deliver_due(&mut self)
         requires keeps { IsKeptWithSome self.old }
-        requires room { vec_len self.old.journal + length self.old.late.late ≤ vec_capacity self.old.journal }
+        requires room { vec_len self.old.journal.events + length self.old.late.late ≤ vec_capacity self.old.journal.events }
         ensures keeps { StaysKept self.old self.new }
         ensures took { NodesOn self.old self.new }
         ensures due { DeliversSome self.old.last self.old.late.late self.new.late.late
@@ -182,9 +188,9 @@ impl LaneState {
         ensures after { self.new
             ≡ record self.old { journal = self.new.journal; nodes = self.new.nodes; late = self.new.late } }
         ensures nodes { vec_len self.new.nodes ≡ vec_len self.old.nodes }
-        ensures len { vec_len self.new.journal + length self.new.late.late
-            ≤ vec_len self.old.journal + length self.old.late.late }
-        ensures capacity { vec_capacity self.old.journal ≤ vec_capacity self.new.journal }
+        ensures len { vec_len self.new.journal.events + length self.new.late.late
+            ≤ vec_len self.old.journal.events + length self.old.late.late }
+        ensures capacity { vec_capacity self.old.journal.events ≤ vec_capacity self.new.journal.events }
     {
         while self.deliver_first() {}
     }

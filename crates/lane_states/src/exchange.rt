@@ -13,7 +13,8 @@ ghost use Rattle.lane_keeping.specs.Laws.{IsNoAsk};
 ghost use Rattle.lane_states.specs.LaneStates.{journal_of, IsKept, HasRoom, Receives, IsCarriedBy, Stays, Went, NodesOn};
 ghost use Rattle.lane_states.specs.Exchanging.{IsAskOf, MayBeSent, IsBroughtBack, Brought, Exchanged, IsKeptBack};
 
-use crate::lane_state::{LaneState, push_within};
+use crate::event_log::push_within;
+use crate::lane_state::LaneState;
 use carriers::{Carrier, Fate};
 use lane_carriage::laws::late_messages_wait;
 use lane_journals::LaneEvent;
@@ -31,7 +32,7 @@ impl LaneState {
         requires receives { Receives self.old message.now.receiver }
         requires key { IfSome key (IsKeyOf message.now.body) }
         requires node { message.now.receiver < vec_len self.old.nodes }
-        requires room { vec_len self.old.journal + 2 ≤ vec_capacity self.old.journal }
+        requires room { vec_len self.old.journal.events + 2 ≤ vec_capacity self.old.journal.events }
         ensures keeps { IsKeptBack self.old message.now (Some result) self.new }
         ensures took { NodesOn self.old self.new }
         ensures dealt { IsDealt fate.Deliver number (journal_of self.old) (journal_of self.new) }
@@ -40,14 +41,14 @@ impl LaneState {
             (journal_of self.new) }
         ensures after { self.new ≡ record self.old { journal = self.new.journal; nodes = self.new.nodes } }
         ensures nodes { vec_len self.new.nodes ≡ vec_len self.old.nodes }
-        ensures len { vec_len self.new.journal ≡ vec_len self.old.journal + 2 }
-        ensures capacity { vec_capacity self.old.journal ≤ vec_capacity self.new.journal }
+        ensures len { vec_len self.new.journal.events ≡ vec_len self.old.journal.events + 2 }
+        ensures capacity { vec_capacity self.old.journal.events ≤ vec_capacity self.new.journal.events }
     {
         asks_are_kept();
         events_are_kept();
         messages_fly();
         let reply = self.deliver(number, key, message);
-        push_within(&mut self.journal, LaneEvent::Returned { number });
+        push_within(&mut self.journal.events, LaneEvent::Returned { number });
         reply
     }
 
@@ -61,7 +62,7 @@ impl LaneState {
         requires asker { IsNoAsk message.body ⊎ IsAskOf self.old message }
         requires key { IfSome key (IsKeyOf message.body) }
         requires node { message.receiver < vec_len self.old.nodes }
-        requires room { vec_len self.old.journal + 3 ≤ vec_capacity self.old.journal }
+        requires room { vec_len self.old.journal.events + 3 ≤ vec_capacity self.old.journal.events }
         requires place { self.old.late.room ≡ true }
         ensures keeps { IsKeptBack self.old message result self.new }
         ensures took { NodesOn self.old self.new }
@@ -75,9 +76,9 @@ impl LaneState {
           late = self.new.late;
         } }
         ensures nodes { vec_len self.new.nodes ≡ vec_len self.old.nodes }
-        ensures len { vec_len self.new.journal + length self.new.late.late
-            ≤ vec_len self.old.journal + length self.old.late.late + 3 }
-        ensures capacity { vec_capacity self.old.journal ≤ vec_capacity self.new.journal }
+        ensures len { vec_len self.new.journal.events + length self.new.late.late
+            ≤ vec_len self.old.journal.events + length self.old.late.late + 3 }
+        ensures capacity { vec_capacity self.old.journal.events ≤ vec_capacity self.new.journal.events }
     {
         messages_fly();
         let number = self.last;

@@ -1,13 +1,14 @@
 ghost use Rattle.std.specs.Prelude.{◌≡◌, ◌≤◌, ◌+◌, ◌∷◌, [], None, Some, OnOk, vec_len, vec_capacity};
 ghost use Rattle.cluster_states.specs.Publishing.{publish_fault};
 ghost use Rattle.lane_journals.specs.Places.{told};
-ghost use Rattle.lane_journals.specs.KeptJournals.{past, IsLegalStep};
+ghost use Rattle.lane_journals.specs.KeptJournals.{IsLegalStep};
 ghost use Rattle.lane_journals.specs.declared.event.LaneEvent.TheVariants as event;
 ghost use Rattle.lane_keeping.specs.LaneKeeping.{setting_of};
 ghost use Rattle.lane_keeping.specs.Laws.{IsQuietEvent};
 ghost use Rattle.lane_keeping.specs.Tidings.{IsNoStop};
-ghost use Rattle.lane_states.specs.LaneStates.{journal_of, IsKept};
+ghost use Rattle.lane_states.specs.LaneStates.{journal_of, IsKept, change_count};
 
+use crate::event_log::{EventLog, push_within};
 use bucket_ids::Bucket;
 use cluster_states::ClusterState;
 use distributor_part::{DistributorPart, Rules};
@@ -20,14 +21,14 @@ use service_layer::NodePart;
 use std::alloc::Global;
 use value_lists::NoMemory;
 
-/// A lane's journal, and what it says: the state that was published last, the number of the last message,
-/// the nodes and the distributors' parts, and which nodes are stopped. A node or a part is made when it is first
-/// needed.
+/// A lane's journal, and what it says: how many changes of its view its events give, the state that was published
+/// last, the number of the last message, the nodes and the distributors' parts, and which nodes are stopped. A node
+/// or a part is made when it is first needed.
 #[derive(Drop)]
 pub struct LaneState {
     pub lane: Bucket,
     pub rules: Rules,
-    pub journal: Vec<LaneEvent>,
+    pub journal: EventLog,
     pub newest: Option<ClusterState>,
     pub last: u64,
     pub nodes: Vec<NodePart>,
@@ -38,19 +39,6 @@ pub struct LaneState {
     /// For so many events there is room, whatever else the lane does.
     pub spare: usize,
     pub alloc: Global,
-}
-
-/// Appends an event for which there is room.
-pub fn push_within(events: &mut Vec<LaneEvent>, event: LaneEvent)
-    requires { vec_len events.old + 1 ≤ vec_capacity events.old }
-    ensures past { past events.new.items ≡ event ∷ past events.old.items }
-    ensures len { vec_len events.new ≡ vec_len events.old + 1 }
-    ensures capacity { vec_capacity events.old ≤ vec_capacity events.new }
-{
-    match events.push(event) {
-        Ok(()) => {}
-        Err(_) => unreachable!(),
-    }
 }
 
 impl LaneState {
@@ -71,7 +59,10 @@ impl LaneState {
         LaneState {
             lane,
             rules,
-            journal: Vec::new(alloc),
+            journal: EventLog {
+                events: Vec::new(alloc),
+                told: 0,
+            },
             newest: None,
             last: 0,
             nodes: Vec::new(alloc),
@@ -87,11 +78,11 @@ impl LaneState {
     pub fn room(&mut self) -> Result<(), NoMemory>
         requires keeps { IsKept self.old }
         ensures keeps { IsKept self.new }
-        ensures same { self.new.journal.items ≡ self.old.journal.items }
+        ensures same { self.new.journal.events.items ≡ self.old.journal.events.items }
         ensures after { self.new ≡ record self.old { journal = self.new.journal } }
-        ensures room { OnOk result (vec_len self.new.journal + 1 ≤ vec_capacity self.new.journal) }
+        ensures room { OnOk result (vec_len self.new.journal.events + 1 ≤ vec_capacity self.new.journal.events) }
     {
-        self.journal.reserve(1)?;
+        self.journal.events.reserve(1)?;
         Ok(())
     }
 
@@ -101,18 +92,21 @@ impl LaneState {
         requires acks { 1 ≤ self.old.rules.acks }
         requires accepted { publish_fault (told (setting_of self.old.lane self.old.rules) (journal_of self.old)) state.now
             ≡ None }
-        requires room { vec_len self.old.journal + 1 ≤ vec_capacity self.old.journal }
+        requires room { vec_len self.old.journal.events + 1 ≤ vec_capacity self.old.journal.events }
         ensures keeps { IsKept self.new }
         ensures grows { journal_of self.new ≡ event.Published state.now ∷ journal_of self.old }
         ensures after { self.new ≡ record self.old { journal = self.new.journal; newest = Some state.now } }
-        ensures len { vec_len self.new.journal ≡ vec_len self.old.journal + 1 }
-        ensures capacity { vec_capacity self.old.journal ≤ vec_capacity self.new.journal }
+        ensures len { vec_len self.new.journal.events ≡ vec_len self.old.journal.events + 1 }
+        ensures capacity { vec_capacity self.old.journal.events ≤ vec_capacity self.new.journal.events }
     {
         states_are_published();
         states_are_kept();
         // that it has at most 32 nodes is known once its version is read
         let _version = state.version();
-        push_within(&mut self.journal, LaneEvent::Published { state: *state });
+        push_within(
+            &mut self.journal.events,
+            LaneEvent::Published { state: *state },
+        );
         self.newest = Some(*state);
     }
 
@@ -122,14 +116,22 @@ impl LaneState {
         requires quiet { IsQuietEvent event }
         requires no_stop { IsNoStop event }
         requires legal { IsLegalStep (setting_of self.old.lane self.old.rules) (journal_of self.old) event }
-        requires room { vec_len self.old.journal + 1 ≤ vec_capacity self.old.journal }
+        requires room { vec_len self.old.journal.events + 1 ≤ vec_capacity self.old.journal.events }
         ensures keeps { IsKept self.new }
         ensures grows { journal_of self.new ≡ event ∷ journal_of self.old }
         ensures after { self.new ≡ record self.old { journal = self.new.journal } }
-        ensures len { vec_len self.new.journal ≡ vec_len self.old.journal + 1 }
-        ensures capacity { vec_capacity self.old.journal ≤ vec_capacity self.new.journal }
+        ensures len { vec_len self.new.journal.events ≡ vec_len self.old.journal.events + 1 }
+        ensures capacity { vec_capacity self.old.journal.events ≤ vec_capacity self.new.journal.events }
     {
         events_are_kept();
-        push_within(&mut self.journal, event);
+        push_within(&mut self.journal.events, event);
+    }
+
+    /// How many changes of the lane's view its events give; at 2^64 - 1 so many or more.
+    pub fn change_count(&self) -> u64
+        requires keeps { IsKept self.now }
+        ensures { result ≡ change_count (journal_of self.now) }
+    {
+        self.journal.told
     }
 }

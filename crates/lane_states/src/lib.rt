@@ -1,10 +1,11 @@
 //! What a lane keeps: its journal, and what it says; calls append events one by one.
 //!
-//! A `LaneState` has a journal, the state that was published last, the number of its last message, its nodes
-//! and its distributors' parts. `IsKept` in `specs/LaneStates.antt` says that they are what the journal says
-//! (`lane_keeping`), that late messages are on their way, that the numbers of messages find room, which nodes are
-//! stopped, that the lane's bucket is one, and that the active node of each accepted row took its activation
-//! (`specs/Accepting.antt`). A node or a part that isn't there yet counts as a new one.
+//! A `LaneState` has a journal and the number of changes of its view (`EventLog`), the state that was published last,
+//! the number of its last message, its nodes and its distributors' parts. `IsKept` in `specs/LaneStates.antt` says that
+//! they are what the journal says (`lane_keeping`), that late messages are on their way, that the numbers of messages
+//! find room, which nodes are stopped, that the lane's bucket is one, that the active node of each accepted row took
+//! its activation (`specs/Accepting.antt`), and that the changes are counted (`lane_changes`). A node or a part that
+//! isn't there yet counts as a new one.
 //!
 //! Each call says by which events the journal grows. A distributor hears the newest state (`parts`). Nodes stop and
 //! start (`stopping`); a message to a stopped node is not delivered. A message is delivered, or kept and delivered
@@ -23,6 +24,7 @@
 
 pub mod at_shortage;
 pub mod carriage;
+pub mod event_log;
 pub mod exchange;
 pub mod known_owner;
 pub mod lane_state;
@@ -32,5 +34,6 @@ pub mod stopping;
 pub mod written;
 
 pub use at_shortage::AtShortage;
+pub use event_log::EventLog;
 pub use known_owner::KnownOwner;
 pub use lane_state::LaneState;

@@ -10,7 +10,8 @@ ghost use Rattle.lane_keeping.specs.Asking.{OthersStay};
 ghost use Rattle.lane_states.specs.LaneStates.{journal_of, IsKept, HasRoom, part_of, AreResting};
 ghost use Rattle.lane_keeping.specs.Tidings.{is_older, version_held, heard_next, heard_below};
 
-use crate::lane_state::{LaneState, push_within};
+use crate::event_log::push_within;
+use crate::lane_state::LaneState;
 use bucket_ids::Bucket;
 use cluster_states::ClusterState;
 use distributor_part::{DistributorPart, Rules};
@@ -93,7 +94,7 @@ impl LaneState {
         let Some(state) = self.newest else {
             return Ok(());
         };
-        self.journal.reserve(1 + self.spare)?;
+        self.journal.events.reserve(1 + self.spare)?;
         self.need_part(distributor)?;
         self.hear_within(distributor, &state);
         Ok(())
@@ -107,15 +108,15 @@ impl LaneState {
         requires idle { IsIdle distributor (λ line. began line (history (journal_of self.old)))
             (λ line. closed line (history (journal_of self.old))) }
         requires there { distributor < vec_len self.old.parts }
-        requires room { vec_len self.old.journal + 1 ≤ vec_capacity self.old.journal }
+        requires room { vec_len self.old.journal.events + 1 ≤ vec_capacity self.old.journal.events }
         ensures keeps { IsKept self.new }
         ensures grows { journal_of self.new ≡ heard_next distributor (Some state.now) (journal_of self.old) }
         ensures acting { IsOwner self.old.lane state.now distributor
             → IsActing self.old.lane (journal_of self.new) distributor state.now }
         ensures after { self.new ≡ record self.old { journal = self.new.journal; parts = self.new.parts } }
         ensures parts { vec_len self.new.parts ≡ vec_len self.old.parts }
-        ensures len { vec_len self.new.journal ≤ vec_len self.old.journal + 1 }
-        ensures capacity { vec_capacity self.old.journal ≤ vec_capacity self.new.journal }
+        ensures len { vec_len self.new.journal.events ≤ vec_len self.old.journal.events + 1 }
+        ensures capacity { vec_capacity self.old.journal.events ≤ vec_capacity self.new.journal.events }
         ensures resting { AreResting self.old → AreResting self.new }
     {
         kept_journals_mean_legal_ones();
@@ -133,13 +134,13 @@ impl LaneState {
             (λ line. closed line (history (journal_of self.old))) }
         requires older { (d : ℕ) → is_older (held d (history (journal_of self.old))) state.now.version ≡ true }
         requires there { 32 ≤ vec_len self.old.parts }
-        requires room { vec_len self.old.journal + 32 ≤ vec_capacity self.old.journal }
+        requires room { vec_len self.old.journal.events + 32 ≤ vec_capacity self.old.journal.events }
         ensures keeps { IsKept self.new }
         ensures grows { journal_of self.new ≡ heard_below 32 deaf state.now (journal_of self.old) }
         ensures after { self.new ≡ record self.old { journal = self.new.journal; parts = self.new.parts } }
         ensures parts { vec_len self.new.parts ≡ vec_len self.old.parts }
-        ensures len { vec_len self.new.journal ≤ vec_len self.old.journal + 32 }
-        ensures capacity { vec_capacity self.old.journal ≤ vec_capacity self.new.journal }
+        ensures len { vec_len self.new.journal.events ≤ vec_len self.old.journal.events + 32 }
+        ensures capacity { vec_capacity self.old.journal.events ≤ vec_capacity self.new.journal.events }
         ensures resting { AreResting self.old → AreResting self.new }
     {
         for distributor in 0..32 {
@@ -155,14 +156,14 @@ impl LaneState {
             (λ line. closed line (history (journal_of self.old))) }
         requires older { is_older (held distributor (history (journal_of self.old))) state.now.version ≡ true }
         requires there { distributor < vec_len self.old.parts }
-        requires room { vec_len self.old.journal + 1 ≤ vec_capacity self.old.journal }
+        requires room { vec_len self.old.journal.events + 1 ≤ vec_capacity self.old.journal.events }
         ensures keeps { IsKept self.new }
         ensures grows { journal_of self.new ≡ (if has_node deaf distributor then journal_of self.old
             else event.Heard distributor state.now.version ∷ journal_of self.old) }
         ensures after { self.new ≡ record self.old { journal = self.new.journal; parts = self.new.parts } }
         ensures parts { vec_len self.new.parts ≡ vec_len self.old.parts }
-        ensures len { vec_len self.new.journal ≤ vec_len self.old.journal + 1 }
-        ensures capacity { vec_capacity self.old.journal ≤ vec_capacity self.new.journal }
+        ensures len { vec_len self.new.journal.events ≤ vec_len self.old.journal.events + 1 }
+        ensures capacity { vec_capacity self.old.journal.events ≤ vec_capacity self.new.journal.events }
         ensures resting { AreResting self.old → AreResting self.new }
     {
         if !deaf.has(distributor) {
@@ -213,19 +214,19 @@ impl LaneState {
             (λ line. closed line (history (journal_of self.old))) }
         requires older { is_older (held distributor (history (journal_of self.old))) state.now.version ≡ true }
         requires there { distributor < vec_len self.old.parts }
-        requires room { vec_len self.old.journal + 1 ≤ vec_capacity self.old.journal }
+        requires room { vec_len self.old.journal.events + 1 ≤ vec_capacity self.old.journal.events }
         ensures keeps { IsKept self.new }
         ensures grows { journal_of self.new ≡ event.Heard distributor state.now.version ∷ journal_of self.old }
         ensures after { self.new ≡ record self.old { journal = self.new.journal; parts = self.new.parts } }
         ensures parts { vec_len self.new.parts ≡ vec_len self.old.parts }
-        ensures len { vec_len self.new.journal ≡ vec_len self.old.journal + 1 }
-        ensures capacity { vec_capacity self.old.journal ≤ vec_capacity self.new.journal }
+        ensures len { vec_len self.new.journal.events ≡ vec_len self.old.journal.events + 1 }
+        ensures capacity { vec_capacity self.old.journal.events ≤ vec_capacity self.new.journal.events }
         ensures resting { AreResting self.old → AreResting self.new }
     {
         states_are_kept();
         self.parts[usize::from(distributor)].hear(state);
         push_within(
-            &mut self.journal,
+            &mut self.journal.events,
             LaneEvent::Heard {
                 distributor,
                 version: state.version(),

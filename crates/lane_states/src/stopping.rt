@@ -7,7 +7,7 @@ ghost use Rattle.lane_carriage.specs.Readers.{IsPrompt};
 ghost use Rattle.lane_keeping.specs.Tidings.{stopped_next, started_next};
 ghost use Rattle.lane_states.specs.LaneStates.{journal_of, IsKept, AreStopped, AreResting, Receives};
 
-use crate::lane_state::{LaneState, push_within};
+use crate::lane_state::LaneState;
 use carriers::Fate;
 use lane_journals::LaneEvent;
 use lane_keeping::laws::events_are_kept;
@@ -50,13 +50,13 @@ impl LaneState {
     pub fn stop(&mut self, node: u8)
         requires keeps { IsKept self.old }
         requires small { node < 32 }
-        requires room { vec_len self.old.journal + 1 ≤ vec_capacity self.old.journal }
+        requires room { vec_len self.old.journal.events + 1 ≤ vec_capacity self.old.journal.events }
         ensures keeps { IsKept self.new }
         ensures grows { journal_of self.new ≡ stopped_next node (journal_of self.old) }
         ensures after { self.new ≡ record self.old { journal = self.new.journal; stopped = self.new.stopped } }
         ensures resting { AreResting self.old → AreResting self.new }
-        ensures len { vec_len self.new.journal ≤ vec_len self.old.journal + 1 }
-        ensures capacity { vec_capacity self.old.journal ≤ vec_capacity self.new.journal }
+        ensures len { vec_len self.new.journal.events ≤ vec_len self.old.journal.events + 1 }
+        ensures capacity { vec_capacity self.old.journal.events ≤ vec_capacity self.new.journal.events }
     {
         if !self.is_stopped(node) {
             self.note_stop(node);
@@ -68,29 +68,29 @@ impl LaneState {
         requires keeps { IsKept self.old }
         requires small { node < 32 }
         requires runs { stopped node (history (journal_of self.old)) ≡ false }
-        requires room { vec_len self.old.journal + 1 ≤ vec_capacity self.old.journal }
+        requires room { vec_len self.old.journal.events + 1 ≤ vec_capacity self.old.journal.events }
         ensures keeps { IsKept self.new }
         ensures grows { journal_of self.new ≡ event.Stopped node ∷ journal_of self.old }
         ensures after { self.new ≡ record self.old { journal = self.new.journal; stopped = self.new.stopped } }
-        ensures len { vec_len self.new.journal ≡ vec_len self.old.journal + 1 }
-        ensures capacity { vec_capacity self.old.journal ≤ vec_capacity self.new.journal }
+        ensures len { vec_len self.new.journal.events ≡ vec_len self.old.journal.events + 1 }
+        ensures capacity { vec_capacity self.old.journal.events ≤ vec_capacity self.new.journal.events }
     {
         events_are_kept();
         self.stopped = self.stopped.with(node);
-        push_within(&mut self.journal, LaneEvent::Stopped { node });
+        self.journal.push_telling(LaneEvent::Stopped { node }, 1);
     }
 
     /// Notes that a node starts, where it is stopped.
     pub fn start(&mut self, node: u8)
         requires keeps { IsKept self.old }
         requires small { node < 32 }
-        requires room { vec_len self.old.journal + 1 ≤ vec_capacity self.old.journal }
+        requires room { vec_len self.old.journal.events + 1 ≤ vec_capacity self.old.journal.events }
         ensures keeps { IsKept self.new }
         ensures grows { journal_of self.new ≡ started_next node (journal_of self.old) }
         ensures after { self.new ≡ record self.old { journal = self.new.journal; stopped = self.new.stopped } }
         ensures resting { AreResting self.old → AreResting self.new }
-        ensures len { vec_len self.new.journal ≤ vec_len self.old.journal + 1 }
-        ensures capacity { vec_capacity self.old.journal ≤ vec_capacity self.new.journal }
+        ensures len { vec_len self.new.journal.events ≤ vec_len self.old.journal.events + 1 }
+        ensures capacity { vec_capacity self.old.journal.events ≤ vec_capacity self.new.journal.events }
     {
         if self.is_stopped(node) {
             self.note_start(node);
@@ -102,15 +102,15 @@ impl LaneState {
         requires keeps { IsKept self.old }
         requires small { node < 32 }
         requires stopped { stopped node (history (journal_of self.old)) ≡ true }
-        requires room { vec_len self.old.journal + 1 ≤ vec_capacity self.old.journal }
+        requires room { vec_len self.old.journal.events + 1 ≤ vec_capacity self.old.journal.events }
         ensures keeps { IsKept self.new }
         ensures grows { journal_of self.new ≡ event.Started node ∷ journal_of self.old }
         ensures after { self.new ≡ record self.old { journal = self.new.journal; stopped = self.new.stopped } }
-        ensures len { vec_len self.new.journal ≡ vec_len self.old.journal + 1 }
-        ensures capacity { vec_capacity self.old.journal ≤ vec_capacity self.new.journal }
+        ensures len { vec_len self.new.journal.events ≡ vec_len self.old.journal.events + 1 }
+        ensures capacity { vec_capacity self.old.journal.events ≤ vec_capacity self.new.journal.events }
     {
         events_are_kept();
         self.stopped = self.stopped.without(node);
-        push_within(&mut self.journal, LaneEvent::Started { node });
+        self.journal.push_telling(LaneEvent::Started { node }, 1);
     }
 }

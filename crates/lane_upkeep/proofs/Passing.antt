@@ -16,7 +16,7 @@ use Rattle.lane_journals.specs.declared.event.LaneEvent.TheVariants.{Sent, Deliv
 use Rattle.messages.specs.declared.late.Late.{Late}
 use Rattle.lane_keeping.specs.LaneKeeping.{part_in}
 use Rattle.lane_keeping.specs.Acting.{IsActing}
-use Rattle.round_keeping.specs.RoundKeeping.{origin_in}
+use Rattle.lane_keeping.specs.RoundKeeping.{origin_in}
 use Rattle.row_keeping.specs.Telling.{IsTelling}
 use Rattle.lane_states.specs.declared.lane_state.LaneState.{LaneState}
 use Rattle.lane_states.specs.LaneStates.{journal_of, part_of, IsKept, HasRoom, IsCarriedBy, IsResting, Went}

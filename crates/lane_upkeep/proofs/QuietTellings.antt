@@ -20,7 +20,7 @@ use Rattle.lane_carriage.specs.Carriage.{met, IsDealt, AreDelivered, due}
 use Rattle.lane_carriage.specs.Waits.{numbers}
 use Rattle.lane_carriage.specs.Laws.{OfTaken}
 use Rattle.lane_keeping.specs.LaneKeeping.{node_in, setting_of}
-use Rattle.round_keeping.specs.RoundKeeping.{origin_in}
+use Rattle.lane_keeping.specs.RoundKeeping.{origin_in}
 use Rattle.lane_states.specs.declared.lane_state.LaneState.{LaneState}
 use Rattle.lane_states.specs.LaneStates.{journal_of, IsKept, Went, NodesOn}
 use Rattle.lane_states.specs.Tellings.{IsRowBody, IsFirstReply}

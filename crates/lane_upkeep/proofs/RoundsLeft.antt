@@ -21,7 +21,7 @@ use Rattle.lane_journals.specs.declared.event.LaneEvent.{LaneEvent}
 use Rattle.lane_keeping.specs.LaneKeeping.{node_in, part_in}
 use Rattle.lane_keeping.specs.Acting.{IsActing}
 use Rattle.lane_keeping.specs.Asking.{OthersStay}
-use Rattle.round_keeping.specs.RoundKeeping.{KnowsAnswers}
+use Rattle.lane_keeping.specs.RoundKeeping.{KnowsAnswers}
 use Rattle.round_keeping.specs.declared.round_run.RoundRun.{RoundRun}
 use Rattle.round_keeping.specs.declared.round_run.RoundEnd.{RoundEnd}
 use Rattle.lane_states.specs.declared.lane_state.LaneState.{LaneState}

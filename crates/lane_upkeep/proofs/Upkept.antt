@@ -18,7 +18,7 @@ use Rattle.lane_journals.specs.declared.event.LaneEvent.TheVariants as event
 use Rattle.lane_keeping.specs.Replaying.{sending}
 use Rattle.lane_carriage.specs.Carriage.{IsDealt, AreDelivered}
 use Rattle.lane_carriage.specs.Waits.{numbers}
-use Rattle.round_keeping.specs.RoundKeeping.{origin_in}
+use Rattle.lane_keeping.specs.RoundKeeping.{origin_in}
 use Rattle.lane_states.specs.declared.lane_state.LaneState.{LaneState}
 use Rattle.lane_rounds.specs.declared.opening.OpeningEnd.{OpeningEnd}
 use Rattle.round_keeping.specs.declared.round_run.RoundRun.{RoundRun}

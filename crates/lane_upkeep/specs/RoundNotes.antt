@@ -15,7 +15,7 @@ use Rattle.distributor_part.specs.Upkeep.{BeginsRoundAt}
 use Rattle.merge_rounds.specs.Rounds.{RoundState, HaveAllShown, pieces_by}
 use Rattle.lane_journals.specs.declared.event.LaneEvent.{LaneEvent}
 use Rattle.lane_keeping.specs.LaneKeeping.{node_in}
-use Rattle.round_keeping.specs.RoundKeeping.{KnowsAnswers}
+use Rattle.lane_keeping.specs.RoundKeeping.{KnowsAnswers}
 use Rattle.lane_keeping.specs.Spans.{NodesGo}
 use Rattle.lane_states.specs.declared.lane_state.LaneState.{LaneState}
 use Rattle.round_keeping.specs.declared.round_run.RoundEnd.{RoundEnd}

@@ -6,7 +6,7 @@ use Rattle.messages.specs.declared.body.Body.{Body}
 use Rattle.messages.specs.declared.reply.Reply.{Reply}
 use Rattle.lane_journals.specs.Readers.{returned}
 use Rattle.lane_journals.specs.Meanings.{history}
-use Rattle.round_keeping.specs.RoundKeeping.{origin_in}
+use Rattle.lane_keeping.specs.RoundKeeping.{origin_in}
 use Rattle.lane_states.specs.declared.lane_state.LaneState.{LaneState}
 use Rattle.lane_states.specs.LaneStates.{journal_of, Went}
 use Rattle.undisturbed_spans.specs.Undisturbed.{Extends}

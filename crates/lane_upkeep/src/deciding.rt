@@ -15,7 +15,7 @@ use crate::owner::Owner;
 use bucket_ids::Bucket;
 use lane_journals::LaneEvent;
 use lane_states::LaneState;
-use lane_states::lane_state::push_within;
+use lane_states::event_log::push_within;
 use messages::Decision;
 use row_keeping::laws::{
     acceptances_are_kept, deletes_begin, deletes_end, rows_are_activated, rows_are_joined,
@@ -29,11 +29,12 @@ fn room_for_decision(lane: &mut LaneState) -> Result<(), NoMemory>
     requires keeps { IsKept lane.old }
     requires spare { HasRoom 0 lane.old }
     ensures spare { HasRoom 0 lane.new }
-    ensures same { lane.new.journal.items ≡ lane.old.journal.items }
+    ensures same { lane.new.journal.events.items ≡ lane.old.journal.events.items }
+    ensures told { lane.new.journal.told ≡ lane.old.journal.told }
     ensures after { lane.new ≡ record lane.old { journal = lane.new.journal } }
     ensures room { OnOk result (HasRoom 1 lane.new) }
 {
-    lane.journal.reserve(lane.spare.saturating_add(1))?;
+    lane.journal.events.reserve(lane.spare.saturating_add(1))?;
     Ok(())
 }
 
@@ -67,7 +68,7 @@ pub fn split_row(lane: &mut LaneState, owner: &Owner, at: usize) -> Result<(), N
     let bucket = part.rows()[at].bucket;
     part.split_row(at)?;
     push_within(
-        &mut lane.journal,
+        &mut lane.journal.events,
         decided(owner, Decision::RowSplit { bucket }),
     );
     Ok(())
@@ -93,7 +94,7 @@ pub fn join_rows(lane: &mut LaneState, owner: &Owner, at: usize) -> Result<(), N
     part.join_rows(at);
     let parent = bucket.parent();
     push_within(
-        &mut lane.journal,
+        &mut lane.journal.events,
         decided(owner, Decision::RowsJoined { parent }),
     );
     Ok(())
@@ -120,7 +121,7 @@ pub fn activate(lane: &mut LaneState, owner: &Owner, at: usize, node: u8) -> Res
     let bucket = part.rows()[at].bucket;
     part.activate(at, node);
     push_within(
-        &mut lane.journal,
+        &mut lane.journal.events,
         decided(owner, Decision::ActiveOn { bucket, node }),
     );
     Ok(())
@@ -169,7 +170,7 @@ pub fn delete_from(
     let bucket = part.rows()[at].bucket;
     part.delete_from(at, node, serial);
     push_within(
-        &mut lane.journal,
+        &mut lane.journal.events,
         decided(
             owner,
             Decision::DeleteFrom {
@@ -204,7 +205,7 @@ pub fn delete_over(
     room_for_decision(lane)?;
     lane.parts[usize::from(owner.distributor)].delete_over(bucket, node);
     push_within(
-        &mut lane.journal,
+        &mut lane.journal.events,
         decided(owner, Decision::DeleteOver { bucket, node }),
     );
     Ok(())

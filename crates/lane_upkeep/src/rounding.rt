@@ -6,7 +6,7 @@ ghost use Rattle.bucket_db.specs.Rows.{buckets_of};
 ghost use Rattle.bucket_db.specs.declared.row.Row.{Row};
 ghost use Rattle.merge_rounds.specs.Rounds.{HaveAllShown, pieces_by};
 ghost use Rattle.undisturbed_spans.specs.Undisturbed.{Extends};
-ghost use Rattle.round_keeping.specs.RoundKeeping.{KnowsAnswers};
+ghost use Rattle.lane_keeping.specs.RoundKeeping.{KnowsAnswers};
 ghost use Rattle.lane_states.specs.LaneStates.{journal_of, part_of};
 ghost use Rattle.lane_states.specs.Shortages.{NoneIsShort, EndsAtOnce};
 ghost use Rattle.round_keeping.specs.RoundShortages.{HadMemory};
@@ -180,7 +180,7 @@ fn run_at<C: Carrier>(
     upkeep_leaves_lines();
     upkeep_leaves_states();
     upkeep_goes_on();
-    lane.journal.reserve(2 + lane.spare)?;
+    lane.journal.events.reserve(2 + lane.spare)?;
     let mut run = begin_round_at(lane, owner.distributor, at);
     run_round(lane, carrier, &mut run, AtShortage::End)?;
     Ok(run)

@@ -3,7 +3,7 @@ ghost use Rattle.messages.specs.Noting.{message_of};
 ghost use Rattle.messages.specs.declared.reply.Reply.TheVariants as replies;
 ghost use Rattle.lane_journals.specs.Readers.{returned};
 ghost use Rattle.lane_journals.specs.Meanings.{history};
-ghost use Rattle.round_keeping.specs.RoundKeeping.{origin_in};
+ghost use Rattle.lane_keeping.specs.RoundKeeping.{origin_in};
 ghost use Rattle.lane_states.specs.LaneStates.{journal_of, Went};
 ghost use Rattle.undisturbed_spans.specs.Undisturbed.{Extends};
 ghost use Rattle.lane_upkeep.specs.CameBack.{CameBack};

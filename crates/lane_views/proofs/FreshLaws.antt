@@ -10,9 +10,9 @@ use Rattle.entry_maps.specs.EntryCodes.{Entries}
 use Rattle.document_rows.specs.Rows.{Rows, has_row}
 use Rattle.document_rows.proofs.RowLaws.{same_id}
 use Rattle.node_rows.specs.TypedRows.{AreNew}
-use Rattle.lane_views.specs.Views.{in_regions, is_fresh, listed}
-use Rattle.lane_views.specs.Kept.{AreInside}
-use Rattle.lane_views.specs.EntryOrder.{AreApart}
+use Rattle.view_changes.specs.Views.{in_regions, is_fresh, listed}
+use Rattle.view_changes.specs.Kept.{AreInside}
+use Rattle.view_changes.specs.EntryOrder.{AreApart}
 
 -- a document outside the regions isn't there
 outside-none : (rs : List Low) (id : List ℕ) (rows : Rows) → AreInside rs rows → in_regions rs (key_of id) ≡ false → has_row id rows ≡ false

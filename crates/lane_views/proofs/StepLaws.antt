@@ -4,10 +4,10 @@ use mathlib.Core.Bool.{true≢false}
 use Rattle.std.specs.List.{list_any}
 use Rattle.bucket_ids.specs.Buckets.{Low}
 use Rattle.doc_types.specs.SchemaCodes.{Types}
-use Rattle.lane_views.specs.Views.{NodeView, new_node, at, node_at, is_in_the_way, is_barred}
-use Rattle.lane_views.specs.Serving.{serves, serves_at}
-use Rattle.lane_views.specs.Kept.{AreNodes, IsNode}
-use Rattle.lane_views.specs.Opening.{new_nodes}
+use Rattle.view_changes.specs.Views.{NodeView, new_node, at, node_at, is_in_the_way, is_barred}
+use Rattle.view_changes.specs.Serving.{serves, serves_at}
+use Rattle.view_changes.specs.Kept.{AreNodes, IsNode}
+use Rattle.view_changes.specs.Opening.{new_nodes}
 use Rattle.lane_views.specs.Typed.{TypedNode, alike, step, step_at, nodes_of, AreTyped}
 
 pub nodes-step : (types : Types) (n : ℕ) (f : Types → NodeView → NodeView) (ts : List TypedNode) → AreTyped types ts → nodes_of (step_at n f ts) ≡ at n (f types) (nodes_of ts)

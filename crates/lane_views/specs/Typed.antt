@@ -2,8 +2,8 @@
 use Rattle.std.specs.Prelude.{◌≡◌, ℕ, zero, suc, List, [], ◌∷◌, map}
 use Rattle.std.specs.List.{AllByRecursion}
 use Rattle.doc_types.specs.SchemaCodes.{Types}
-use Rattle.lane_views.specs.Views.{NodeView, View}
-use Rattle.lane_views.specs.Kept.{IsView}
+use Rattle.view_changes.specs.Views.{NodeView, View}
+use Rattle.view_changes.specs.Kept.{IsView}
 
 pub record TypedNode : Type 0 where
   pub types : Types

@@ -2,13 +2,11 @@ ghost use Rattle.std.specs.Prelude.{◌≡◌, ◌<◌, ◌^◌, IfOk, OnOk, OnE
 ghost use Rattle.std.specs.List.{list_any};
 ghost use Rattle.bucket_ids.specs.Buckets.{IsBucket, covers};
 ghost use Rattle.coverage.specs.Covering.{measure_of};
-ghost use Rattle.lane_views.specs.Views.{new_node, in_regions, adopted, stopped_as, taken, activated, is_in_the_way, meets};
-ghost use Rattle.lane_views.specs.Serving.{serves};
-ghost use Rattle.lane_views.specs.Kept.{IsNode};
+ghost use Rattle.view_changes.specs.Views.{new_node, in_regions, adopted, stopped_as, taken, activated, is_in_the_way, meets};
+ghost use Rattle.view_changes.specs.Serving.{serves};
+ghost use Rattle.view_changes.specs.Kept.{IsNode};
 ghost use Rattle.lane_views.specs.Typed.{step};
 
-use crate::fresh::fresh_entries;
-use crate::regions::{are_met, have_key, have_whole, measure_of, regions_with};
 use bucket_ids::Bucket;
 use documents::SharedEntry;
 use entry_maps::EntryMap;
@@ -17,6 +15,8 @@ use node_rows::{NodeRows, SharedSchema};
 use std::alloc::Global;
 use std::marker::Model;
 use value_lists::{NoMemory, TryCopy, copy_all};
+use view_changes::fresh::fresh_entries;
+use view_changes::regions::{are_met, have_key, have_whole, measure_of, regions_with};
 
 /// What is seen of a node: its version, whether it is stopped, its active regions, its documents there.
 #[derive(Drop)]

@@ -4,13 +4,12 @@ ghost use Rattle.std.specs.Prelude.{◌≡◌, ◌<◌, ◌^◌, ◌||◌, [], l
 ghost use Rattle.std.specs.List.{list_any};
 ghost use Rattle.bucket_ids.specs.Buckets.{IsBucket};
 ghost use Rattle.coverage.specs.Covering.{measure_of};
-ghost use Rattle.lane_views.specs.Views.{new_node, node_at, nodes_after, adopted, stopped_as, taken, activated, is_barred, is_in_the_way};
-ghost use Rattle.lane_views.specs.Opening.{new_nodes};
-ghost use Rattle.lane_views.specs.Serving.{serves_at, node_regions};
-ghost use Rattle.lane_views.specs.Kept.{AreNodes, HasBucket};
+ghost use Rattle.view_changes.specs.Views.{new_node, node_at, nodes_after, adopted, stopped_as, taken, activated, is_barred, is_in_the_way};
+ghost use Rattle.view_changes.specs.Opening.{new_nodes};
+ghost use Rattle.view_changes.specs.Serving.{serves_at, node_regions};
+ghost use Rattle.view_changes.specs.Kept.{AreNodes, HasBucket};
 ghost use Rattle.lane_views.specs.Typed.{AreTyped, nodes_of, step_at, alike};
 
-use crate::change::LaneChange;
 use crate::node::SeenNode;
 use bucket_ids::Bucket;
 use documents::SharedEntry;
@@ -18,6 +17,7 @@ use entry_maps::EntryMap;
 use node_rows::{NodeRows, SharedSchema};
 use std::alloc::Global;
 use value_lists::NoMemory;
+use view_changes::LaneChange;
 
 /// So many nodes of which nothing was heard. The only error is want of memory.
 pub fn new_nodes(alloc: Global, schema: &SharedSchema, many: u8) -> Result<Vec<SeenNode>, NoMemory>

@@ -3,21 +3,20 @@ ghost use Rattle.std.specs.Option.{option_copied};
 ghost use Rattle.global_ids.specs.Keys.{key_of};
 ghost use Rattle.local_ids.specs.Rising.{IsRising};
 ghost use Rattle.document_rows.specs.Reading.{places_where, is_any, row_at, value_at};
-ghost use Rattle.lane_views.specs.Views.{changed};
-ghost use Rattle.lane_views.specs.Opening.{opening};
-ghost use Rattle.lane_views.specs.Serving.{serves_at, rows_of, covered_at};
-ghost use Rattle.lane_views.specs.Kept.{IsView};
+ghost use Rattle.view_changes.specs.Views.{changed};
+ghost use Rattle.view_changes.specs.Opening.{opening};
+ghost use Rattle.view_changes.specs.Serving.{serves_at, rows_of, covered_at};
+ghost use Rattle.view_changes.specs.Kept.{IsView};
 
-use crate::change::LaneChange;
 use crate::node::SeenNode;
 use crate::nodes::{change_nodes, measure_at, new_nodes, rows_at, serves_at};
-use crate::reading::{Lists, Shown};
 use doc_types::FieldValue;
 use documents::Document;
 use node_rows::{NodeRows, SharedSchema};
 use std::alloc::Global;
 use std::marker::Model;
 use value_lists::{NoMemory, TryCopy, copy_all};
+use view_changes::{LaneChange, Lists, Shown};
 
 /// What is seen of a lane: its 32 nodes, and how many changes came.
 #[derive(Drop)]
@@ -28,7 +27,7 @@ pub struct LaneView {
 }
 
 impl Model for LaneView {
-    ghost use Rattle.lane_views.specs.Views.{View};
+    ghost use Rattle.view_changes.specs.Views.{View};
     ghost use Rattle.lane_views.specs.ViewCodes.{view_code};
     ghost use Rattle.lane_views.specs.Typed.{seen, IsSound};
 

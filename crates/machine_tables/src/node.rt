@@ -2,6 +2,7 @@
 
 ghost use Rattle.service_layer.specs.Takes.{IsInside};
 
+use crate::changes::told;
 use crate::table::{done, shown};
 use crate::words::read_body;
 use messages::{Body, Message};
@@ -44,23 +45,29 @@ impl Node {
         Some(())
     }
 
-    /// What the node replies to a message of a version.
-    fn reply(&mut self, alloc: Global, version: &str, words: &[&str]) -> Option<String> {
+    /// What the node makes of a message of a version.
+    fn tell(&mut self, alloc: Global, version: &str, words: &[&str]) -> Option<Taken> {
         let version = version.parse::<u32>().ok()?;
         let (verb, rest) = words.split_first()?;
-        let taken = take(&mut self.node, version, read_body(alloc, verb, rest)?)?;
-        shown(alloc, &taken.noted)
+        take(&mut self.node, version, read_body(alloc, verb, rest)?)
     }
 
-    /// What comes of a line: a version and a message, or a question about the node itself.
+    /// The changes that the node tells of a message of a version.
+    fn changes(&mut self, alloc: Global, words: &[&str]) -> Option<String> {
+        let (version, words) = words.split_first()?;
+        told(alloc, self.tell(alloc, version, words)?.changes)
+    }
+
+    /// What comes of a line: a version and a message, `changes` before these, or a question about the node itself.
     pub fn say(&mut self, alloc: Global, verb: &str, rest: &[&str]) -> Option<String> {
         match verb {
             "begin" => done(alloc, self.begin(alloc)),
+            "changes" => self.changes(alloc, rest),
             "entries" => shown(alloc, &self.node.entries()),
             "serial" => shown(alloc, &self.node.last_serial()),
             "version" => shown(alloc, &self.node.version()),
             "regions" => shown(alloc, &self.node.regions()),
-            version => self.reply(alloc, version, rest),
+            version => shown(alloc, &self.tell(alloc, version, rest)?.noted),
         }
     }
 }

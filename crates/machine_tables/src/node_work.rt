@@ -105,7 +105,7 @@ fn tell_all(node: &mut NodePart, verb: &str, bits: u8) -> Option<u64>
 
 /// Applies to a bucket what the node shows of it.
 fn apply_shown(node: &mut NodePart, bucket: Bucket) -> Option<()> {
-    let Taken { reply, noted: _ } = take(node, 1, Body::Read { bucket, only: None })?;
+    let Taken { reply, .. } = take(node, 1, Body::Read { bucket, only: None })?;
     match &reply {
         Reply::Answer { pieces: _, entries } => apply_part(node, bucket, entries),
         _ => None,

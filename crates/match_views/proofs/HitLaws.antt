@@ -1,7 +1,7 @@
 -- Hits of node after node.
 use Rattle.std.proofs.Common.{◌≡◌, ℕ, suc, ◌+◌, ◌++◌, ◌&&◌, Bool, true, false, cond, List, [], ◌∷◌, map, refl, sym, ap, ◌∙◌, arith}
-use Rattle.lane_views.specs.Views.{View}
-use Rattle.lane_views.specs.Serving.{serves_at, rows_of}
+use Rattle.view_changes.specs.Views.{View}
+use Rattle.view_changes.specs.Serving.{serves_at, rows_of}
 use Rattle.document_rows.specs.Reading.{places_where, is_of_type}
 use Rattle.query_text.specs.Truth.{expr_holds}
 use Rattle.query_text.specs.declared.query.Query.{Query}

@@ -2,4 +2,5 @@ pub mod PlaceLaws
 pub mod TruthLaws
 pub mod RangeLaws
 pub mod HitLaws
+mod FewLaws
 pub mod Steps

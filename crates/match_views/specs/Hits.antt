@@ -1,8 +1,8 @@
 -- Which documents of a view a query finds under a version.
 use Rattle.std.specs.Prelude.{ℕ, zero, suc, List, [], ◌++◌, map, if◌then◌else◌}
 use Rattle.document_rows.specs.Reading.{places_where}
-use Rattle.lane_views.specs.Views.{View}
-use Rattle.lane_views.specs.Serving.{serves_at, rows_of}
+use Rattle.view_changes.specs.Views.{View}
+use Rattle.view_changes.specs.Serving.{serves_at, rows_of}
 use Rattle.query_text.specs.Truth.{matches_document}
 use Rattle.query_text.specs.declared.query.Query.{Query}
 use Rattle.match_views.specs.declared.hits.Hit.{Hit}

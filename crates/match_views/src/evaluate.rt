@@ -1,15 +1,15 @@
 ghost use Rattle.std.specs.Prelude.{◌≡◌, ◌&&◌, IfOk};
-ghost use Rattle.lane_views.specs.Serving.{rows_of};
+ghost use Rattle.view_changes.specs.Serving.{rows_of};
 ghost use Rattle.document_rows.specs.Reading.{places_where, is_of_type};
 ghost use Rattle.query_text.specs.Truth.{expr_holds};
 
 use crate::ranges::comparing;
 use crate::sets::{cut, join, lack};
 use crate::terms::containing;
-use lane_views::Lists;
 use query_text::Expr;
 use std::alloc::Global;
 use value_lists::NoMemory;
+use view_changes::Lists;
 
 /// The local ids of a node's documents of a type of which an expression is true. The only error is want of memory.
 pub fn evaluate<L: Lists>(

@@ -1,15 +1,16 @@
-ghost use Rattle.std.specs.Prelude.{◌≡◌, ◌++◌, map, IfOk, OnOk, OnErr};
-ghost use Rattle.lane_views.specs.Serving.{rows_of};
+ghost use Rattle.std.specs.Prelude.{◌≡◌, ◌≤◌, ◌<◌, ◌++◌, map, length, IfOk, OnOk};
+ghost use Rattle.std.specs.List.{AllByRecursion};
+ghost use Rattle.view_changes.specs.Serving.{rows_of};
 ghost use Rattle.document_rows.specs.Reading.{places_where};
 ghost use Rattle.query_text.specs.Truth.{matches_document};
 ghost use Rattle.match_views.specs.Hits.{found_at, hits_below, hits_of};
 
 use crate::evaluate::evaluate;
-use lane_views::Lists;
 use query_text::Query;
 use std::alloc::Global;
 use std::marker::Model;
 use value_lists::NoMemory;
+use view_changes::Lists;
 
 /// A document that a query finds.
 #[derive(Clone, Copy, Debug, PartialEq, Eq, Drop)]
@@ -50,7 +51,9 @@ impl Hits {
 
 /// The hits of one node. The only error is want of memory.
 fn push_all(hits: &mut Vec<Hit>, node: u8, locals: &[u32]) -> Result<(), NoMemory>
-    ensures { OnOk result (hits.new.items ≡ hits.old.items ++ map (λ local. record { node = node; local = local }) locals.now) }
+    ensures items { OnOk result (hits.new.items ≡ hits.old.items ++ map (λ local. record { node = node; local = local }) locals.now) }
+    ensures low { OnOk result (AllByRecursion (λ hit. hit.local < 4294967296) hits.old.items
+        → AllByRecursion (λ hit. hit.local < 4294967296) hits.new.items) }
 {
     for local in locals {
         hits.push(Hit {
@@ -62,14 +65,16 @@ fn push_all(hits: &mut Vec<Hit>, node: u8, locals: &[u32]) -> Result<(), NoMemor
 }
 
 /// Of which documents of nodes that serve at a version a query is true, by rising lists: no document and no value is read.
-/// Takes for each such node the lengths of the lists that the query names. The only error is want of memory.
+/// Takes for each such node the lengths of the lists that the query names. They are at most 2^37, since each of 32 nodes has
+/// 2^32 local ids. The only error is want of memory.
 pub fn matches<L: Lists>(
     alloc: Global,
     query: &Query,
     lists: &L,
     version: u32,
 ) -> Result<Hits, NoMemory>
-    ensures { IfOk result (λ hits. hits ≡ hits_of query.now version (L.seen lists.now)) }
+    ensures hits { IfOk result (λ hits. hits ≡ hits_of query.now version (L.seen lists.now)) }
+    ensures few { IfOk result (λ hits. length hits ≤ 137438953472) }
 {
     let mut items = Vec::new(alloc);
     for node in 0..32 {

@@ -1,7 +1,7 @@
 //! Which documents of a lane's view a query finds.
 //!
 //! A contract sees `Hits` as a list of hits: of each node that serves, rising, the local ids of the documents of which
-//! the query is true (`specs/Hits.antt`). They are found by rising lists that the view lends (`lane_views::Lists`),
+//! the query is true (`specs/Hits.antt`). They are found by rising lists that the view lends (`view_changes::Lists`),
 //! joined, cut and complemented as the query says; no document is read.
 //!
 //! ```text

@@ -1,17 +1,17 @@
 ghost use Rattle.std.specs.Prelude.{◌≡◌, ◌&&◌, ◌++◌, ◌∷◌, [], ℕ, ℤ, List, map, true, if◌then◌else◌, IfOk, OnOk};
 ghost use Rattle.std.specs.FinMap as fin;
 ghost use Rattle.std.specs.Int.Signed.{◌≤ℤ◌};
-ghost use Rattle.lane_views.specs.Serving.{rows_of};
+ghost use Rattle.view_changes.specs.Serving.{rows_of};
 ghost use Rattle.document_rows.specs.Rows.{Rows};
 ghost use Rattle.document_rows.specs.Reading.{places_where, is_of_type, IsWide};
 ghost use Rattle.query_text.specs.Truth.{relates, value_relates};
 ghost use Rattle.match_views.specs.Ranges.{AreLists, has_some, AreAll};
 
 use crate::sets::join;
-use lane_views::Lists;
 use query_text::Rel;
 use std::alloc::Global;
 use value_lists::NoMemory;
+use view_changes::Lists;
 
 /// The local ids of all lists of numbers, joined in pairs. The only error is want of memory.
 fn united(alloc: Global, parts: &[(i64, &[u32])]) -> Result<Vec<u32>, NoMemory>

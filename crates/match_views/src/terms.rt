@@ -1,13 +1,13 @@
 ghost use Rattle.std.specs.Prelude.{◌≡◌, ◌&&◌, ◌<◌, length, IfOk};
 ghost use Rattle.std.specs.FinMap as fin;
-ghost use Rattle.lane_views.specs.Serving.{rows_of};
+ghost use Rattle.view_changes.specs.Serving.{rows_of};
 ghost use Rattle.document_rows.specs.Reading.{places_where, is_of_type};
 ghost use Rattle.query_text.specs.Truth.{contains};
 
 use crate::sets::cut;
-use lane_views::Lists;
 use std::alloc::Global;
 use value_lists::{NoMemory, TextValue};
+use view_changes::Lists;
 
 /// Which of some tokens the fewest documents have.
 fn rarest<L: Lists>(

@@ -21,8 +21,6 @@ pub mod laws;
 mod listing;
 pub mod message;
 mod parts;
-#[cfg(test)]
-mod tests;
 
 pub use fault::MessageFault;
 pub use message::{message_text, read_message};

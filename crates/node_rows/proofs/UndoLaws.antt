@@ -1,14 +1,15 @@
 -- New documents that leave again.
 use Rattle.std.proofs.Common.{◌≡◌, ℕ, zero, suc, ◌+◌, ◌<◌, ◌≤◌, ◌||◌, Bool, true, false, cond, nat_lt, List, [], ◌∷◌, map, fold, length, take, get_or, refl, sym, ap, ap₂, ◌∙◌, arith, Option, Some, None, bytes_eq}
 use Rattle.proof_basics.proofs.Tests.{clash}
+use Rattle.bucket_ids.specs.Buckets.{Low, has_key}
+use Rattle.global_ids.specs.Keys.{key_of}
 use Rattle.doc_types.specs.SchemaCodes.{Types}
 use Rattle.documents.specs.Fields.{Contents}
 use Rattle.documents.specs.declared.entry.Entry.{Entry}
-use Rattle.document_rows.specs.Rows.{Rows, is_of, has_row, free_place, put_free, replaced, without, with_document, fitted, after_body, taken_into}
+use Rattle.document_rows.specs.Rows.{Rows, is_of, has_row, has_entry, free_place, put_free, replaced, without, with_document, fitted, after_body, taken_into}
 use Rattle.document_rows.specs.Reading.{row_at}
 use Rattle.document_rows.proofs.RowLaws.{same_id, own_id}
-use Rattle.node_rows.specs.TypedRows.{has_entry, AreNew}
-use Rattle.node_rows.specs.Kept.{all_left}
+use Rattle.node_rows.specs.TypedRows.{AreNew, all_left, without_in}
 
 -- rows, and what entries made of them: only free places changed, to documents of the entries
 abbrev pub IsOver : List Entry → Rows → Rows → Type 0
@@ -183,6 +184,21 @@ left_back es rows cur h = ap (take (length rows)) (left_is es cur) ∙ dropped_b
 
 pub left_rest : (es : List Entry) (rows cur : Rows) → IsOver es rows cur → (k : ℕ) → length rows ≤ k → row_at (all_left es cur) k ≡ None
 left_rest es rows cur h k l = ap (λ rs. row_at rs k) (left_is es cur) ∙ dropped_rest es rows cur h k l
+
+-- where the entries are those of a bucket
+dropped_in : (b : Low) (es : List Entry) (rows : Rows) → ((q : List ℕ) → has_row q rows ≡ true → has_entry q es ≡ has_key b (key_of q)) → map (dropped es) rows ≡ without_in b rows
+unfolding dropped
+dropped_in b es [] h = refl
+dropped_in b es (None ∷ rows) h = ap (λ ys. None ∷ ys) (dropped_in b es rows h)
+dropped_in b es (Some d ∷ rows) h =
+    ap₂ (λ t ys. cond t None (Some d) ∷ ys) (h d.id (ap (λ t. t || has_row d.id rows) (own_id d.id))) (dropped_in b es rows (λ q k. h q (later q (bytes_eq d.id q) k)))
+  where
+    later : (q : List ℕ) (t : Bool) → has_row q rows ≡ true → (t || has_row q rows) ≡ true
+    later q true k = refl
+    later q false k = k
+
+pub left_in : (b : Low) (es : List Entry) (rows : Rows) → ((q : List ℕ) → has_row q rows ≡ true → has_entry q es ≡ has_key b (key_of q)) → all_left es rows ≡ without_in b rows
+left_in b es rows h = left_is es rows ∙ dropped_in b es rows h
 
 -- ---- one entry after the other
 

@@ -1,5 +1,5 @@
 -- What the code keeps beside the rows of a node.
-use Rattle.std.specs.Prelude.{◌≡◌, ◌<◌, ◌==◌, ◌&&◌, ◌↔◌, not, ℕ, zero, suc, ℤ, Bool, true, false, nat_lt, List, [], ◌∷◌, length, map, fold, Option, None, Some, option_map, if◌then◌else◌}
+use Rattle.std.specs.Prelude.{◌≡◌, ◌<◌, ◌==◌, ◌&&◌, ◌↔◌, not, ℕ, zero, suc, ℤ, Bool, true, false, nat_lt, List, [], ◌∷◌, length, map, Option, None, Some, option_map, if◌then◌else◌}
 use Rattle.std.specs.List.{Contains, list_any}
 use Rattle.std.specs.Option.{IfSome, option_map_or}
 use Rattle.std.specs.FinMap as fin
@@ -17,7 +17,7 @@ use Rattle.meta_store.specs.Store.{Store}
 use Rattle.meta_store.specs.declared.store.Named.{Named}
 use Rattle.field_indexes.specs.Fields.{Fields, cell}
 use Rattle.document_indexes.specs.Entering.{cell_of, kind_at}
-use Rattle.document_rows.specs.Rows.{Rows, fits, fitted, kind_in, free_place, put_free, without, AreDistinct}
+use Rattle.document_rows.specs.Rows.{Rows, fits, fitted, kind_in, free_place, put_free, AreDistinct}
 use Rattle.node_rows.specs.TypedRows.{lies_in}
 use Rattle.document_rows.specs.Reading.{row_at, is_of_type, value_has_number, IsWide}
 
@@ -118,7 +118,3 @@ abbrev pub changed_below : (Option Contents → Option Contents) → ℕ → Row
 changed_below f zero rows = rows
 changed_below f (suc n) [] = []
 changed_below f (suc n) (r ∷ rows) = f r ∷ changed_below f n rows
-
--- the documents of some entries are gone
-abbrev pub all_left : List Entry → Rows → Rows
-all_left es rows = fold (λ rs e. without e.id rs) rows es

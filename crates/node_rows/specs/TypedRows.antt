@@ -1,14 +1,12 @@
 -- A node's documents by local id, with the types of the schema that their values are of.
 use Rattle.std.specs.Prelude.{◌≡◌, ℕ, Bool, false, List, [], ◌∷◌, map, fold, refl, Option, None, Some, if◌then◌else◌}
 use Rattle.std.specs.Coded.{Coded, code_by, coded×, coded_list, coded_option}
-use Rattle.std.specs.List.{list_any}
-use Rattle.std.specs.Str.{bytes_eq}
 use Rattle.bucket_ids.specs.Buckets.{Low, has_key}
 use Rattle.global_ids.specs.Keys.{key_of}
 use Rattle.doc_types.specs.SchemaCodes.{Types, types_code}
 use Rattle.documents.specs.Fields.{Contents, contents_code}
 use Rattle.documents.specs.declared.entry.Entry.{Entry}
-use Rattle.document_rows.specs.Rows.{Rows, has_row, fitted, taken_into}
+use Rattle.document_rows.specs.Rows.{Rows, has_row, has_entry, fitted, without, taken_into}
 
 -- rows, and the schema's types that their values are of
 pub record TypedRows : Type 0 where
@@ -31,6 +29,10 @@ with_rows rows t = record { types = t.types; rows = rows }
 abbrev pub all_taken : Types → List Entry → Rows → Rows
 all_taken types es rows = fold (taken_into types) rows es
 
+-- the documents of some entries are gone
+abbrev pub all_left : List Entry → Rows → Rows
+all_left es rows = fold (λ rs e. without e.id rs) rows es
+
 -- the document's key lies in the bucket
 abbrev pub lies_in : Low → Option Contents → Bool
 lies_in b None = false
@@ -39,10 +41,6 @@ lies_in b (Some d) = has_key b (key_of d.id)
 -- each document of the bucket is gone
 abbrev pub without_in : Low → Rows → Rows
 without_in b rows = map (λ r. if lies_in b r then None else r) rows
-
--- an entry has this id
-abbrev pub has_entry : List ℕ → List Entry → Bool
-has_entry id es = list_any (λ e. bytes_eq e.id id) es
 
 -- entries of ids that no row has, each once
 abbrev pub AreNew : Rows → List Entry → Type 0

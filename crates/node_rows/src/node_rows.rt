@@ -6,8 +6,8 @@ ghost use Rattle.global_ids.specs.Keys.{key_of};
 ghost use Rattle.document_indexes.specs.Entering.{cell_of};
 ghost use Rattle.document_rows.specs.Rows.{AreDistinct, has_row, without, with_document, taken_into};
 ghost use Rattle.document_rows.specs.Reading.{row_at, value_at, places_where, is_any, is_of_type, has_token, has_number_in, IsWide};
-ghost use Rattle.node_rows.specs.Kept.{document_in, documents_in, IsProper, set_at, put_new, by_body, kept_in, all_left};
-ghost use Rattle.node_rows.specs.TypedRows.{with_rows, lies_in, without_in, all_taken, AreNew, AreFitted};
+ghost use Rattle.node_rows.specs.Kept.{document_in, documents_in, IsProper, set_at, put_new, by_body, kept_in};
+ghost use Rattle.node_rows.specs.TypedRows.{with_rows, lies_in, without_in, all_taken, all_left, AreNew, AreFitted};
 
 use crate::fitting::kept_entry;
 use crate::shared_schema::SharedSchema;
@@ -194,8 +194,9 @@ impl NodeRows {
         self.rows.truncate(count);
     }
 
-    /// The documents of some entries go. Takes no memory.
-    fn leave_all(&mut self, entries: &[SharedEntry])
+    /// The documents of some entries go, where they are there. For each of them takes what its leaving takes, and no
+    /// memory.
+    pub fn leave_all(&mut self, entries: &[SharedEntry])
         ensures { self.new ≡ with_rows (all_left entries.now self.old.rows) self.old }
     {
         for at in 0..entries.len() {
@@ -253,8 +254,8 @@ impl NodeRows {
         }
     }
 
-    /// The documents of a bucket go. Takes no memory; goes over all places, and for each of these documents takes what
-    /// its leaving takes.
+    /// The documents of a bucket go. Takes no memory, but goes over all places: who knows these documents' entries
+    /// leaves them all instead.
     pub fn drop_in(&mut self, bucket: Bucket)
         ensures { self.new ≡ with_rows (without_in bucket self.old.rows) self.old }
     {

@@ -28,6 +28,10 @@ IsOwn id (Update u) = Unit {0}
 IsOwn id Remove = Unit {0}
 IsOwn id Get = Unit {0}
 
+-- a get has no condition
+abbrev pub IsPlainGet : Operation → Type 0
+IsPlainGet o = is_get o.kind ≡ true → o.condition ≡ None
+
 pub record IsPlan (p : Plan) : Type 0 where
   pub some : 1 ≤ p.acks
   pub enough : p.acks ≤ size_of p.recipients

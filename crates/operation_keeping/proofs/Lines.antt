@@ -23,7 +23,8 @@ use Rattle.lane_journals.proofs.Basics.{or_else-cases, only_if-some}
 use Rattle.lane_keeping.specs.LaneKeeping.{setting_of, Holds, part_in, Keeps}
 use Rattle.lane_keeping.specs.Acting.{IsActing}
 use Rattle.proof_basics.proofs.Numbers.{apart}
-use Rattle.operation_keeping.specs.OperationKeeping.{IsOfNoLine, IsNotOf, IsFresh, beginning_of, IsUnderWay, KnowsPreparing}
+use Rattle.operation_keeping.specs.OperationKeeping.{beginning_of, IsUnderWay, KnowsPreparing}
+use Rattle.lane_keeping.specs.Lines.{IsOfNoLine, IsNotOf, IsFresh}
 use Rattle.lane_journals.specs.Facts.{AllClosed}
 use Rattle.operation_keeping.specs.Laws.{drawn, MayBeginNext}
 

@@ -34,7 +34,8 @@ use Rattle.lane_journals.proofs.Kept.{answered-took-op}
 use Rattle.lane_keeping.specs.NodeKeeping.{stamp_of}
 use Rattle.lane_keeping.specs.LaneKeeping.{setting_of}
 use Rattle.lane_keeping.specs.Acting.{IsActing, IsKnownRow}
-use Rattle.operation_keeping.specs.OperationKeeping.{beginning_of, KnowsPreparing, IsPlainGet, KnowsPlan, KnowsReads, KnowsStores, KnowsOperation}
+use Rattle.operation_keeping.specs.OperationKeeping.{beginning_of, KnowsPreparing, KnowsPlan, KnowsReads, KnowsStores, KnowsOperation}
+use Rattle.op_machine.specs.Plans.{IsPlainGet}
 use Rattle.operation_keeping.specs.Laws.{MayLackAnswers}
 use Rattle.operation_keeping.proofs.Plain.{none-some}
 use Rattle.operation_keeping.proofs.Counting.{size_of-is}

@@ -15,50 +15,21 @@ use Rattle.op_machine.specs.declared.plan.Plan.{Plan}
 use Rattle.op_machine.specs.declared.machine.Standing.{Standing}
 use Rattle.op_machine.specs.Judging.{looks}
 use Rattle.op_machine.specs.Outcomes.{Answers, answers_of, Asks}
-use Rattle.op_machine.specs.Plans.{IsPlan, is_get}
+use Rattle.op_machine.specs.Plans.{IsPlan, IsPlainGet}
 use Rattle.op_machine.specs.Standings.{due_entry, next_at}
 use Rattle.distributor_part.specs.declared.rules.Rules.{Rules}
 use Rattle.lane_journals.specs.Stamps.{Le}
 use Rattle.lane_journals.specs.Buckets.{contains, key_of}
 use Rattle.lane_journals.specs.Events.{Content, ReadDoc, Store, Reply, NoMemory}
 use Rattle.lane_journals.specs.Readers as readers
-use Rattle.lane_journals.specs.Readers.{Journal, Beginning, Preparing, began, refused, prepared, wrote, closed, opened, row_at, complete, active, answered_store, before_line, sent, first_reply, returned}
+use Rattle.lane_journals.specs.Readers.{Journal, Beginning, Preparing, began, prepared, wrote, closed, opened, row_at, complete, active, answered_store, before_line, sent, first_reply, returned}
 use Rattle.lane_journals.specs.Facts.{ReadBack}
 use Rattle.lane_journals.specs.Meanings.{history, entry_at}
 use Rattle.lane_journals.specs.declared.event.LaneEvent.{LaneEvent}
-use Rattle.lane_journals.specs.declared.event.LaneEvent.TheVariants.{Begun, Refused, Prepared, Wrote, Closed}
 use Rattle.lane_keeping.specs.NodeKeeping.{stamp_of}
 use Rattle.lane_keeping.specs.Flights.{IsInFlight}
 
--- ---- lines
-
--- the event is of no line, and of no line but perhaps others
-abbrev pub IsOfNoLine : LaneEvent → Type 0
-IsOfNoLine (Begun l d v id s) = ⊥
-IsOfNoLine (Refused l d outcome) = ⊥
-IsOfNoLine (Prepared l b set) = ⊥
-IsOfNoLine (Wrote l entry) = ⊥
-IsOfNoLine (Closed l outcome) = ⊥
-IsOfNoLine _ = Unit {0}
-
-abbrev pub IsNotOf : ℕ → LaneEvent → Type 0
-IsNotOf line (Begun l d v id s) = l ≢ line
-IsNotOf line (Refused l d outcome) = l ≢ line
-IsNotOf line (Prepared l b set) = l ≢ line
-IsNotOf line (Wrote l entry) = l ≢ line
-IsNotOf line (Closed l outcome) = l ≢ line
-IsNotOf line _ = Unit {0}
-
-pub record IsUnused (begun : Option Beginning) (was_refused : Bool) (preparing : Option Preparing) (has_written is_closed : Bool) : Type 0 where
-  pub unbegun : begun ≡ None
-  pub unrefused : was_refused ≡ false
-  pub unprepared : preparing ≡ None
-  pub unwritten : has_written ≡ false
-  pub unclosed : is_closed ≡ false
-
--- the line has no event
-abbrev pub IsFresh : Journal → ℕ → Type 0
-IsFresh H line = IsUnused (began line H) (refused line H) (prepared line H) (wrote line H) (closed line H)
+-- ---- operations
 
 abbrev pub beginning_of : ℕ → ClusterState → Operation → Option Stamp → Beginning
 beginning_of d s o stamp = record { distributor = d; version = s.version; id = o.id; stamp = stamp }
@@ -83,10 +54,6 @@ abbrev pub KnowsPreparing : Low → Journal → ℕ → ClusterState → ℕ →
 KnowsPreparing lane H d s line o stamp = IsPreparing (IsUnderWay lane H d s line o stamp) (prepared line H) (wrote line H)
 
 -- ---- the plan
-
--- a get has no condition
-abbrev pub IsPlainGet : Operation → Type 0
-IsPlainGet o = is_get o.kind ≡ true → o.condition ≡ None
 
 -- the operation is prepared in the row of its key, for the row's complete members, which serve
 pub record IsPlanned (lane : Low) (rules : Rules) (d : ℕ) (s : ClusterState) (row : Low) (under_way : Type 0) (preparing : Option Preparing) (is_open : Bool) (row_of : ℕ → Option Low)

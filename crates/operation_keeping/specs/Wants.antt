@@ -36,7 +36,7 @@ use Rattle.lane_journals.specs.declared.event.LaneEvent.TheVariants.{Opened, Pre
 use Rattle.lane_keeping.specs.Replaying.{sending}
 use Rattle.lane_keeping.specs.LaneKeeping.{PartKeeps}
 use Rattle.lane_keeping.specs.Acting.{IsActing, IsKnownRow}
-use Rattle.round_keeping.specs.RoundKeeping.{KnowsRound, KnowsAnswers}
+use Rattle.lane_keeping.specs.RoundKeeping.{KnowsRound, KnowsAnswers}
 use Rattle.operation_keeping.specs.OperationKeeping.{IsUnderWay, WasShort, KnowsOperation}
 
 pub data Want : Type 0 where

@@ -4,7 +4,7 @@ use Rattle.std.specs.List.{list_any, find}
 use Rattle.bucket_ids.specs.Buckets.{Low, IsBucket, has_key, covers}
 use Rattle.lane_journals.specs.Stamps.{Stamp, newer}
 use Rattle.pieces.specs.declared.piece.Piece.{Piece}
-use Rattle.service_layer.specs.Nodes.{with_region}
+use Rattle.view_changes.specs.Shown.{with_region}
 use Rattle.pieces.specs.Pieces.{split_at, join_at, with_piece, apply_at, ready_at, make_ready, renew, renewed, with_serial, without, does_meet, is_over, is_inside, is_exactly, has_key_of}
 use Rattle.lane_journals.specs.Buckets.{Id, key_of}
 use Rattle.lane_journals.specs.Events.{Content}

@@ -4,7 +4,7 @@ use Rattle.std.specs.List.{list_any}
 use Rattle.bucket_ids.specs.Buckets.{Low, IsBucket, has_key, covers}
 use Rattle.bucket_ids.specs.Paths.{first_path}
 use Rattle.pieces.specs.declared.piece.Piece.{Piece}
-use Rattle.service_layer.specs.Nodes.{with_region}
+use Rattle.view_changes.specs.Shown.{with_region}
 use Rattle.pieces.specs.Pieces.{same_bucket, meets, with_piece, make_ready, renew, with_serial, without, does_meet, is_over, is_inside, is_exactly}
 use Rattle.pieces.proofs.PieceLaws.{bucket-same}
 use Rattle.proof_basics.proofs.Tests.{or_false, or_true, or_left, or_right, is_false, clash}

@@ -19,7 +19,8 @@ use Rattle.entry_maps.specs.EntryCodes.{Entries}
 use Rattle.entry_maps.specs.Joins.{joined}
 use Rattle.replica_store.specs.Replicas.{IsReplica}
 use Rattle.service_layer.specs.Nodes as lane
-use Rattle.service_layer.specs.Nodes.{stored, with_region}
+use Rattle.view_changes.specs.Shown.{with_region}
+use Rattle.service_layer.specs.Nodes.{stored}
 use Rattle.service_layer.specs.Takes.{IsInside, Treats}
 use Rattle.lane_journals.specs.Stamps.{newer}
 use Rattle.lane_journals.specs.Buckets.{Id, key_of}

@@ -5,7 +5,7 @@ use Rattle.std.specs.List.{list_any}
 use Rattle.bucket_ids.specs.Buckets.{Low, has_key}
 use Rattle.pieces.specs.declared.piece.Piece.{Piece}
 use Rattle.pieces.specs.Pieces.{is_over, is_inside, is_exactly, does_meet, is_piece, renewed, split_at, join_at, apply_at, ready_at, without}
-use Rattle.service_layer.specs.Nodes.{with_region}
+use Rattle.view_changes.specs.Shown.{with_region}
 use Rattle.lane_journals.specs.Stamps.{newer}
 use Rattle.lane_journals.specs.Buckets.{key_of}
 use Rattle.lane_journals.specs.Events.{Content}

@@ -17,6 +17,7 @@ use global_ids::laws::keys_locate;
 use pieces::{LaidPieces, Piece, PieceList, StoreFault};
 use std::alloc::Global;
 use std::marker::Model;
+use value_lists::NoMemory;
 
 /// What a node has of one bucket.
 #[derive(Drop)]
@@ -96,6 +97,13 @@ impl ReplicaStore {
         self.entries.entries()
     }
 
+    /// The entries in a bucket, shared. The only error is want of memory.
+    pub fn entries_in(&self, bucket: Bucket) -> Result<EntryMap, NoMemory>
+        ensures { IfOk result (λ part. part ≡ fin.retain_keys self.now.entries (in_bucket bucket)) }
+    {
+        self.entries.within(bucket)
+    }
+
     /// Whether a bucket has a key.
     pub fn holds(&self, key: u64) -> bool
         requires { key < 2 ^ 58 }
@@ -114,7 +122,7 @@ impl ReplicaStore {
         let Ok(pieces) = self.pieces.meeting(self.alloc, bucket) else {
             return Err(StoreFault::NoMemory);
         };
-        let Ok(entries) = self.entries.within(bucket) else {
+        let Ok(entries) = self.entries_in(bucket) else {
             return Err(StoreFault::NoMemory);
         };
         Ok(Held {

@@ -17,6 +17,7 @@ use Rattle.stamps.specs.declared.stamp.Stamp.{Stamp}
 use Rattle.stamps.specs.Printed.{printed}
 use Rattle.doc_types.specs.SchemaCodes.{Types}
 use Rattle.doc_types.specs.Values.{kind_of}
+use Rattle.doc_types.specs.declared.outputs.OutputKind.{OutputKind}
 use Rattle.doc_types.specs.declared.values.FieldValue.{FieldValue}
 use Rattle.doc_types.specs.declared.values.FieldValue.TheVariants.{Int, Text, Ints, Texts}
 use Rattle.document_ids.specs.Parts.{type_of}
@@ -28,12 +29,15 @@ use Rattle.doc_updates.specs.declared.fault.UpdateFault.{UpdateFault}
 use Rattle.doc_updates.specs.declared.fault.UpdateFault.TheVariants as fault
 use Rattle.feed_lines.specs.declared.command.Cause.{Cause}
 use Rattle.feed_lines.specs.declared.command.Cause.TheVariants as cause
+use Rattle.query_groups.specs.Outputs.{NamedOnce}
+use Rattle.query_groups.specs.declared.answers.Group.{Group}
 use Rattle.reports.specs.ReportText.{line_text, cause_text, members_of, report_text}
-use Rattle.reports.specs.Telling.{IsCount, IsInt, HasInts, IsStamp, IsStampIf, IsDocument, CanBe}
+use Rattle.reports.specs.Telling.{IsCount, IsInt, HasInts, IsStamp, IsStampIf, IsDocument, IsGroup, CanBe, told_group, as_told}
 use Rattle.reports.specs.declared.answer.Answer.{Answer}
 use Rattle.reports.specs.declared.answer.Answer.TheVariants as answer
 use Rattle.reports.proofs.OneObject.{object_read}
-use Rattle.reports.proofs.Parts.{look, text_in, some_text, truth_in, some_object, or_else, numbers_in, outline_of, word_of, numbers_of, stamp_of, taken_of, fault_of, field_of, cause_of, id_of, fields_of, word_read, numbers_read, stamp_read, taken_read, fault_read, field_read, cause_read, id_read, fields_read}
+use Rattle.reports.proofs.Parts.{look, text_in, some_text, truth_in, some_object, some_items, or_else, numbers_in, outline_of, groups_outline, word_of, numbers_of, stamp_of, taken_of, fault_of, field_of, cause_of, id_of, fields_of, groups_of, word_read, numbers_read, stamp_read, taken_read, fault_read, field_read, cause_read, id_read, fields_read, groups_read}
+use Rattle.reports.proofs.SameGroups.{same_groups}
 
 -- ---- numbers and stamps print apart
 
@@ -145,6 +149,10 @@ abbrev fields_or : Option FieldMap → FieldMap
 fields_or None = fin.from_entries []
 fields_or (Some fields) = fields
 
+abbrev groups_or : Option (List Group) → List Group
+groups_or None = []
+groups_or (Some groups) = groups
+
 abbrev acked_by : Option Stamp → Answer
 acked_by None = answer.Nothing
 acked_by (Some stamp) = answer.Acked stamp
@@ -197,12 +205,14 @@ record Told : Type 0 where
   pub cause : List ℕ
   pub id : List ℕ
   pub fields : Option FieldMap
+  pub groups : Option (List Group)
 
-abbrev told_from : List ℕ → List ℕ → Option Stamp → Bool → List ℕ → List ℕ → List ℕ → List ℕ → Option FieldMap → Told
-told_from word numbers stamp taken fault field cause id fields = record { word = word; numbers = numbers; stamp = stamp; taken = taken; fault = fault; field = field; cause = cause; id = id; fields = fields }
+abbrev told_from : List ℕ → List ℕ → Option Stamp → Bool → List ℕ → List ℕ → List ℕ → List ℕ → Option FieldMap → Option (List Group) → Told
+told_from word numbers stamp taken fault field cause id fields groups =
+    record { word = word; numbers = numbers; stamp = stamp; taken = taken; fault = fault; field = field; cause = cause; id = id; fields = fields; groups = groups }
 
 abbrev told_of : Answer → Told
-told_of a = told_from (word_of a) (numbers_of a) (stamp_of a) (taken_of a) (fault_of a) (field_of a) (cause_of a) (id_of a) (fields_of a)
+told_of a = told_from (word_of a) (numbers_of a) (stamp_of a) (taken_of a) (fault_of a) (field_of a) (cause_of a) (id_of a) (fields_of a) (option_map (map told_group) (groups_of a))
 
 abbrev answer_from : Told → Answer
 answer_from t =
@@ -225,93 +235,145 @@ answer_from t =
     cond (bytes_eq t.word (codes "stopped")) (answer.Stopped (first_of t.numbers)) (
     cond (bytes_eq t.word (codes "started")) (answer.Started (first_of t.numbers)) (
     cond (bytes_eq t.word (codes "maintained")) (answer.Maintained (third_of t.numbers) (fourth_of t.numbers) (first_of t.numbers) (second_of t.numbers)) (
-    answer.Planned t.taken)))))))))))))))))))
+    cond (bytes_eq t.word (codes "search")) (answer.Search (record { version = third_of t.numbers; count = first_of t.numbers; covered = second_of t.numbers; full = t.taken; groups = groups_or t.groups })) (
+    cond (bytes_eq t.word (codes "badquery")) (answer.BadQuery (first_of t.numbers)) (
+    answer.Planned t.taken)))))))))))))))))))))
 
 own_document : (types : Types) (id : List ℕ) (document : Contents) → IsDocument types id document → record { id = id; fields = document.fields } ≡ document
 own_document types id document h = ap (λ i. record { id = i; fields = document.fields }) (sym h.own)
 
-answer_back : (types : Types) (a : Answer) → CanBe types a → answer_from (told_of a) ≡ a
-answer_back types (answer.Acked stamp) h = refl
-answer_back types (answer.Found id document stamp) h = ap (λ d. answer.Found id d stamp) (own_document types id document h.0)
-answer_back types (answer.Missing seen) h = refl
-answer_back types answer.Nothing h = refl
-answer_back types (answer.ConditionFailed seen) h = refl
-answer_back types (answer.BadUpdate (fault.ZeroDivisor field)) h = refl
-answer_back types (answer.BadUpdate (fault.Overflow field)) h = refl
-answer_back types (answer.BadUpdate (fault.TooMany field)) h = refl
-answer_back types (answer.BadUpdate (fault.TooLarge size)) h = refl
-answer_back types (answer.BadUpdate fault.NoMemory) h = absurd h
-answer_back types (answer.TooFew answered needed absent) h = refl
-answer_back types (answer.OwnedElsewhere owner version) h = refl
-answer_back types answer.NoMemory h = refl
-answer_back types (answer.BadLine why) h = ap answer.BadLine (cause_back why)
-answer_back types answer.TooLong h = refl
-answer_back types (answer.Published version) h = refl
-answer_back types (answer.BadState offset) h = refl
-answer_back types (answer.NotNewer have) h = refl
-answer_back types answer.NoDistributor h = refl
-answer_back types (answer.TooFewUp up acks) h = refl
-answer_back types (answer.TooManyOut out acks) h = refl
-answer_back types (answer.Stopped node) h = refl
-answer_back types (answer.Started node) h = refl
-answer_back types (answer.Planned taken) h = refl
-answer_back types (answer.Maintained lanes rested blocked disturbed) h = refl
+answer_back : (types : Types) (asked : List OutputKind) (a : Answer) → CanBe types asked a → answer_from (told_of a) ≡ as_told a
+answer_back types asked (answer.Acked stamp) h = refl
+answer_back types asked (answer.Found id document stamp) h = ap (λ d. answer.Found id d stamp) (own_document types id document h.0)
+answer_back types asked (answer.Missing seen) h = refl
+answer_back types asked answer.Nothing h = refl
+answer_back types asked (answer.ConditionFailed seen) h = refl
+answer_back types asked (answer.BadUpdate (fault.ZeroDivisor field)) h = refl
+answer_back types asked (answer.BadUpdate (fault.Overflow field)) h = refl
+answer_back types asked (answer.BadUpdate (fault.TooMany field)) h = refl
+answer_back types asked (answer.BadUpdate (fault.TooLarge size)) h = refl
+answer_back types asked (answer.BadUpdate fault.NoMemory) h = absurd h
+answer_back types asked (answer.TooFew answered needed absent) h = refl
+answer_back types asked (answer.OwnedElsewhere owner version) h = refl
+answer_back types asked answer.NoMemory h = refl
+answer_back types asked (answer.BadLine why) h = ap answer.BadLine (cause_back why)
+answer_back types asked answer.TooLong h = refl
+answer_back types asked (answer.Search found) h = refl
+answer_back types asked (answer.BadQuery offset) h = refl
+answer_back types asked (answer.Published version) h = refl
+answer_back types asked (answer.BadState offset) h = refl
+answer_back types asked (answer.NotNewer have) h = refl
+answer_back types asked answer.NoDistributor h = refl
+answer_back types asked (answer.TooFewUp up acks) h = refl
+answer_back types asked (answer.TooManyOut out acks) h = refl
+answer_back types asked (answer.Stopped node) h = refl
+answer_back types asked (answer.Started node) h = refl
+answer_back types asked (answer.Planned taken) h = refl
+answer_back types asked (answer.Maintained lanes rested blocked disturbed) h = refl
 
 -- ---- numbers, stamps and fields of an answer that can be
 
-counts_be : (types : Types) (a : Answer) → CanBe types a → AllByRecursion IsCount (numbers_of a)
-counts_be types (answer.Acked stamp) h = tt
-counts_be types (answer.Found id document stamp) h = tt
-counts_be types (answer.Missing seen) h = tt
-counts_be types answer.Nothing h = tt
-counts_be types (answer.ConditionFailed seen) h = tt
-counts_be types (answer.BadUpdate (fault.ZeroDivisor field)) h = tt
-counts_be types (answer.BadUpdate (fault.Overflow field)) h = tt
-counts_be types (answer.BadUpdate (fault.TooMany field)) h = tt
-counts_be types (answer.BadUpdate (fault.TooLarge size)) h = (h, tt)
-counts_be types (answer.BadUpdate fault.NoMemory) h = tt
-counts_be types (answer.TooFew answered needed absent) h = (h.2, (h.0, (h.1, tt)))
-counts_be types (answer.OwnedElsewhere owner version) h = (h.0, (h.1, tt))
-counts_be types answer.NoMemory h = tt
-counts_be types (answer.BadLine why) h = tt
-counts_be types answer.TooLong h = tt
-counts_be types (answer.Published version) h = (h, tt)
-counts_be types (answer.BadState offset) h = (h, tt)
-counts_be types (answer.NotNewer have) h = (h, tt)
-counts_be types answer.NoDistributor h = tt
-counts_be types (answer.TooFewUp up acks) h = (h.1, (h.0, tt))
-counts_be types (answer.TooManyOut out acks) h = (h.1, (h.0, tt))
-counts_be types (answer.Stopped node) h = (h, tt)
-counts_be types (answer.Started node) h = (h, tt)
-counts_be types (answer.Planned taken) h = tt
-counts_be types (answer.Maintained lanes rested blocked disturbed) h = (h.2, (h.3, (h.0, (h.1, tt))))
+counts_be : (types : Types) (asked : List OutputKind) (a : Answer) → CanBe types asked a → AllByRecursion IsCount (numbers_of a)
+counts_be types asked (answer.Acked stamp) h = tt
+counts_be types asked (answer.Found id document stamp) h = tt
+counts_be types asked (answer.Missing seen) h = tt
+counts_be types asked answer.Nothing h = tt
+counts_be types asked (answer.ConditionFailed seen) h = tt
+counts_be types asked (answer.BadUpdate (fault.ZeroDivisor field)) h = tt
+counts_be types asked (answer.BadUpdate (fault.Overflow field)) h = tt
+counts_be types asked (answer.BadUpdate (fault.TooMany field)) h = tt
+counts_be types asked (answer.BadUpdate (fault.TooLarge size)) h = (h, tt)
+counts_be types asked (answer.BadUpdate fault.NoMemory) h = tt
+counts_be types asked (answer.TooFew answered needed absent) h = (h.2, (h.0, (h.1, tt)))
+counts_be types asked (answer.OwnedElsewhere owner version) h = (h.0, (h.1, tt))
+counts_be types asked answer.NoMemory h = tt
+counts_be types asked (answer.BadLine why) h = tt
+counts_be types asked answer.TooLong h = tt
+counts_be types asked (answer.Search found) h = (h.count, (h.covered, (h.version, tt)))
+counts_be types asked (answer.BadQuery offset) h = (h, tt)
+counts_be types asked (answer.Published version) h = (h, tt)
+counts_be types asked (answer.BadState offset) h = (h, tt)
+counts_be types asked (answer.NotNewer have) h = (h, tt)
+counts_be types asked answer.NoDistributor h = tt
+counts_be types asked (answer.TooFewUp up acks) h = (h.1, (h.0, tt))
+counts_be types asked (answer.TooManyOut out acks) h = (h.1, (h.0, tt))
+counts_be types asked (answer.Stopped node) h = (h, tt)
+counts_be types asked (answer.Started node) h = (h, tt)
+counts_be types asked (answer.Planned taken) h = tt
+counts_be types asked (answer.Maintained lanes rested blocked disturbed) h = (h.2, (h.3, (h.0, (h.1, tt))))
 
-stamp_be : (types : Types) (a : Answer) → CanBe types a → IsStampIf (stamp_of a)
-stamp_be types (answer.Acked stamp) h = h
-stamp_be types (answer.Found id document stamp) h = h.1
-stamp_be types (answer.Missing seen) h = h
-stamp_be types answer.Nothing h = tt
-stamp_be types (answer.ConditionFailed seen) h = h
-stamp_be types (answer.BadUpdate (fault.ZeroDivisor field)) h = tt
-stamp_be types (answer.BadUpdate (fault.Overflow field)) h = tt
-stamp_be types (answer.BadUpdate (fault.TooMany field)) h = tt
-stamp_be types (answer.BadUpdate (fault.TooLarge size)) h = tt
-stamp_be types (answer.BadUpdate fault.NoMemory) h = tt
-stamp_be types (answer.TooFew answered needed absent) h = tt
-stamp_be types (answer.OwnedElsewhere owner version) h = tt
-stamp_be types answer.NoMemory h = tt
-stamp_be types (answer.BadLine why) h = tt
-stamp_be types answer.TooLong h = tt
-stamp_be types (answer.Published version) h = tt
-stamp_be types (answer.BadState offset) h = tt
-stamp_be types (answer.NotNewer have) h = tt
-stamp_be types answer.NoDistributor h = tt
-stamp_be types (answer.TooFewUp up acks) h = tt
-stamp_be types (answer.TooManyOut out acks) h = tt
-stamp_be types (answer.Stopped node) h = tt
-stamp_be types (answer.Started node) h = tt
-stamp_be types (answer.Planned taken) h = tt
-stamp_be types (answer.Maintained lanes rested blocked disturbed) h = tt
+stamp_be : (types : Types) (asked : List OutputKind) (a : Answer) → CanBe types asked a → IsStampIf (stamp_of a)
+stamp_be types asked (answer.Acked stamp) h = h
+stamp_be types asked (answer.Found id document stamp) h = h.1
+stamp_be types asked (answer.Missing seen) h = h
+stamp_be types asked answer.Nothing h = tt
+stamp_be types asked (answer.ConditionFailed seen) h = h
+stamp_be types asked (answer.BadUpdate (fault.ZeroDivisor field)) h = tt
+stamp_be types asked (answer.BadUpdate (fault.Overflow field)) h = tt
+stamp_be types asked (answer.BadUpdate (fault.TooMany field)) h = tt
+stamp_be types asked (answer.BadUpdate (fault.TooLarge size)) h = tt
+stamp_be types asked (answer.BadUpdate fault.NoMemory) h = tt
+stamp_be types asked (answer.TooFew answered needed absent) h = tt
+stamp_be types asked (answer.OwnedElsewhere owner version) h = tt
+stamp_be types asked answer.NoMemory h = tt
+stamp_be types asked (answer.BadLine why) h = tt
+stamp_be types asked answer.TooLong h = tt
+stamp_be types asked (answer.Search found) h = tt
+stamp_be types asked (answer.BadQuery offset) h = tt
+stamp_be types asked (answer.Published version) h = tt
+stamp_be types asked (answer.BadState offset) h = tt
+stamp_be types asked (answer.NotNewer have) h = tt
+stamp_be types asked answer.NoDistributor h = tt
+stamp_be types asked (answer.TooFewUp up acks) h = tt
+stamp_be types asked (answer.TooManyOut out acks) h = tt
+stamp_be types asked (answer.Stopped node) h = tt
+stamp_be types asked (answer.Started node) h = tt
+stamp_be types asked (answer.Planned taken) h = tt
+stamp_be types asked (answer.Maintained lanes rested blocked disturbed) h = tt
+
+-- groups that a query may find
+record AreGroups (asked : List OutputKind) (groups : List Group) : Type 0 where
+  pub once : NamedOnce [] asked
+  pub each : AllByRecursion (IsGroup asked) groups
+
+abbrev AreGroupsIf : List OutputKind → Option (List Group) → Type 0
+AreGroupsIf asked None = Unit {0}
+AreGroupsIf asked (Some groups) = AreGroups asked groups
+
+groups_be : (types : Types) (asked : List OutputKind) (a : Answer) → CanBe types asked a → AreGroupsIf asked (groups_of a)
+groups_be types asked (answer.Acked stamp) h = tt
+groups_be types asked (answer.Found id document stamp) h = tt
+groups_be types asked (answer.Missing seen) h = tt
+groups_be types asked answer.Nothing h = tt
+groups_be types asked (answer.ConditionFailed seen) h = tt
+groups_be types asked (answer.BadUpdate (fault.ZeroDivisor field)) h = tt
+groups_be types asked (answer.BadUpdate (fault.Overflow field)) h = tt
+groups_be types asked (answer.BadUpdate (fault.TooMany field)) h = tt
+groups_be types asked (answer.BadUpdate (fault.TooLarge size)) h = tt
+groups_be types asked (answer.BadUpdate fault.NoMemory) h = tt
+groups_be types asked (answer.TooFew answered needed absent) h = tt
+groups_be types asked (answer.OwnedElsewhere owner version) h = tt
+groups_be types asked answer.NoMemory h = tt
+groups_be types asked (answer.BadLine why) h = tt
+groups_be types asked answer.TooLong h = tt
+groups_be types asked (answer.Search found) h = record { once = h.once; each = h.groups }
+groups_be types asked (answer.BadQuery offset) h = tt
+groups_be types asked (answer.Published version) h = tt
+groups_be types asked (answer.BadState offset) h = tt
+groups_be types asked (answer.NotNewer have) h = tt
+groups_be types asked answer.NoDistributor h = tt
+groups_be types asked (answer.TooFewUp up acks) h = tt
+groups_be types asked (answer.TooManyOut out acks) h = tt
+groups_be types asked (answer.Stopped node) h = tt
+groups_be types asked (answer.Started node) h = tt
+groups_be types asked (answer.Planned taken) h = tt
+groups_be types asked (answer.Maintained lanes rested blocked disturbed) h = tt
+
+same_groups_if : (asked : List OutputKind) (f g : Option (List Group)) → AreGroupsIf asked f → AreGroupsIf asked g → option_map groups_outline f ≡ option_map groups_outline g → option_map (map told_group) f ≡ option_map (map told_group) g
+same_groups_if asked None None h k e = refl
+same_groups_if asked None (Some g) h k e = cc
+same_groups_if asked (Some f) None h k e = cc
+same_groups_if asked (Some f) (Some g) h k e = let is : groups_outline f ≡ groups_outline g = cc in ap Some (same_groups asked f g h.once h.each k.each is)
 
 -- fields that a type of the schema may have
 record AreFields (types : Types) (id : List ℕ) (fields : FieldMap) : Type 0 where
@@ -322,32 +384,34 @@ abbrev AreFieldsIf : Types → List ℕ → Option FieldMap → Type 0
 AreFieldsIf types id None = Unit {0}
 AreFieldsIf types id (Some fields) = AreFields types id fields
 
-fields_be : (types : Types) (a : Answer) → CanBe types a → AreFieldsIf types (id_of a) (fields_of a)
-fields_be types (answer.Acked stamp) h = tt
-fields_be types (answer.Found id document stamp) h = record { fits = h.0.fits; ints = h.0.ints }
-fields_be types (answer.Missing seen) h = tt
-fields_be types answer.Nothing h = tt
-fields_be types (answer.ConditionFailed seen) h = tt
-fields_be types (answer.BadUpdate (fault.ZeroDivisor field)) h = tt
-fields_be types (answer.BadUpdate (fault.Overflow field)) h = tt
-fields_be types (answer.BadUpdate (fault.TooMany field)) h = tt
-fields_be types (answer.BadUpdate (fault.TooLarge size)) h = tt
-fields_be types (answer.BadUpdate fault.NoMemory) h = tt
-fields_be types (answer.TooFew answered needed absent) h = tt
-fields_be types (answer.OwnedElsewhere owner version) h = tt
-fields_be types answer.NoMemory h = tt
-fields_be types (answer.BadLine why) h = tt
-fields_be types answer.TooLong h = tt
-fields_be types (answer.Published version) h = tt
-fields_be types (answer.BadState offset) h = tt
-fields_be types (answer.NotNewer have) h = tt
-fields_be types answer.NoDistributor h = tt
-fields_be types (answer.TooFewUp up acks) h = tt
-fields_be types (answer.TooManyOut out acks) h = tt
-fields_be types (answer.Stopped node) h = tt
-fields_be types (answer.Started node) h = tt
-fields_be types (answer.Planned taken) h = tt
-fields_be types (answer.Maintained lanes rested blocked disturbed) h = tt
+fields_be : (types : Types) (asked : List OutputKind) (a : Answer) → CanBe types asked a → AreFieldsIf types (id_of a) (fields_of a)
+fields_be types asked (answer.Acked stamp) h = tt
+fields_be types asked (answer.Found id document stamp) h = record { fits = h.0.fits; ints = h.0.ints }
+fields_be types asked (answer.Missing seen) h = tt
+fields_be types asked answer.Nothing h = tt
+fields_be types asked (answer.ConditionFailed seen) h = tt
+fields_be types asked (answer.BadUpdate (fault.ZeroDivisor field)) h = tt
+fields_be types asked (answer.BadUpdate (fault.Overflow field)) h = tt
+fields_be types asked (answer.BadUpdate (fault.TooMany field)) h = tt
+fields_be types asked (answer.BadUpdate (fault.TooLarge size)) h = tt
+fields_be types asked (answer.BadUpdate fault.NoMemory) h = tt
+fields_be types asked (answer.TooFew answered needed absent) h = tt
+fields_be types asked (answer.OwnedElsewhere owner version) h = tt
+fields_be types asked answer.NoMemory h = tt
+fields_be types asked (answer.BadLine why) h = tt
+fields_be types asked answer.TooLong h = tt
+fields_be types asked (answer.Search found) h = tt
+fields_be types asked (answer.BadQuery offset) h = tt
+fields_be types asked (answer.Published version) h = tt
+fields_be types asked (answer.BadState offset) h = tt
+fields_be types asked (answer.NotNewer have) h = tt
+fields_be types asked answer.NoDistributor h = tt
+fields_be types asked (answer.TooFewUp up acks) h = tt
+fields_be types asked (answer.TooManyOut out acks) h = tt
+fields_be types asked (answer.Stopped node) h = tt
+fields_be types asked (answer.Started node) h = tt
+fields_be types asked (answer.Planned taken) h = tt
+fields_be types asked (answer.Maintained lanes rested blocked disturbed) h = tt
 
 same_map : (types : Types) (i j : List ℕ) (f g : FieldMap) → i ≡ j → AreFields types i f → AreFields types j g → outline_of f ≡ outline_of g → f ≡ g
 same_map types i j f g same h k e =
@@ -359,34 +423,36 @@ same_fields types i j None (Some g) same h k e = cc
 same_fields types i j (Some f) None same h k e = cc
 same_fields types i j (Some f) (Some g) same h k e = let is : outline_of f ≡ outline_of g = cc in ap Some (same_map types i j f g same h k is)
 
-same_told : (w x : List ℕ) (m n : List ℕ) (s t : Option Stamp) (b c : Bool) (f g : List ℕ) (h i : List ℕ) (j k : List ℕ) (o p : List ℕ) (q r : Option FieldMap)
-    → w ≡ x → m ≡ n → s ≡ t → b ≡ c → f ≡ g → h ≡ i → j ≡ k → o ≡ p → q ≡ r → told_from w m s b f h j o q ≡ told_from x n t c g i k p r
-same_told w x m n s t b c f g h i j k o p q r e1 e2 e3 e4 e5 e6 e7 e8 e9 = rw (e1, e2, e3, e4, e5, e6, e7, e8, e9) refl
+same_told : (w x : List ℕ) (m n : List ℕ) (s t : Option Stamp) (b c : Bool) (f g : List ℕ) (h i : List ℕ) (j k : List ℕ) (o p : List ℕ) (q r : Option FieldMap) (u v : Option (List Group))
+    → w ≡ x → m ≡ n → s ≡ t → b ≡ c → f ≡ g → h ≡ i → j ≡ k → o ≡ p → q ≡ r → u ≡ v → told_from w m s b f h j o q u ≡ told_from x n t c g i k p r v
+same_told w x m n s t b c f g h i j k o p q r u v e1 e2 e3 e4 e5 e6 e7 e8 e9 e10 = rw (e1, e2, e3, e4, e5, e6, e7, e8, e9, e10) refl
 
 -- the same members are the same answer
-same_members : (types : Types) (line : ℕ) (a b : Answer) → CanBe types a → CanBe types b → members_outline (members_of line a) ≡ members_outline (members_of line b) → a ≡ b
-same_members types line a b h k e =
+same_members : (types : Types) (asked : List OutputKind) (line : ℕ) (a b : Answer) → CanBe types asked a → CanBe types asked b → members_outline (members_of line a) ≡ members_outline (members_of line b) → as_told a ≡ as_told b
+same_members types asked line a b h k e =
     let ids = sym (id_read line a) ∙ ap (λ m. text_in (look (codes "id") m)) e ∙ id_read line b in
-    let told = same_told (word_of a) (word_of b) (numbers_of a) (numbers_of b) (stamp_of a) (stamp_of b) (taken_of a) (taken_of b) (fault_of a) (fault_of b) (field_of a) (field_of b) (cause_of a) (cause_of b) (id_of a) (id_of b) (fields_of a) (fields_of b)
+    let told = same_told (word_of a) (word_of b) (numbers_of a) (numbers_of b) (stamp_of a) (stamp_of b) (taken_of a) (taken_of b) (fault_of a) (fault_of b) (field_of a) (field_of b) (cause_of a) (cause_of b) (id_of a) (id_of b) (fields_of a) (fields_of b) (option_map (map told_group) (groups_of a)) (option_map (map told_group) (groups_of b))
     (sym (word_read line a) ∙ ap (λ m. text_in (look (codes "result") m)) e ∙ word_read line b)
-    (same_counts (numbers_of a) (numbers_of b) (counts_be types a h) (counts_be types b k) (sym (numbers_read line a) ∙ ap numbers_in e ∙ numbers_read line b))
-    (same_seen (stamp_of a) (stamp_of b) (stamp_be types a h) (stamp_be types b k)
+    (same_counts (numbers_of a) (numbers_of b) (counts_be types asked a h) (counts_be types asked b k) (sym (numbers_read line a) ∙ ap numbers_in e ∙ numbers_read line b))
+    (same_seen (stamp_of a) (stamp_of b) (stamp_be types asked a h) (stamp_be types asked b k)
     (sym (stamp_read line a) ∙ ap (λ m. or_else (some_text (look (codes "stamp") m)) (some_text (look (codes "seen") m))) e ∙ stamp_read line b))
-    (sym (taken_read line a) ∙ ap (λ m. truth_in (look (codes "taken") m)) e ∙ taken_read line b)
+    (sym (taken_read line a) ∙ ap (λ m. truth_in (or_else (look (codes "taken") m) (look (codes "full") m))) e ∙ taken_read line b)
     (sym (fault_read line a) ∙ ap (λ m. text_in (look (codes "fault") m)) e ∙ fault_read line b)
     (sym (field_read line a) ∙ ap (λ m. text_in (look (codes "field") m)) e ∙ field_read line b)
     (sym (cause_read line a) ∙ ap (λ m. text_in (look (codes "cause") m)) e ∙ cause_read line b)
     ids
-    (same_fields types (id_of a) (id_of b) (fields_of a) (fields_of b) ids (fields_be types a h) (fields_be types b k)
-    (sym (fields_read line a) ∙ ap (λ m. some_object (look (codes "fields") m)) e ∙ fields_read line b)) in
-    sym (answer_back types a h) ∙ ap answer_from told ∙ answer_back types b k
+    (same_fields types (id_of a) (id_of b) (fields_of a) (fields_of b) ids (fields_be types asked a h) (fields_be types asked b k)
+    (sym (fields_read line a) ∙ ap (λ m. some_object (look (codes "fields") m)) e ∙ fields_read line b))
+    (same_groups_if asked (groups_of a) (groups_of b) (groups_be types asked a h) (groups_be types asked b k)
+    (sym (groups_read line a) ∙ ap (λ m. some_items (look (codes "groups") m)) e ∙ groups_read line b)) in
+    sym (answer_back types asked a h) ∙ ap answer_from told ∙ answer_back types asked b k
 
 one_outline : (ms ns : json.Members) → ◌≡◌ {A = Option json.Json} (Some (json.object ms)) (Some (json.object ns)) → ms ≡ ns
 one_outline ms ns e = cc
 
-pub different : (types : Types) (line : ℕ) (a b : Answer) → IsCount line → CanBe types a → CanBe types b → report_text line a ≡ report_text line b → a ≡ b
+pub different : (types : Types) (asked : List OutputKind) (line : ℕ) (a b : Answer) → IsCount line → CanBe types asked a → CanBe types asked b → report_text line a ≡ report_text line b → as_told a ≡ as_told b
 unfolding line_text
-different types line a b l h k e =
+different types asked line a b l h k e =
     let text = append_cancel_right (compact_text (object (members_of line a))) (compact_text (object (members_of line b))) (10 ∷ []) e in
-    same_members types line a b h k
-    (one_outline (members_outline (members_of line a)) (members_outline (members_of line b)) (sym (object_read types line a l h) ∙ ap json.document text ∙ object_read types line b l k))
+    same_members types asked line a b h k
+    (one_outline (members_outline (members_of line a)) (members_outline (members_of line b)) (sym (object_read types asked line a l h) ∙ ap json.document text ∙ object_read types asked line b l k))

@@ -33,3 +33,13 @@ object_said old begun filled new es fs same first all last =
     last ∙ ap (λ l. l ++ end_object ∷ []) (all ∙ ap (λ l. l ++ flat_map field_tokens es) first)
     ∙ append_assoc (old ++ begin_object ∷ []) (flat_map field_tokens es) (end_object ∷ []) ∙ append_assoc old (begin_object ∷ []) (flat_map field_tokens es ++ end_object ∷ [])
     ∙ ap (λ l. old ++ begin_object ∷ l) (fields_said es ∙ ap (λ l. members_tokens (members_outline (members_json l))) same)
+
+-- four parts, each behind the one before
+pub four_said : (old a b c new ps qs rs ts : List Token) → a ≡ old ++ ps → b ≡ a ++ qs → c ≡ b ++ rs → new ≡ c ++ ts → new ≡ old ++ (ps ++ (qs ++ (rs ++ ts)))
+four_said old a b c new ps qs rs ts first second third last =
+    last ∙ ap (λ l. l ++ ts) (third ∙ ap (λ l. l ++ rs) (second ∙ ap (λ l. l ++ qs) first))
+    ∙ append_assoc ((old ++ ps) ++ qs) rs ts ∙ append_assoc (old ++ ps) qs (rs ++ ts) ∙ append_assoc old ps (qs ++ (rs ++ ts))
+
+-- two parts, one behind the other
+pub two_said : (old a new ps qs : List Token) → a ≡ old ++ ps → new ≡ a ++ qs → new ≡ old ++ (ps ++ qs)
+two_said old a new ps qs first last = last ∙ ap (λ l. l ++ qs) first ∙ append_assoc old ps qs

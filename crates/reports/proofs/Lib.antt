@@ -1,6 +1,10 @@
 mod FieldTokens
+mod WideNumbers
+mod GroupTokens
 mod Texts
+mod Parts
+mod Putting
 mod OneObject
 mod Rising
-mod Parts
+mod SameGroups
 mod Different

@@ -4,13 +4,16 @@ use Rattle.std.specs.FinMap as fin
 use Rattle.std.specs.Str.{bytes_eq}
 use Rattle.json.specs.Json as json
 use Rattle.serde_json.specs.Data.{string, number, unsigned, no_members, member}
-use Rattle.serde_json.specs.Written.{outline, members_outline}
+use Rattle.serde_json.specs.View.{items_of}
+use Rattle.serde_json.specs.Written.{outline, items_outline, members_outline}
 use Rattle.stamps.specs.declared.stamp.Stamp.{Stamp}
 use Rattle.stamps.specs.Printed.{printed}
 use Rattle.documents.specs.Fields.{FieldMap}
 use Rattle.json_documents.specs.Json.{members_json}
 use Rattle.doc_updates.specs.declared.fault.UpdateFault.TheVariants as fault
-use Rattle.reports.specs.ReportText.{acked_members, found_members, seen_of, missing_members, condition_failed_members, nothing_members, field_fault_members, size_fault_members, result_members, too_few_members, owned_elsewhere_members, cause_text, bad_line_members, published_members, not_newer_members, too_few_up_members, too_many_out_members, count_members, planned_members, maintained_members, members_of}
+use Rattle.query_groups.specs.declared.answers.Group.{Group}
+use Rattle.reports.specs.GroupText.{groups_json}
+use Rattle.reports.specs.ReportText.{acked_members, found_members, seen_of, missing_members, condition_failed_members, nothing_members, field_fault_members, size_fault_members, result_members, too_few_members, owned_elsewhere_members, cause_text, bad_line_members, search_members, published_members, not_newer_members, too_few_up_members, too_many_out_members, count_members, planned_members, maintained_members, members_of}
 use Rattle.reports.specs.declared.answer.Answer.{Answer}
 use Rattle.reports.specs.declared.answer.Answer.TheVariants as answer
 
@@ -56,6 +59,15 @@ some_object (Some (json.string s)) = None
 some_object (Some (json.array js)) = None
 some_object (Some (json.object ms)) = Some ms
 
+abbrev pub some_items : Option json.Json → Option json.Items
+some_items None = None
+some_items (Some json.null) = None
+some_items (Some (json.boolean b)) = None
+some_items (Some (json.number s)) = None
+some_items (Some (json.string s)) = None
+some_items (Some (json.array js)) = Some js
+some_items (Some (json.object ms)) = None
+
 abbrev pub or_else : {A : Type 0} → Option A → Option A → Option A
 or_else None o = o
 or_else (Some x) o = Some x
@@ -78,6 +90,9 @@ numbers_in (json.member k j ms) = number_onto (bytes_eq (codes "line") k) j (num
 abbrev pub outline_of : FieldMap → json.Members
 outline_of fields = members_outline (members_json (fin.entries fields))
 
+abbrev pub groups_outline : List Group → json.Items
+groups_outline groups = items_outline (items_of (groups_json groups))
+
 abbrev pub word_of : Answer → List ℕ
 word_of (answer.Acked stamp) = codes "acked"
 word_of (answer.Found id document stamp) = codes "found"
@@ -94,6 +109,8 @@ word_of (answer.OwnedElsewhere owner version) = codes "notowner"
 word_of answer.NoMemory = codes "nomemory"
 word_of (answer.BadLine why) = codes "badline"
 word_of answer.TooLong = codes "toolong"
+word_of (answer.Search found) = codes "search"
+word_of (answer.BadQuery offset) = codes "badquery"
 word_of (answer.Published version) = codes "published"
 word_of (answer.BadState offset) = codes "badstate"
 word_of (answer.NotNewer have) = codes "notnewer"
@@ -121,6 +138,8 @@ numbers_of (answer.OwnedElsewhere owner version) = owner ∷ version ∷ []
 numbers_of answer.NoMemory = []
 numbers_of (answer.BadLine why) = []
 numbers_of answer.TooLong = []
+numbers_of (answer.Search found) = found.count ∷ found.covered ∷ found.version ∷ []
+numbers_of (answer.BadQuery offset) = offset ∷ []
 numbers_of (answer.Published version) = version ∷ []
 numbers_of (answer.BadState offset) = offset ∷ []
 numbers_of (answer.NotNewer have) = have ∷ []
@@ -148,6 +167,8 @@ stamp_of (answer.OwnedElsewhere owner version) = None
 stamp_of answer.NoMemory = None
 stamp_of (answer.BadLine why) = None
 stamp_of answer.TooLong = None
+stamp_of (answer.Search found) = None
+stamp_of (answer.BadQuery offset) = None
 stamp_of (answer.Published version) = None
 stamp_of (answer.BadState offset) = None
 stamp_of (answer.NotNewer have) = None
@@ -175,6 +196,8 @@ taken_of (answer.OwnedElsewhere owner version) = false
 taken_of answer.NoMemory = false
 taken_of (answer.BadLine why) = false
 taken_of answer.TooLong = false
+taken_of (answer.Search found) = found.full
+taken_of (answer.BadQuery offset) = false
 taken_of (answer.Published version) = false
 taken_of (answer.BadState offset) = false
 taken_of (answer.NotNewer have) = false
@@ -202,6 +225,8 @@ fault_of (answer.OwnedElsewhere owner version) = []
 fault_of answer.NoMemory = []
 fault_of (answer.BadLine why) = []
 fault_of answer.TooLong = []
+fault_of (answer.Search found) = []
+fault_of (answer.BadQuery offset) = []
 fault_of (answer.Published version) = []
 fault_of (answer.BadState offset) = []
 fault_of (answer.NotNewer have) = []
@@ -229,6 +254,8 @@ field_of (answer.OwnedElsewhere owner version) = []
 field_of answer.NoMemory = []
 field_of (answer.BadLine why) = []
 field_of answer.TooLong = []
+field_of (answer.Search found) = []
+field_of (answer.BadQuery offset) = []
 field_of (answer.Published version) = []
 field_of (answer.BadState offset) = []
 field_of (answer.NotNewer have) = []
@@ -256,6 +283,8 @@ cause_of (answer.OwnedElsewhere owner version) = []
 cause_of answer.NoMemory = []
 cause_of (answer.BadLine why) = cause_text why
 cause_of answer.TooLong = []
+cause_of (answer.Search found) = []
+cause_of (answer.BadQuery offset) = []
 cause_of (answer.Published version) = []
 cause_of (answer.BadState offset) = []
 cause_of (answer.NotNewer have) = []
@@ -283,6 +312,8 @@ id_of (answer.OwnedElsewhere owner version) = []
 id_of answer.NoMemory = []
 id_of (answer.BadLine why) = []
 id_of answer.TooLong = []
+id_of (answer.Search found) = []
+id_of (answer.BadQuery offset) = []
 id_of (answer.Published version) = []
 id_of (answer.BadState offset) = []
 id_of (answer.NotNewer have) = []
@@ -310,6 +341,8 @@ fields_of (answer.OwnedElsewhere owner version) = None
 fields_of answer.NoMemory = None
 fields_of (answer.BadLine why) = None
 fields_of answer.TooLong = None
+fields_of (answer.Search found) = None
+fields_of (answer.BadQuery offset) = None
 fields_of (answer.Published version) = None
 fields_of (answer.BadState offset) = None
 fields_of (answer.NotNewer have) = None
@@ -321,10 +354,39 @@ fields_of (answer.Started node) = None
 fields_of (answer.Planned taken) = None
 fields_of (answer.Maintained lanes rested blocked disturbed) = None
 
+abbrev pub groups_of : Answer → Option (List Group)
+groups_of (answer.Acked stamp) = None
+groups_of (answer.Found id document stamp) = None
+groups_of (answer.Missing seen) = None
+groups_of answer.Nothing = None
+groups_of (answer.ConditionFailed seen) = None
+groups_of (answer.BadUpdate (fault.ZeroDivisor field)) = None
+groups_of (answer.BadUpdate (fault.Overflow field)) = None
+groups_of (answer.BadUpdate (fault.TooMany field)) = None
+groups_of (answer.BadUpdate (fault.TooLarge size)) = None
+groups_of (answer.BadUpdate fault.NoMemory) = None
+groups_of (answer.TooFew answered needed absent) = None
+groups_of (answer.OwnedElsewhere owner version) = None
+groups_of answer.NoMemory = None
+groups_of (answer.BadLine why) = None
+groups_of answer.TooLong = None
+groups_of (answer.Search found) = Some found.groups
+groups_of (answer.BadQuery offset) = None
+groups_of (answer.Published version) = None
+groups_of (answer.BadState offset) = None
+groups_of (answer.NotNewer have) = None
+groups_of answer.NoDistributor = None
+groups_of (answer.TooFewUp up acks) = None
+groups_of (answer.TooManyOut out acks) = None
+groups_of (answer.Stopped node) = None
+groups_of (answer.Started node) = None
+groups_of (answer.Planned taken) = None
+groups_of (answer.Maintained lanes rested blocked disturbed) = None
+
 -- ---- each part is read off the report
 
 pub word_read : (line : ℕ) (a : Answer) → text_in (look (codes "result") (members_outline (members_of line a))) ≡ word_of a
-unfolding acked_members found_members missing_members condition_failed_members nothing_members field_fault_members size_fault_members result_members too_few_members owned_elsewhere_members bad_line_members published_members not_newer_members too_few_up_members too_many_out_members count_members planned_members maintained_members
+unfolding acked_members found_members missing_members condition_failed_members nothing_members field_fault_members size_fault_members result_members too_few_members owned_elsewhere_members bad_line_members search_members published_members not_newer_members too_few_up_members too_many_out_members count_members planned_members maintained_members
 word_read line (answer.Acked stamp) = refl
 word_read line (answer.Found id document stamp) = refl
 word_read line (answer.Missing seen) = refl
@@ -340,6 +402,8 @@ word_read line (answer.OwnedElsewhere owner version) = refl
 word_read line answer.NoMemory = refl
 word_read line (answer.BadLine why) = refl
 word_read line answer.TooLong = refl
+word_read line (answer.Search found) = refl
+word_read line (answer.BadQuery offset) = refl
 word_read line (answer.Published version) = refl
 word_read line (answer.BadState offset) = refl
 word_read line (answer.NotNewer have) = refl
@@ -356,7 +420,7 @@ no_number line word None = refl
 no_number line word (Some stamp) = refl
 
 pub numbers_read : (line : ℕ) (a : Answer) → numbers_in (members_outline (members_of line a)) ≡ map decimal (numbers_of a)
-unfolding acked_members found_members missing_members condition_failed_members nothing_members field_fault_members size_fault_members result_members too_few_members owned_elsewhere_members bad_line_members published_members not_newer_members too_few_up_members too_many_out_members count_members planned_members maintained_members
+unfolding acked_members found_members missing_members condition_failed_members nothing_members field_fault_members size_fault_members result_members too_few_members owned_elsewhere_members bad_line_members search_members published_members not_newer_members too_few_up_members too_many_out_members count_members planned_members maintained_members
 numbers_read line (answer.Acked stamp) = refl
 numbers_read line (answer.Found id document stamp) = refl
 numbers_read line (answer.Missing seen) = no_number line (codes "missing") seen
@@ -372,6 +436,8 @@ numbers_read line (answer.OwnedElsewhere owner version) = refl
 numbers_read line answer.NoMemory = refl
 numbers_read line (answer.BadLine why) = refl
 numbers_read line answer.TooLong = refl
+numbers_read line (answer.Search found) = refl
+numbers_read line (answer.BadQuery offset) = refl
 numbers_read line (answer.Published version) = refl
 numbers_read line (answer.BadState offset) = refl
 numbers_read line (answer.NotNewer have) = refl
@@ -388,7 +454,7 @@ seen_read None = refl
 seen_read (Some stamp) = refl
 
 pub stamp_read : (line : ℕ) (a : Answer) → or_else (some_text (look (codes "stamp") (members_outline (members_of line a)))) (some_text (look (codes "seen") (members_outline (members_of line a)))) ≡ option_map printed (stamp_of a)
-unfolding acked_members found_members missing_members condition_failed_members nothing_members field_fault_members size_fault_members result_members too_few_members owned_elsewhere_members bad_line_members published_members not_newer_members too_few_up_members too_many_out_members count_members planned_members maintained_members
+unfolding acked_members found_members missing_members condition_failed_members nothing_members field_fault_members size_fault_members result_members too_few_members owned_elsewhere_members bad_line_members search_members published_members not_newer_members too_few_up_members too_many_out_members count_members planned_members maintained_members
 stamp_read line (answer.Acked stamp) = refl
 stamp_read line (answer.Found id document stamp) = refl
 stamp_read line (answer.Missing seen) = seen_read seen
@@ -404,6 +470,8 @@ stamp_read line (answer.OwnedElsewhere owner version) = refl
 stamp_read line answer.NoMemory = refl
 stamp_read line (answer.BadLine why) = refl
 stamp_read line answer.TooLong = refl
+stamp_read line (answer.Search found) = refl
+stamp_read line (answer.BadQuery offset) = refl
 stamp_read line (answer.Published version) = refl
 stamp_read line (answer.BadState offset) = refl
 stamp_read line (answer.NotNewer have) = refl
@@ -415,8 +483,8 @@ stamp_read line (answer.Started node) = refl
 stamp_read line (answer.Planned taken) = refl
 stamp_read line (answer.Maintained lanes rested blocked disturbed) = refl
 
-pub taken_read : (line : ℕ) (a : Answer) → truth_in (look (codes "taken") (members_outline (members_of line a))) ≡ taken_of a
-unfolding acked_members found_members missing_members condition_failed_members nothing_members field_fault_members size_fault_members result_members too_few_members owned_elsewhere_members bad_line_members published_members not_newer_members too_few_up_members too_many_out_members count_members planned_members maintained_members
+pub taken_read : (line : ℕ) (a : Answer) → truth_in (or_else (look (codes "taken") (members_outline (members_of line a))) (look (codes "full") (members_outline (members_of line a)))) ≡ taken_of a
+unfolding acked_members found_members missing_members condition_failed_members nothing_members field_fault_members size_fault_members result_members too_few_members owned_elsewhere_members bad_line_members search_members published_members not_newer_members too_few_up_members too_many_out_members count_members planned_members maintained_members
 taken_read line (answer.Acked stamp) = refl
 taken_read line (answer.Found id document stamp) = refl
 taken_read line (answer.Missing seen) = refl
@@ -432,6 +500,8 @@ taken_read line (answer.OwnedElsewhere owner version) = refl
 taken_read line answer.NoMemory = refl
 taken_read line (answer.BadLine why) = refl
 taken_read line answer.TooLong = refl
+taken_read line (answer.Search found) = refl
+taken_read line (answer.BadQuery offset) = refl
 taken_read line (answer.Published version) = refl
 taken_read line (answer.BadState offset) = refl
 taken_read line (answer.NotNewer have) = refl
@@ -444,7 +514,7 @@ taken_read line (answer.Planned taken) = refl
 taken_read line (answer.Maintained lanes rested blocked disturbed) = refl
 
 pub fault_read : (line : ℕ) (a : Answer) → text_in (look (codes "fault") (members_outline (members_of line a))) ≡ fault_of a
-unfolding acked_members found_members missing_members condition_failed_members nothing_members field_fault_members size_fault_members result_members too_few_members owned_elsewhere_members bad_line_members published_members not_newer_members too_few_up_members too_many_out_members count_members planned_members maintained_members
+unfolding acked_members found_members missing_members condition_failed_members nothing_members field_fault_members size_fault_members result_members too_few_members owned_elsewhere_members bad_line_members search_members published_members not_newer_members too_few_up_members too_many_out_members count_members planned_members maintained_members
 fault_read line (answer.Acked stamp) = refl
 fault_read line (answer.Found id document stamp) = refl
 fault_read line (answer.Missing seen) = refl
@@ -460,6 +530,8 @@ fault_read line (answer.OwnedElsewhere owner version) = refl
 fault_read line answer.NoMemory = refl
 fault_read line (answer.BadLine why) = refl
 fault_read line answer.TooLong = refl
+fault_read line (answer.Search found) = refl
+fault_read line (answer.BadQuery offset) = refl
 fault_read line (answer.Published version) = refl
 fault_read line (answer.BadState offset) = refl
 fault_read line (answer.NotNewer have) = refl
@@ -472,7 +544,7 @@ fault_read line (answer.Planned taken) = refl
 fault_read line (answer.Maintained lanes rested blocked disturbed) = refl
 
 pub field_read : (line : ℕ) (a : Answer) → text_in (look (codes "field") (members_outline (members_of line a))) ≡ field_of a
-unfolding acked_members found_members missing_members condition_failed_members nothing_members field_fault_members size_fault_members result_members too_few_members owned_elsewhere_members bad_line_members published_members not_newer_members too_few_up_members too_many_out_members count_members planned_members maintained_members
+unfolding acked_members found_members missing_members condition_failed_members nothing_members field_fault_members size_fault_members result_members too_few_members owned_elsewhere_members bad_line_members search_members published_members not_newer_members too_few_up_members too_many_out_members count_members planned_members maintained_members
 field_read line (answer.Acked stamp) = refl
 field_read line (answer.Found id document stamp) = refl
 field_read line (answer.Missing seen) = refl
@@ -488,6 +560,8 @@ field_read line (answer.OwnedElsewhere owner version) = refl
 field_read line answer.NoMemory = refl
 field_read line (answer.BadLine why) = refl
 field_read line answer.TooLong = refl
+field_read line (answer.Search found) = refl
+field_read line (answer.BadQuery offset) = refl
 field_read line (answer.Published version) = refl
 field_read line (answer.BadState offset) = refl
 field_read line (answer.NotNewer have) = refl
@@ -500,7 +574,7 @@ field_read line (answer.Planned taken) = refl
 field_read line (answer.Maintained lanes rested blocked disturbed) = refl
 
 pub cause_read : (line : ℕ) (a : Answer) → text_in (look (codes "cause") (members_outline (members_of line a))) ≡ cause_of a
-unfolding acked_members found_members missing_members condition_failed_members nothing_members field_fault_members size_fault_members result_members too_few_members owned_elsewhere_members bad_line_members published_members not_newer_members too_few_up_members too_many_out_members count_members planned_members maintained_members
+unfolding acked_members found_members missing_members condition_failed_members nothing_members field_fault_members size_fault_members result_members too_few_members owned_elsewhere_members bad_line_members search_members published_members not_newer_members too_few_up_members too_many_out_members count_members planned_members maintained_members
 cause_read line (answer.Acked stamp) = refl
 cause_read line (answer.Found id document stamp) = refl
 cause_read line (answer.Missing seen) = refl
@@ -516,6 +590,8 @@ cause_read line (answer.OwnedElsewhere owner version) = refl
 cause_read line answer.NoMemory = refl
 cause_read line (answer.BadLine why) = refl
 cause_read line answer.TooLong = refl
+cause_read line (answer.Search found) = refl
+cause_read line (answer.BadQuery offset) = refl
 cause_read line (answer.Published version) = refl
 cause_read line (answer.BadState offset) = refl
 cause_read line (answer.NotNewer have) = refl
@@ -528,7 +604,7 @@ cause_read line (answer.Planned taken) = refl
 cause_read line (answer.Maintained lanes rested blocked disturbed) = refl
 
 pub id_read : (line : ℕ) (a : Answer) → text_in (look (codes "id") (members_outline (members_of line a))) ≡ id_of a
-unfolding acked_members found_members missing_members condition_failed_members nothing_members field_fault_members size_fault_members result_members too_few_members owned_elsewhere_members bad_line_members published_members not_newer_members too_few_up_members too_many_out_members count_members planned_members maintained_members
+unfolding acked_members found_members missing_members condition_failed_members nothing_members field_fault_members size_fault_members result_members too_few_members owned_elsewhere_members bad_line_members search_members published_members not_newer_members too_few_up_members too_many_out_members count_members planned_members maintained_members
 id_read line (answer.Acked stamp) = refl
 id_read line (answer.Found id document stamp) = refl
 id_read line (answer.Missing seen) = refl
@@ -544,6 +620,8 @@ id_read line (answer.OwnedElsewhere owner version) = refl
 id_read line answer.NoMemory = refl
 id_read line (answer.BadLine why) = refl
 id_read line answer.TooLong = refl
+id_read line (answer.Search found) = refl
+id_read line (answer.BadQuery offset) = refl
 id_read line (answer.Published version) = refl
 id_read line (answer.BadState offset) = refl
 id_read line (answer.NotNewer have) = refl
@@ -556,7 +634,7 @@ id_read line (answer.Planned taken) = refl
 id_read line (answer.Maintained lanes rested blocked disturbed) = refl
 
 pub fields_read : (line : ℕ) (a : Answer) → some_object (look (codes "fields") (members_outline (members_of line a))) ≡ option_map outline_of (fields_of a)
-unfolding acked_members found_members missing_members condition_failed_members nothing_members field_fault_members size_fault_members result_members too_few_members owned_elsewhere_members bad_line_members published_members not_newer_members too_few_up_members too_many_out_members count_members planned_members maintained_members
+unfolding acked_members found_members missing_members condition_failed_members nothing_members field_fault_members size_fault_members result_members too_few_members owned_elsewhere_members bad_line_members search_members published_members not_newer_members too_few_up_members too_many_out_members count_members planned_members maintained_members
 fields_read line (answer.Acked stamp) = refl
 fields_read line (answer.Found id document stamp) = refl
 fields_read line (answer.Missing seen) = refl
@@ -572,6 +650,8 @@ fields_read line (answer.OwnedElsewhere owner version) = refl
 fields_read line answer.NoMemory = refl
 fields_read line (answer.BadLine why) = refl
 fields_read line answer.TooLong = refl
+fields_read line (answer.Search found) = refl
+fields_read line (answer.BadQuery offset) = refl
 fields_read line (answer.Published version) = refl
 fields_read line (answer.BadState offset) = refl
 fields_read line (answer.NotNewer have) = refl
@@ -582,3 +662,33 @@ fields_read line (answer.Stopped node) = refl
 fields_read line (answer.Started node) = refl
 fields_read line (answer.Planned taken) = refl
 fields_read line (answer.Maintained lanes rested blocked disturbed) = refl
+
+pub groups_read : (line : ℕ) (a : Answer) → some_items (look (codes "groups") (members_outline (members_of line a))) ≡ option_map groups_outline (groups_of a)
+unfolding acked_members found_members missing_members condition_failed_members nothing_members field_fault_members size_fault_members result_members too_few_members owned_elsewhere_members bad_line_members search_members published_members not_newer_members too_few_up_members too_many_out_members count_members planned_members maintained_members
+groups_read line (answer.Acked stamp) = refl
+groups_read line (answer.Found id document stamp) = refl
+groups_read line (answer.Missing seen) = refl
+groups_read line answer.Nothing = refl
+groups_read line (answer.ConditionFailed seen) = refl
+groups_read line (answer.BadUpdate (fault.ZeroDivisor field)) = refl
+groups_read line (answer.BadUpdate (fault.Overflow field)) = refl
+groups_read line (answer.BadUpdate (fault.TooMany field)) = refl
+groups_read line (answer.BadUpdate (fault.TooLarge size)) = refl
+groups_read line (answer.BadUpdate fault.NoMemory) = refl
+groups_read line (answer.TooFew answered needed absent) = refl
+groups_read line (answer.OwnedElsewhere owner version) = refl
+groups_read line answer.NoMemory = refl
+groups_read line (answer.BadLine why) = refl
+groups_read line answer.TooLong = refl
+groups_read line (answer.Search found) = refl
+groups_read line (answer.BadQuery offset) = refl
+groups_read line (answer.Published version) = refl
+groups_read line (answer.BadState offset) = refl
+groups_read line (answer.NotNewer have) = refl
+groups_read line answer.NoDistributor = refl
+groups_read line (answer.TooFewUp up acks) = refl
+groups_read line (answer.TooManyOut out acks) = refl
+groups_read line (answer.Stopped node) = refl
+groups_read line (answer.Started node) = refl
+groups_read line (answer.Planned taken) = refl
+groups_read line (answer.Maintained lanes rested blocked disturbed) = refl

@@ -1,3 +1,4 @@
+pub mod GroupText
 pub mod ReportText
 pub mod Writing
 pub mod Telling

@@ -2,12 +2,15 @@
 use Rattle.std.specs.Prelude.{ℕ, Bool, false, List, [], ◌∷◌, ◌++◌, codes, Option, None, Some}
 use Rattle.stamps.specs.declared.stamp.Stamp.{Stamp}
 use Rattle.stamps.specs.Printed.{printed}
-use Rattle.serde_json.specs.Data.{Data, null, boolean, number, unsigned, string, object, Members, member, no_members}
+use Rattle.serde_json.specs.Data.{Data, null, boolean, number, unsigned, string, array, object, Members, member, no_members}
 use Rattle.serde_json.specs.Written.{compact_text}
+use Rattle.serde_json.specs.View.{items_of}
 use Rattle.documents.specs.Fields.{Contents}
 use Rattle.json_documents.specs.Json.{fields_json}
 use Rattle.doc_updates.specs.declared.fault.UpdateFault.{UpdateFault}
 use Rattle.doc_updates.specs.declared.fault.UpdateFault.TheVariants as fault
+use Rattle.query_groups.specs.declared.answers.SearchAnswer.{SearchAnswer}
+use Rattle.reports.specs.GroupText.{groups_json}
 use Rattle.reports.specs.declared.answer.Answer.{Answer}
 use Rattle.reports.specs.declared.answer.Answer.TheVariants as answer
 use Rattle.feed_lines.specs.declared.command.Cause.{Cause}
@@ -90,6 +93,12 @@ cause_text cause.Condition = codes "condition"
 unfoldable pub bad_line_members : ℕ → Cause → Members
 bad_line_members line why = member (codes "cause") (string (cause_text why)) (with_result line (codes "badline") no_members)
 
+-- what a search found
+unfoldable pub search_members : ℕ → SearchAnswer → Members
+search_members line found =
+    member (codes "count") (number (unsigned found.count)) (member (codes "covered") (number (unsigned found.covered)) (member (codes "full") (boolean found.full)
+    (member (codes "groups") (array (items_of (groups_json found.groups))) (with_result line (codes "search") (member (codes "version") (number (unsigned found.version)) no_members)))))
+
 unfoldable pub published_members : ℕ → ℕ → Members
 published_members line version = with_result line (codes "published") (member (codes "version") (number (unsigned version)) no_members)
 
@@ -129,6 +138,8 @@ members_of line (answer.OwnedElsewhere owner version) = owned_elsewhere_members 
 members_of line answer.NoMemory = result_members line (codes "nomemory")
 members_of line (answer.BadLine why) = bad_line_members line why
 members_of line answer.TooLong = result_members line (codes "toolong")
+members_of line (answer.Search found) = search_members line found
+members_of line (answer.BadQuery offset) = count_members line (codes "offset") offset (codes "badquery")
 members_of line (answer.Published version) = published_members line version
 members_of line (answer.BadState offset) = count_members line (codes "offset") offset (codes "badstate")
 members_of line (answer.NotNewer have) = not_newer_members line have

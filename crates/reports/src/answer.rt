@@ -2,6 +2,7 @@ use doc_updates::UpdateFault;
 use document_ids::DocId;
 use documents::Document;
 use feed_lines::Cause;
+use query_groups::SearchAnswer;
 use stamps::Stamp;
 
 /// What a line is answered.
@@ -51,6 +52,14 @@ pub enum Answer {
     },
     /// The line has more bytes than a line may have.
     TooLong,
+    /// What the documents are that a query found.
+    Search {
+        answer: SearchAnswer,
+    },
+    /// The text is no query; it is the front of one up to this place.
+    BadQuery {
+        offset: u32,
+    },
     /// The state of this version is published.
     Published {
         version: u32,

@@ -59,7 +59,7 @@ fn put_text_list(out: &mut Writer, texts: &[TextValue]) -> Result<(), NoMemory>
 }
 
 /// Writes the value of a field.
-fn put_value(out: &mut Writer, value: &FieldValue) -> Result<(), NoMemory>
+pub fn put_value(out: &mut Writer, value: &FieldValue) -> Result<(), NoMemory>
     ensures { OnOk result (Puts out.old out.new (value_tokens value.now)) }
 {
     match value {

@@ -11,6 +11,7 @@
 
 pub mod answer;
 mod fields;
+mod groups;
 pub mod laws;
 pub mod reports;
 

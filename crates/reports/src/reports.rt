@@ -1,16 +1,18 @@
 ghost use Rattle.std.specs.Prelude.{◌≡◌, ◌∷◌, ◌++◌, [], false, IfOk, OnOk, codes, decimal};
 ghost use Rattle.json.specs.Token.{begin_object, key, string, number, boolean};
 ghost use Rattle.stamps.specs.Printed.{printed};
-ghost use Rattle.reports.specs.ReportText.{acked_members, found_members, missing_members, condition_failed_members, nothing_members, field_fault_members, size_fault_members, result_members, bad_update_members, too_few_members, owned_elsewhere_members, cause_text, published_members, not_newer_members, too_few_up_members, too_many_out_members, count_members, planned_members, maintained_members, bad_line_members, report_text, usage_text, line_text};
-ghost use Rattle.reports.specs.Writing.{Puts, result_tokens, seen_tokens, IsWhole};
+ghost use Rattle.reports.specs.ReportText.{acked_members, found_members, missing_members, condition_failed_members, nothing_members, field_fault_members, size_fault_members, result_members, bad_update_members, too_few_members, owned_elsewhere_members, cause_text, published_members, not_newer_members, too_few_up_members, too_many_out_members, count_members, planned_members, maintained_members, bad_line_members, search_members, report_text, usage_text, line_text};
+ghost use Rattle.reports.specs.Writing.{Puts, result_tokens, seen_tokens, measure_tokens, search_tokens, IsWhole};
 
 use crate::answer::Answer;
 use crate::fields::begun_with;
+use crate::groups::put_groups;
 use doc_updates::UpdateFault;
 use document_ids::DocId;
 use documents::Document;
 use feed_lines::Cause;
 use json::Writer;
+use query_groups::SearchAnswer;
 use stamps::Stamp;
 use std::alloc::Global;
 use value_lists::NoMemory;
@@ -276,6 +278,37 @@ fn bad_line_report(alloc: Global, line: u32, cause: Cause) -> Result<Vec<u8>, No
     ended(out)
 }
 
+/// Writes how many documents a search found, and how many keys it covered.
+fn put_measures(out: &mut Writer, found: &SearchAnswer) -> Result<(), NoMemory>
+    ensures { OnOk result (Puts out.old out.new (measure_tokens found.now)) }
+{
+    put_count(out, "count", found.count)?;
+    put_count(out, "covered", found.covered)?;
+    out.key("full")?;
+    out.boolean(found.full)?;
+    Ok(())
+}
+
+/// Writes the result of a search, and the version that was searched.
+fn put_search(out: &mut Writer, line: u32, version: u32) -> Result<(), NoMemory>
+    ensures { OnOk result (Puts out.old out.new (search_tokens line version)) }
+{
+    put_result(out, line, "search")?;
+    put_count(out, "version", u64::from(version))
+}
+
+/// `{"count":3,"covered":16,"full":false,"groups":[{"count":2,"value":2000}],"line":8,"result":"search","version":2}`.
+#[tactic(auto, unfolding(crate::specs::ReportText::search_members))]
+fn search_report(alloc: Global, line: u32, found: &SearchAnswer) -> Result<Vec<u8>, NoMemory>
+    ensures { IfOk result (λ bytes. bytes.items ≡ line_text (search_members line found.now)) }
+{
+    let mut out = begun(alloc)?;
+    put_measures(&mut out, found)?;
+    put_groups(&mut out, alloc, found.groups.items())?;
+    put_search(&mut out, line, found.version)?;
+    ended(out)
+}
+
 /// `{"line":5,"result":"published","version":2}`.
 #[tactic(auto, unfolding(crate::specs::ReportText::published_members))]
 fn published_report(alloc: Global, line: u32, version: u32) -> Result<Vec<u8>, NoMemory>
@@ -403,6 +436,10 @@ pub fn report(alloc: Global, line: u32, answer: &Answer) -> Result<Vec<u8>, NoMe
         Answer::NoMemory => result_report(alloc, line, "nomemory"),
         Answer::BadLine { cause } => bad_line_report(alloc, line, *cause),
         Answer::TooLong => result_report(alloc, line, "toolong"),
+        Answer::Search { answer } => search_report(alloc, line, answer),
+        Answer::BadQuery { offset } => {
+            count_report(alloc, line, "offset", u64::from(*offset), "badquery")
+        }
         Answer::Published { version } => published_report(alloc, line, *version),
         Answer::BadState { offset } => {
             count_report(alloc, line, "offset", u64::from(*offset), "badstate")

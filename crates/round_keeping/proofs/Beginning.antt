@@ -39,7 +39,7 @@ use Rattle.lane_journals.proofs.Marks.{active-complete, complete-took}
 use Rattle.lane_keeping.proofs.Uniting.{union-begins}
 use Rattle.lane_keeping.specs.LaneKeeping.{setting_of, Holds, part_in, Keeps}
 use Rattle.lane_keeping.specs.Acting.{IsKnownRow}
-use Rattle.round_keeping.specs.RoundKeeping.{is_apply, origin_in, KnowsAnswersOf, KnowsRoundOf, KnowsRound}
+use Rattle.lane_keeping.specs.RoundKeeping.{is_apply, origin_in, KnowsAnswersOf, KnowsRoundOf, KnowsRound}
 use Rattle.round_keeping.specs.Laws.{IsBegun}
 use Rattle.round_keeping.proofs.Sent.{among-none, answered-read, applied-sent, unsent-yet}
 

@@ -21,7 +21,7 @@ use Rattle.lane_journals.proofs.Rows.{running-idle}
 use Rattle.lane_journals.proofs.Meant.{meant-legal}
 use Rattle.lane_keeping.proofs.Uniting.{union-stays}
 use Rattle.lane_keeping.specs.Acting.{IsActing}
-use Rattle.round_keeping.specs.RoundKeeping.{KnowsAnswers, KnowsRound, NoRound}
+use Rattle.lane_keeping.specs.RoundKeeping.{KnowsAnswers, KnowsRound, NoRound}
 use Rattle.round_keeping.proofs.Waiting.{answered-in, answered-stays}
 
 module _ (S : Setting) (J : List LaneEvent) (l : IsLegal S J) (d : ℕ) (s : ClusterState) (r : RoundState) (act : IsActing S.lane J d s) (know : KnowsRound S.lane J d s r) where

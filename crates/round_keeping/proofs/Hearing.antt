@@ -45,7 +45,7 @@ use Rattle.lane_keeping.proofs.Sending.{taken-back}
 use Rattle.lane_keeping.proofs.Uniting.{union-stays, union-joins, union-lies}
 use Rattle.lane_keeping.specs.LaneKeeping.{setting_of, node_in, Keeps}
 use Rattle.lane_keeping.specs.Asking.{IsTakenBy}
-use Rattle.round_keeping.specs.RoundKeeping.{was_sent, is_apply, is_of, IsNamed, AreAnswers, IsReading, KnowsRoundOf, KnowsRound, body_of, IsAwaited}
+use Rattle.lane_keeping.specs.RoundKeeping.{was_sent, is_apply, is_of, IsNamed, AreAnswers, IsReading, KnowsRoundOf, KnowsRound, body_of, IsAwaited}
 use Rattle.round_keeping.proofs.Waiting.{named-still, answered-in, answered-stays, delivered-back, returned-back, NoApply, NoRead, answer-other}
 
 -- ---- tests

@@ -27,7 +27,7 @@ use Rattle.lane_journals.specs.declared.event.LaneEvent.TheVariants.{Decided}
 use Rattle.lane_keeping.specs.LaneKeeping.{PartKeeps, part_in}
 use Rattle.lane_keeping.specs.Acting.{IsActing, IsKnownRow}
 use Rattle.lane_keeping.specs.Asking.{OthersStay}
-use Rattle.round_keeping.specs.RoundKeeping.{was_sent, is_of, is_apply, origin_in, KnowsRound, KnowsAnswers, NoRound}
+use Rattle.lane_keeping.specs.RoundKeeping.{was_sent, is_of, is_apply, origin_in, KnowsRound, KnowsAnswers, NoRound}
 use Rattle.round_keeping.specs.Laws.{IsBegun}
 use Rattle.round_keeping.proofs.Sent.{sent-passes, passes}
 use Rattle.round_keeping.specs.RoundRuns.{WasRefused, is_read_in, is_apply_in, KnowsRefusals, NoneRuns, GoesOn, IsRunBy, MayBegin, MayBeginAt, IsNewRun, Begins, IsToldOver, EndsJob, are_missing, is_short, IsEnd, IsCutOff, EndsWith, RunsOn, IsWholeRun, IsCutShort}

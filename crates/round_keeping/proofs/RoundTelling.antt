@@ -10,7 +10,7 @@ use Rattle.node_sets.specs.Members.{size_of}
 use Rattle.messages.specs.declared.message.Message.{Message}
 use Rattle.merge_rounds.specs.Rounds.{RoundState, IsNext, after_send, after_read, IsAfterApply}
 use Rattle.lane_journals.specs.declared.event.LaneEvent.{LaneEvent}
-use Rattle.round_keeping.specs.RoundKeeping.{KnowsRound}
+use Rattle.lane_keeping.specs.RoundKeeping.{KnowsRound}
 use Rattle.round_keeping.specs.RoundRuns.{IsRunning, IsAfterReply, left, IsCutOff, IsToSend}
 use Rattle.round_keeping.specs.declared.round_run.RoundRun.{RoundRun}
 use Rattle.round_keeping.proofs.Running.{running-as, reply-row}

@@ -27,7 +27,7 @@ use Rattle.lane_keeping.specs.Replaying.{sending, delivered}
 use Rattle.lane_keeping.specs.LaneKeeping.{setting_of, Keeps}
 use Rattle.lane_keeping.specs.Asking.{IsTakenBy}
 use Rattle.lane_keeping.specs.Laws.{IsNoAsk}
-use Rattle.round_keeping.specs.RoundKeeping.{KnowsRound, IsAwaited, body_of}
+use Rattle.lane_keeping.specs.RoundKeeping.{KnowsRound, IsAwaited, body_of}
 use Rattle.round_keeping.proofs.Waiting.{knows-delivered}
 use Rattle.round_keeping.specs.RoundRuns.{IsRunning, IsAfterReply, is_refusal, is_read_in, is_apply_in, KnowsRefusals, GoesOn, IsRunToldBy, left}
 use Rattle.round_keeping.specs.declared.round_run.RoundRun.{RoundRun}

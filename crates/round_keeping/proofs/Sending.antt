@@ -34,7 +34,7 @@ use Rattle.lane_keeping.proofs.Uniting.{union-unites}
 use Rattle.lane_keeping.specs.LaneKeeping.{setting_of, Keeps}
 use Rattle.lane_keeping.specs.Asking.{IsJustSent}
 use Rattle.lane_keeping.specs.Acting.{IsActing}
-use Rattle.round_keeping.specs.RoundKeeping.{was_sent, is_apply, is_of, is_among_first, origin_in, IsReading, KnowsRound, IsAwaited}
+use Rattle.lane_keeping.specs.RoundKeeping.{was_sent, is_apply, is_of, is_among_first, origin_in, IsReading, KnowsRound, IsAwaited}
 use Rattle.round_keeping.proofs.Sent.{among-none, among-next, among-turn, answered-read, applied-sent}
 use Rattle.round_keeping.proofs.Waiting.{answers-sent}
 

@@ -10,7 +10,7 @@ use Rattle.lane_journals.specs.Readers.{Journal, Message, Given, sent, is_read, 
 use Rattle.lane_journals.specs.Facts.{Applied}
 use Rattle.lane_journals.proofs.Basics.{or_else-cases, only_if-some, rounds-grow}
 use Rattle.lane_journals.proofs.Serials.{answer-shown}
-use Rattle.round_keeping.specs.RoundKeeping.{was_sent, is_apply, is_of, is_among_first}
+use Rattle.lane_keeping.specs.RoundKeeping.{was_sent, is_apply, is_of, is_among_first}
 
 -- ---- the first members of a set
 

@@ -17,7 +17,7 @@ use Rattle.lane_journals.specs.Places.{Setting, state_in}
 use Rattle.lane_journals.specs.KeptJournals.{IsLegal}
 use Rattle.lane_journals.specs.declared.event.LaneEvent.{LaneEvent}
 use Rattle.lane_journals.proofs.Meant.{state-serves}
-use Rattle.round_keeping.specs.RoundKeeping.{KnowsAnswers}
+use Rattle.lane_keeping.specs.RoundKeeping.{KnowsAnswers}
 use Rattle.round_keeping.specs.Laws.{AreUnshown, HasTooFew}
 
 -- ---- sizes

@@ -28,7 +28,7 @@ use Rattle.lane_journals.proofs.Meant.{meant-legal}
 use Rattle.lane_keeping.specs.Replaying.{sending}
 use Rattle.lane_keeping.proofs.Flying.{flight-stays}
 use Rattle.lane_keeping.proofs.Uniting.{union-stays}
-use Rattle.round_keeping.specs.RoundKeeping.{was_sent, is_apply, is_of, IsNamed, KnowsAnswersOf, KnowsRoundOf, IsAwaited}
+use Rattle.lane_keeping.specs.RoundKeeping.{was_sent, is_apply, is_of, IsNamed, KnowsAnswersOf, KnowsRoundOf, IsAwaited}
 use Rattle.round_keeping.specs.Laws.{IsOfNoRound}
 
 -- ---- who answered the Apply

@@ -20,7 +20,7 @@ use Rattle.lane_journals.specs.declared.event.LaneEvent.{LaneEvent}
 use Rattle.lane_keeping.specs.LaneKeeping.{part_in}
 use Rattle.lane_keeping.specs.Acting.{IsActing, IsKnownRow}
 use Rattle.lane_keeping.specs.Laws.{OfKept}
-use Rattle.round_keeping.specs.RoundKeeping.{KnowsAnswers, KnowsRound, NoRound}
+use Rattle.lane_keeping.specs.RoundKeeping.{KnowsAnswers, KnowsRound, NoRound}
 
 -- a law of each round that is under way in a lane
 abbrev pub OfRound : (Low → Rules → List LaneEvent → ℕ → List Node → ℕ → ClusterState → RoundState → Type 0) → Type 0

@@ -32,7 +32,7 @@ use Rattle.lane_journals.specs.declared.event.LaneEvent.{LaneEvent}
 use Rattle.lane_journals.specs.declared.event.LaneEvent.TheVariants.{Decided}
 use Rattle.lane_keeping.specs.Replaying.{sending}
 use Rattle.lane_keeping.specs.Acting.{IsActing, IsKnownRow}
-use Rattle.round_keeping.specs.RoundKeeping.{origin_in, KnowsRound, KnowsAnswers}
+use Rattle.lane_keeping.specs.RoundKeeping.{origin_in, KnowsRound, KnowsAnswers}
 use Rattle.lane_carriage.specs.Carrying.{met_at, DeliversSome}
 use Rattle.round_keeping.specs.declared.round_run.RoundRun.{RoundRun}
 use Rattle.round_keeping.specs.declared.round_run.RoundEnd.{RoundEnd}

@@ -22,7 +22,7 @@ ghost use Rattle.lane_keeping.specs.Replaying.{sending, delivered};
 ghost use Rattle.lane_keeping.specs.LaneKeeping.{setting_of};
 ghost use Rattle.lane_keeping.specs.Asking.{IsTakenBy};
 ghost use Rattle.lane_keeping.specs.Laws.{OfKept};
-ghost use Rattle.round_keeping.specs.RoundKeeping.{origin_in, KnowsAnswers, KnowsRound, NoRound, IsAwaited};
+ghost use Rattle.lane_keeping.specs.RoundKeeping.{origin_in, KnowsAnswers, KnowsRound, NoRound, IsAwaited};
 ghost use Rattle.round_keeping.specs.Laws.{OfRound, OfAnswers, OfBegun, IsOfNoRound, IsOfOther, AreUnshown, HasTooFew};
 
 /// Under a state that isn't opened no round is under way. Where none is, the round that the owner's part begins

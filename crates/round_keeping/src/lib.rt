@@ -1,7 +1,7 @@
 //! What a lane knows of the round that is under way in it, and how a round that it runs is seen in its journal.
 //!
 //! A round of a row reads all that the nodes hold of it, and gives the union to the row's receivers: these are
-//! complete members then. `KnowsRound` in `specs/RoundKeeping.antt` says that a `merge_rounds::Round` is what the
+//! complete members then. `KnowsRound` of `lane_keeping` says that a `merge_rounds::Round` is what the
 //! lane's journal says of it: which Reads and Applies were sent, whose answer was shown, what the answers have
 //! together and who has the union. The laws lead it over each event of a round, from its begin to its end, so
 //! that each message may be sent and the end is legal; where the round gave too few copies they say whom an

@@ -6,13 +6,13 @@ use Rattle.std.specs.Str.{bytes_eq}
 use Rattle.bucket_ids.specs.Buckets.{Low, IsBucket, has_key}
 use Rattle.global_ids.specs.Keys.{key_of}
 use Rattle.document_rows.specs.Rows.{Rows, is_of, has_row, AreDistinct}
-use Rattle.lane_views.specs.Views.{NodeView, in_regions}
-use Rattle.lane_views.specs.Kept.{AreInside, AreNodes}
+use Rattle.view_changes.specs.Views.{NodeView, in_regions}
+use Rattle.view_changes.specs.Kept.{AreInside, AreNodes}
 use Rattle.document_rows.proofs.RowLaws.{same_id}
 use Rattle.coverage.specs.Covering.{times}
 use Rattle.coverage.proofs.Measures.{bounded, whole}
-use Rattle.lane_views.specs.Serving.{serves, node_regions}
-use Rattle.lane_views.proofs.CoverLaws.{times-parted, times-append, nodes-once, buckets-append, buckets-nodes}
+use Rattle.view_changes.specs.Serving.{serves, node_regions}
+use Rattle.view_changes.proofs.CoverLaws.{times-parted, times-append, nodes-once, buckets-append, buckets-nodes}
 use Rattle.search_laws.specs.Searches.{Seen, places, node_places, times_counted, serving_regions, covered, LieIn, NoneHas, AreLanes, SomeNode, SomeSeen, EachNode, EachSeen}
 
 one : Bool → ℕ

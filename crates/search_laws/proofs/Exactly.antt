@@ -3,12 +3,12 @@ use Rattle.std.proofs.Common.{◌≡◌, inl, inr, ℕ, ◌+◌, ◌≤◌, ◌|
 use mathlib.Core.Bool.{true≢false}
 use Rattle.global_ids.specs.Keys.{key_of}
 use Rattle.document_rows.specs.Rows.{Rows, is_of, has_row}
-use Rattle.lane_views.specs.Views.{NodeView}
-use Rattle.lane_views.specs.Kept.{AreNodes}
+use Rattle.view_changes.specs.Views.{NodeView}
+use Rattle.view_changes.specs.Kept.{AreNodes}
 use Rattle.coverage.specs.Covering.{times}
-use Rattle.lane_views.specs.Serving.{serves, node_regions}
+use Rattle.view_changes.specs.Serving.{serves, node_regions}
 use Rattle.search_laws.specs.Searches.{Seen, places, node_places, times_counted, serving_regions, AreLanes, SomeNode, SomeSeen}
-use Rattle.lane_views.proofs.CoverLaws.{times-parted, times-append}
+use Rattle.view_changes.proofs.CoverLaws.{times-parted, times-append}
 use Rattle.search_laws.proofs.Counting.{none-there, nodes-times_counted, lanes-times_counted, lanes-once, times_counted-once}
 
 -- a node that serves has the document, or is over its key without it

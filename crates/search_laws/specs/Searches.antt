@@ -2,9 +2,9 @@
 use Rattle.std.specs.Prelude.{◌≡◌, ◌⊎◌, ◌+◌, ◌++◌, ℕ, true, false, cond, List, [], ◌∷◌}
 use Rattle.bucket_ids.specs.Buckets.{Low, has_key}
 use Rattle.document_rows.specs.Rows.{Rows, is_of}
-use Rattle.lane_views.specs.Views.{NodeView, View, in_regions}
-use Rattle.lane_views.specs.Serving.{serves, node_regions}
-use Rattle.lane_views.specs.Kept.{IsView}
+use Rattle.view_changes.specs.Views.{NodeView, View, in_regions}
+use Rattle.view_changes.specs.Serving.{serves, node_regions}
+use Rattle.view_changes.specs.Kept.{IsView}
 use Rattle.coverage.specs.Covering.{measure_of}
 
 -- the view of a lane, in the lane's bucket

@@ -3,7 +3,7 @@
 ghost use Rattle.std.specs.Prelude.{◌≡◌, ◌≤◌, ◌<◌, ◌^◌, ℕ, Bool, true, false, List};
 ghost use Rattle.global_ids.specs.Keys.{key_of};
 ghost use Rattle.document_rows.specs.Rows.{has_row};
-ghost use Rattle.lane_views.specs.Views.{NodeView};
+ghost use Rattle.view_changes.specs.Views.{NodeView};
 ghost use Rattle.search_laws.specs.Searches.{Seen, AreLanes, times_counted, covered, EachSeen, SomeSeen};
 
 /// A search counts each document once at most, and covers no more than all keys; where it covers as much,

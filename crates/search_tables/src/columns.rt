@@ -48,7 +48,7 @@ fn read_texts(alloc: Global, word: &str) -> Option<TextList> {
 }
 
 /// The value that a word says.
-fn read_value(alloc: Global, word: &str) -> Option<FieldValue> {
+pub fn read_value(alloc: Global, word: &str) -> Option<FieldValue> {
     if let Some(text) = word.strip_prefix('\'') {
         return Some(FieldValue::Text(read_text(alloc, text)?));
     }
@@ -62,7 +62,7 @@ fn read_value(alloc: Global, word: &str) -> Option<FieldValue> {
 }
 
 /// What a value has, or `none`.
-fn value_text(alloc: Global, value: Option<&FieldValue>) -> Option<String> {
+pub fn value_text(alloc: Global, value: Option<&FieldValue>) -> Option<String> {
     match value {
         Some(FieldValue::Int(number)) => shown(alloc, number),
         Some(FieldValue::Text(text)) => shown(alloc, &text.text()),

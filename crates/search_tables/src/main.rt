@@ -4,9 +4,12 @@
 #![tactic(auto)]
 
 mod columns;
+mod databases;
+mod entries;
 mod maps;
 mod parts;
 mod searches;
+mod shelf;
 mod stores;
 mod table;
 mod views;
@@ -24,8 +27,11 @@ const NAMES: &[&str] = &[
     "stores",
     "columns",
     "views",
+    "shelves",
     "searches",
+    "databases",
     "random_lists",
+    "random_views",
 ];
 
 /// Holds all tables; true where a line is wrong.

@@ -1,7 +1,9 @@
 //! All parts that lines speak to.
 
 use crate::columns::Columns;
+use crate::databases::Databases;
 use crate::maps::Maps;
+use crate::shelf::OneShelf;
 use crate::stores::Stores;
 use crate::views::Views;
 use crate::words::Words;
@@ -15,6 +17,8 @@ pub struct Parts {
     stores: Stores,
     columns: Columns,
     views: Views,
+    databases: Databases,
+    shelf: OneShelf,
 }
 
 impl Parts {
@@ -26,6 +30,8 @@ impl Parts {
             stores: Stores::new(alloc),
             columns: Columns::new(alloc),
             views: Views::new(),
+            databases: Databases::new(),
+            shelf: OneShelf::new(alloc),
         }
     }
 
@@ -37,7 +43,9 @@ impl Parts {
             "words" => self.words.say(alloc, verb, rest),
             "stores" => self.stores.say(alloc, verb, rest),
             "columns" => self.columns.say(alloc, verb, rest),
-            "views" | "searches" => self.views.say(alloc, verb, rest),
+            "views" | "searches" | "random_views" => self.views.say(alloc, verb, rest),
+            "databases" => self.databases.say(alloc, verb, rest),
+            "shelves" => self.shelf.say(alloc, verb, rest),
             "random_lists" => {
                 let (own, behind) = rest.split_first()?;
                 self.say_part(alloc, verb, own, behind)

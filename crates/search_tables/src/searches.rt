@@ -3,8 +3,8 @@
 use crate::table::shown;
 use doc_types::{FieldValue, Schema};
 use lane_views::LaneView;
+use query_groups::{Group, SearchAnswer};
 use query_text::Query;
-use search_answers::{Group, SearchAnswer};
 use search_views::SearchSum;
 use std::alloc::Global;
 

@@ -1,18 +1,16 @@
 //! The view of a lane.
 
+use crate::columns::value_text;
+use crate::entries::{read_entry, schema};
 use crate::searches::search;
 use crate::table::{done, shown};
 use bucket_ids::Bucket;
-use doc_types::schema::{FieldOf, TypeOf};
-use doc_types::{FieldType, FieldValue, Schema};
-use document_ids::DocId;
-use documents::{Document, Entry, SharedEntry};
+use documents::{Document, SharedEntry};
 use entry_maps::EntryMap;
-use lane_views::{LaneChange, LaneView, Lists};
-use node_rows::SharedSchema;
-use stamps::Stamp;
+use lane_views::LaneView;
 use std::alloc::Global;
-use value_lists::{TextValue, TryCopy};
+use value_lists::TryCopy;
+use view_changes::{LaneChange, Lists};
 
 /// A view that lines change; none before the first line.
 #[derive(Drop)]
@@ -20,78 +18,17 @@ pub struct Views {
     view: Option<LaneView>,
 }
 
-/// A field of the schema.
-fn field_of(alloc: Global, name: &str, kind: FieldType) -> Option<FieldOf> {
-    Some(FieldOf {
-        name: String::from_str(alloc, name).ok()?,
-        kind,
-    })
-}
-
-/// The schema of the views: a type `music` with a text `title` and a number `year`.
-fn schema(alloc: Global) -> Option<SharedSchema> {
-    let mut fields = Vec::new(alloc);
-    fields
-        .push(field_of(alloc, "title", FieldType::Text)?)
-        .ok()?;
-    fields.push(field_of(alloc, "year", FieldType::Int)?).ok()?;
-    let mut types = Vec::new(alloc);
-    types
-        .push(TypeOf {
-            name: String::from_str(alloc, "music").ok()?,
-            fields,
-        })
-        .ok()?;
-    SharedSchema::new(alloc, Schema::of(types)).ok()
-}
-
-/// The document that a word says: an id, a year if there is one, and a title of one word, with commas between.
-fn read_document(alloc: Global, word: &str) -> Option<Document> {
-    let (id, values) = word.split_once(',')?;
-    let (year, title) = values.split_once(',')?;
-    let mut document = Document::empty(alloc, DocId::parse(alloc, id).ok()?);
-    if !year.is_empty() {
-        document
-            .set(alloc, "year", FieldValue::Int(year.parse::<i64>().ok()?))
-            .ok()?;
-    }
-    let title = TextValue::of(String::from_str(alloc, title).ok()?);
-    document.set(alloc, "title", FieldValue::Text(title)).ok()?;
-    Some(document)
-}
-
-/// The entry that a word says: a document, or behind a minus sign the id of one that is removed.
-fn read_entry(alloc: Global, word: &str) -> Option<Entry> {
-    let stamp = Stamp {
-        version: 1,
-        count: 1,
-    };
-    if let Some(id) = word.strip_prefix('-') {
-        return Some(Entry {
-            stamp,
-            id: DocId::parse(alloc, id).ok()?,
-            body: None,
-        });
-    }
-    let document = read_document(alloc, word)?;
-    Some(Entry {
-        stamp,
-        id: document.id().copy(alloc).ok()?,
-        body: Some(document),
-    })
-}
-
 /// The entries that words say.
 fn read_entries(alloc: Global, words: &[&str]) -> Option<EntryMap> {
     let mut entries = EntryMap::new(alloc);
     for word in words {
-        entries.put(read_entry(alloc, word)?).ok()?;
+        entries.put(read_entry(alloc, word, 1)?).ok()?;
     }
     Some(entries)
 }
 
 /// The change that a line says.
-fn read_change(alloc: Global, verb: &str, rest: &[&str]) -> Option<LaneChange> {
+pub fn read_change(alloc: Global, verb: &str, rest: &[&str]) -> Option<LaneChange> {
     let (node, rest) = rest.split_first()?;
     let node = node.parse::<u8>().ok()?;
     match (verb, rest) {
@@ -106,7 +43,7 @@ fn read_change(alloc: Global, verb: &str, rest: &[&str]) -> Option<LaneChange> {
         }),
         ("take", [word]) => Some(LaneChange::Take {
             node,
-            entry: SharedEntry::new(alloc, read_entry(alloc, word)?).ok()?,
+            entry: SharedEntry::new(alloc, read_entry(alloc, word, 1)?).ok()?,
         }),
         ("stop", []) => Some(LaneChange::Stop { node }),
         ("start", []) => Some(LaneChange::Start { node }),
@@ -128,6 +65,10 @@ fn ask_node(alloc: Global, view: &LaneView, verb: &str, node: u8, rest: &[&str])
         ("serves", [version]) => shown(alloc, &view.serves(node, version.parse::<u32>().ok()?)),
         ("locals", []) => shown(alloc, &view.locals(node)),
         ("key", [local]) => shown(alloc, &view.key(node, local.parse::<u32>().ok()?)),
+        ("value", [local, field]) => value_text(
+            alloc,
+            view.value(node, local.parse::<u32>().ok()?, field),
+        ),
         ("document", [local]) => id_text(alloc, view.document(node, local.parse::<u32>().ok()?)),
         ("type", [name]) => shown(alloc, &view.of_type(node, name)),
         ("token", [name, field, token]) => shown(alloc, &view.with_token(node, name, field, token)),
@@ -141,7 +82,7 @@ fn ask_node(alloc: Global, view: &LaneView, verb: &str, node: u8, rest: &[&str])
 }
 
 /// The answer to a question.
-fn ask(alloc: Global, view: &LaneView, verb: &str, rest: &[&str]) -> Option<String> {
+pub fn ask(alloc: Global, view: &LaneView, verb: &str, rest: &[&str]) -> Option<String> {
     match (verb, rest) {
         ("generation", []) => shown(alloc, &view.generation()),
         ("search", [version, words @ ..]) => {
@@ -160,6 +101,11 @@ fn ask(alloc: Global, view: &LaneView, verb: &str, rest: &[&str]) -> Option<Stri
     }
 }
 
+/// A view of which nothing was heard.
+pub fn opening(alloc: Global) -> Option<LaneView> {
+    LaneView::new(alloc, &schema(alloc)?).ok()
+}
+
 impl Views {
     /// No view.
     pub fn new() -> Views {
@@ -169,7 +115,11 @@ impl Views {
     /// Does what a line says.
     pub fn say(&mut self, alloc: Global, verb: &str, rest: &[&str]) -> Option<String> {
         if verb == "begin" {
-            self.view = Some(LaneView::new(alloc, &schema(alloc)?).ok()?);
+            self.view = Some(opening(alloc)?);
+            return done(alloc, Some(()));
+        }
+        if verb == "copy" {
+            self.view = Some(self.view.as_ref()?.copy(alloc).ok()?);
             return done(alloc, Some(()));
         }
         let view = self.view.as_mut()?;

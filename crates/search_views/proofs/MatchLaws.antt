@@ -4,8 +4,8 @@ use Rattle.std.proofs.lemmas.List.{take_all}
 use Rattle.documents.specs.Fields.{Contents}
 use Rattle.document_rows.specs.Rows.{Rows}
 use Rattle.document_rows.specs.Reading.{row_at, places_from, places_where}
-use Rattle.lane_views.specs.Views.{NodeView, View, node_at}
-use Rattle.lane_views.specs.Serving.{serves, serves_at, rows_of}
+use Rattle.view_changes.specs.Views.{NodeView, View, node_at}
+use Rattle.view_changes.specs.Serving.{serves, serves_at, rows_of}
 use Rattle.query_text.specs.declared.query.Query.{Query}
 use Rattle.query_text.specs.Truth.{matches_document}
 use Rattle.match_views.specs.declared.hits.Hit.{Hit}

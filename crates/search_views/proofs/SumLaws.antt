@@ -1,8 +1,8 @@
 -- A sum with a view more.
 use Rattle.std.proofs.Common.{◌≡◌, ℕ, ◌+◌, ◌++◌, List, [], ◌∷◌, length, sym, ap, ap₂, subst, ◌∙◌, arith, append-nil, append_assoc}
 use Rattle.documents.specs.Fields.{Contents}
-use Rattle.lane_views.specs.Views.{View}
-use Rattle.lane_views.specs.Serving.{covered_at}
+use Rattle.view_changes.specs.Views.{View}
+use Rattle.view_changes.specs.Serving.{covered_at}
 use Rattle.query_text.specs.declared.query.Query.{Query}
 use Rattle.match_views.specs.declared.hits.Hit.{Hit}
 use Rattle.match_views.specs.Hits.{hits_of}

@@ -2,11 +2,11 @@
 use Rattle.std.specs.Prelude.{◌+◌, ◌++◌, ◌==◌, ◌^◌, ℕ, List, [], ◌∷◌, filter, length, min, if◌then◌else◌}
 use Rattle.documents.specs.Fields.{Contents}
 use Rattle.document_rows.specs.Rows.{Rows}
-use Rattle.lane_views.specs.Views.{NodeView, View}
-use Rattle.lane_views.specs.Serving.{serves, covered_at}
+use Rattle.view_changes.specs.Views.{NodeView, View}
+use Rattle.view_changes.specs.Serving.{serves, covered_at}
 use Rattle.query_text.specs.declared.query.Query.{Query}
 use Rattle.query_text.specs.Truth.{matches_document}
-use Rattle.search_answers.specs.declared.answers.SearchAnswer.{SearchAnswer}
+use Rattle.query_groups.specs.declared.answers.SearchAnswer.{SearchAnswer}
 use Rattle.group_counts.specs.Numbers.{found}
 use Rattle.group_counts.specs.Groups.{groups_of}
 

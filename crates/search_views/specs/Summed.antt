@@ -1,6 +1,6 @@
 -- Which views a sum has.
 use Rattle.std.specs.Prelude.{◌≡◌, ℕ, List, length}
-use Rattle.lane_views.specs.Views.{View}
+use Rattle.view_changes.specs.Views.{View}
 use Rattle.query_text.specs.declared.query.Query.{Query}
 use Rattle.group_counts.specs.Gathered.{IsGathered}
 use Rattle.search_views.specs.Answers.{all_matched, all_covered, capped}

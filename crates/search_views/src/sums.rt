@@ -1,18 +1,15 @@
 ghost use Rattle.std.specs.Prelude.{◌≡◌, ◌≤◌, ◌<◌, ◌+◌, ◌++◌, ◌∷◌, ◌*◌, ℕ, List, [], IfOk, OnOk, OnErr};
 
 use group_counts::Groups;
-use lane_views::Shown;
 use match_views::matches;
+use query_groups::SearchAnswer;
 use query_text::Query;
-use search_answers::SearchAnswer;
 use std::alloc::Global;
 use value_lists::NoMemory;
+use view_changes::Shown;
 
 /// How many keys there are, of 58 bits.
 const ALL_KEYS: u64 = 288_230_376_151_711_744;
-
-/// How many hits a view has at most: each of 32 nodes has 2^32 local ids.
-const MOST_HITS: usize = 137_438_953_472;
 
 /// What a search found so far, over the views that were added.
 #[derive(Drop)]
@@ -28,7 +25,7 @@ pub struct SearchSum<'a> {
 }
 
 impl<'a> SearchSum<'a> {
-    ghost use Rattle.lane_views.specs.Views.{View};
+    ghost use Rattle.view_changes.specs.Views.{View};
     ghost use Rattle.query_text.specs.declared.query.Query.{Query};
     ghost use Rattle.search_views.specs.Answers.{search_answer};
     ghost use Rattle.search_views.specs.Summed.{IsSummed};
@@ -47,22 +44,18 @@ impl<'a> SearchSum<'a> {
     }
 
     /// The view of a lane more. Takes what `matches` takes, and for each document that it finds the logarithm of the groups.
-    /// The only error is want of memory; then count and measure are what they were, but some documents of the view may
-    /// stand in groups, so the sum is of no more use.
+    /// The only error is want of memory; then the sum is as it was.
     pub fn add<V: Shown>(&mut self, alloc: Global, view: &V) -> Result<(), NoMemory>
         requires { self.old.groups.views < 64 }
         ensures ok { OnOk result ((q : Query) (w : ℕ) (vs : List View) → IsSummed q w vs self.old
             → IsSummed q w (vs ++ V.seen view.now ∷ []) self.new) }
-        ensures err { OnErr result ((self.new.count ≡ self.old.count) × (self.new.covered ≡ self.old.covered)) }
+        ensures err { OnErr result ((self.new.query ≡ self.old.query) × (self.new.version ≡ self.old.version)
+            × (self.new.count ≡ self.old.count) × (self.new.covered ≡ self.old.covered)
+            × (self.new.groups ≡ self.old.groups)) }
         ensures views { self.new.groups.views ≤ self.old.groups.views + 1 }
     {
         let hits = matches(alloc, self.query, view, self.version)?;
         let many = hits.items().len();
-
-        // No view has more hits (`group_counts::laws::hits_are_few`).
-        if many > MOST_HITS {
-            return Err(NoMemory);
-        }
         self.groups.add(alloc, view, &hits)?;
         self.count += many as u64;
         self.covered = self.covered.saturating_add(view.measure(self.version));

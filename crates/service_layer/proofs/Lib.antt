@@ -1,1 +1,2 @@
 mod Treating
+mod Tellings

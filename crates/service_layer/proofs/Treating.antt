@@ -16,9 +16,9 @@ use Rattle.service_layer.specs.Nodes.{Node, after_body}
 use Rattle.service_layer.specs.Takes.{Treats, Shows, IsReplyTo, told, shown_pieces, shown_entries, done_reply}
 
 -- a body that changes what a node has
-pub treated : (x : Body) (old new : Node) (r : Result (Unit {0}) StoreFault) → shown_pieces x old.pieces ≡ [] → shown_entries x old.entries ≡ fin.empty
+pub treated : {A : Type 0} (x : Body) (old new : Node) (r : Result A StoreFault) → shown_pieces x old.pieces ≡ [] → shown_entries x old.entries ≡ fin.empty
     → OnOk r (new ≡ after_body x old) → OnErr r (new ≡ old) → IsAnsweredAs (told x old.pieces) r → Treats old x new (done_reply r)
-treated x old new (Ok u) ps m ok err t = (t, (sym ps, (sym m, ok)))
+treated x old new (Ok a) ps m ok err t = (t, (sym ps, (sym m, ok)))
 treated x old new (Err fault.NoBucket) ps m ok err t = (t, err)
 treated x old new (Err fault.Differs) ps m ok err t = (t, err)
 treated x old new (Err fault.NoMemory) ps m ok err t = (t, err)
@@ -31,7 +31,7 @@ shows x n (Err fault.NoBucket) y same s e = subst (Treats n x n) (sym e) (s, ref
 shows x n (Err fault.Differs) y same s e = subst (Treats n x n) (sym e) (s, refl)
 shows x n (Err fault.NoMemory) y same s e = subst (Treats n x n) (sym e) (s, refl)
 
-no_items : {A : Type 0} (xs : List A) → length xs ≡ 0 → xs ≡ []
+pub no_items : {A : Type 0} (xs : List A) → length xs ≡ 0 → xs ≡ []
 no_items [] e = refl
 no_items (x ∷ xs) e = absurd (omega arith)
 

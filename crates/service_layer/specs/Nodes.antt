@@ -1,15 +1,15 @@
 -- What a node has in one lane, and what an accepted body makes of it.
-use Rattle.std.specs.Prelude.{ℕ, not, List, [], ◌∷◌, filter, nat_lt, Option, None, Some, if◌then◌else◌, refl}
-use Rattle.std.specs.List.{list_any}
+use Rattle.std.specs.Prelude.{ℕ, List, [], nat_lt, Option, None, Some, if◌then◌else◌, refl}
 use Rattle.std.specs.Coded.{Coded, code_by, coded×, coded_ℕ, coded_list}
 use Rattle.std.specs.FinMap as fin
-use Rattle.bucket_ids.specs.Buckets.{Low, covers}
+use Rattle.bucket_ids.specs.Buckets.{Low}
 use Rattle.documents.specs.declared.entry.Entry.{Entry}
 use Rattle.entry_maps.specs.EntryCodes.{Entries, entries_code}
 use Rattle.pieces.specs.declared.piece.Piece.{Piece}
 use Rattle.pieces.specs.PieceCodes.{low_code, piece_code}
 use Rattle.messages.specs.declared.body.Body.{Body}
 use Rattle.messages.specs.declared.body.Body.TheVariants as body
+use Rattle.view_changes.specs.Shown.{with_region}
 use Rattle.replica_store.specs.Replicas.{Replica, after_store, after_apply, after_delete, after_split, after_join, after_ready, after_activate}
 
 -- the greatest version of a message, the newest entries, the pieces in the order of their runs, the active
@@ -40,10 +40,6 @@ stored n = record { entries = n.entries; pieces = n.pieces; serial = n.serial }
 -- the node stores what a change makes of what it stored
 abbrev pub on_store : (Replica → Replica) → Node → Node
 on_store change n = let r = change (stored n) in record { version = n.version; entries = r.entries; pieces = r.pieces; regions = n.regions; serial = r.serial }
-
--- a region more: those inside it are dropped, and inside a region nothing changes
-abbrev pub with_region : Low → List Low → List Low
-with_region b rs = if list_any (λ r. covers r b) rs then rs else b ∷ filter (λ r. not (covers b r)) rs
 
 -- the piece that covers the bucket has a new serial, and the bucket is a region
 abbrev pub activated : Low → Node → Node

@@ -82,8 +82,8 @@ refusal fault.Differs = reply.Differs
 refusal fault.NoMemory = reply.NoMemory
 
 -- the reply to a body that shows nothing
-abbrev pub done_reply : Result (Unit {0}) StoreFault → Reply
-done_reply (Ok u) = reply.Answer [] fin.empty
+abbrev pub done_reply : {A : Type 0} → Result A StoreFault → Reply
+done_reply (Ok x) = reply.Answer [] fin.empty
 done_reply (Err e) = refusal e
 
 -- the reply is the one that was made, where memory serves

@@ -3,18 +3,21 @@
 //! A contract sees a `NodePart` as a `Node`: the greatest version of a message, entries, pieces, active
 //! regions, and the last serial that was drawn (`specs/Nodes.antt`). `NodePart::take` first compares
 //! versions, and then treats the body; `Takes` in `specs/Takes.antt` says for each message what is replied
-//! and what the node is then. One contract serves a node alone and a lane that keeps a journal.
+//! and what the node is then, and `changes_taken` in `specs/Telling.antt` which changes of a view of the lane it
+//! tells; a `ChangeList` is seen as the list of them. One contract serves a node alone and a lane that keeps a journal.
 //!
 //! ```text
 //! let mut node = NodePart::new(alloc);
 //! let taken = node.take(&message);     // taken.reply goes back, taken.noted into the journal
+//! taken.changes.len()                  // taken.changes go to the view: 1 of a greater version, at least
 //! node.pieces()
 //! ```
 #![tactic(auto)]
 
+pub mod changes;
 pub mod node_part;
-mod regions;
 mod replies;
 
+pub use changes::{ChangeList, LaterChanges};
 pub use node_part::NodePart;
 pub use replies::Taken;

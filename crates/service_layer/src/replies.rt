@@ -1,10 +1,13 @@
-ghost use Rattle.std.specs.Prelude.{◌≡◌, IfOk};
+ghost use Rattle.std.specs.Prelude.{◌≡◌, [], IfOk};
 ghost use Rattle.std.specs.Option.{option_copied};
+ghost use Rattle.std.specs.FinMap as fin;
 ghost use Rattle.messages.specs.Noting.{noted_reply};
 ghost use Rattle.messages.specs.declared.reply.Reply.TheVariants as reply;
 ghost use Rattle.service_layer.specs.Nodes.{only_entry};
 ghost use Rattle.service_layer.specs.Takes.{refusal, done_reply, IsReplyTo};
+ghost use Rattle.service_layer.specs.Telling.{after_first, told_in};
 
+use crate::changes::{ChangeList, LaterChanges};
 use documents::SharedEntry;
 use entry_maps::EntryMap;
 use messages::{NotedReply, Reply, StampList};
@@ -12,6 +15,7 @@ use pieces::PieceList;
 use replica_store::StoreFault;
 use std::alloc::Global;
 use value_lists::{NoMemory, TryCopy};
+use view_changes::LaneChange;
 
 /// What a message that reached a node gives.
 #[derive(Drop)]
@@ -20,71 +24,112 @@ pub struct Taken {
     pub reply: Reply,
     /// For the journal: the reply with each entry named by its stamp.
     pub noted: NotedReply,
+    /// For the lane's view: an Adopt where the version rose, and then what was accepted, in order.
+    pub changes: ChangeList,
 }
 
 /// A message of a smaller version was taken.
-pub fn newer(version: u32) -> Taken
+pub fn newer(alloc: Global, version: u32) -> Taken
     ensures reply { result.reply ≡ reply.Newer version }
     ensures noted { result.noted ≡ noted_reply result.reply }
+    ensures changes { result.changes ≡ [] }
 {
     Taken {
         reply: Reply::Newer { version },
         noted: NotedReply::Newer { version },
+        changes: LaterChanges::none(alloc).all(),
     }
 }
 
-/// A message was refused.
-fn refused(fault: StoreFault) -> Taken
-    ensures reply { result.reply ≡ refusal fault }
-    ensures noted { result.noted ≡ noted_reply result.reply }
+/// A reply that refuses, and what of it the journal has.
+fn refusal(fault: StoreFault) -> (Reply, NotedReply)
+    ensures reply { result.0 ≡ refusal fault }
+    ensures noted { result.1 ≡ noted_reply result.0 }
 {
     match fault {
-        StoreFault::NoBucket => Taken {
-            reply: Reply::NoBucket,
-            noted: NotedReply::NoBucket,
-        },
-        StoreFault::Differs => Taken {
-            reply: Reply::Differs,
-            noted: NotedReply::Differs,
-        },
-        StoreFault::NoMemory => Taken {
-            reply: Reply::NoMemory,
-            noted: NotedReply::NoMemory,
-        },
+        StoreFault::NoBucket => (Reply::NoBucket, NotedReply::NoBucket),
+        StoreFault::Differs => (Reply::Differs, NotedReply::Differs),
+        StoreFault::NoMemory => (Reply::NoMemory, NotedReply::NoMemory),
     }
 }
 
-/// A message changed what a node has, or was refused.
-pub fn done(alloc: Global, change: Result<(), StoreFault>) -> Taken
+/// A message was refused, which tells no more than what comes first.
+fn refused(alloc: Global, first: Option<LaneChange>, fault: StoreFault) -> Taken
+    ensures reply { result.reply ≡ refusal fault }
+    ensures noted { result.noted ≡ noted_reply result.reply }
+    ensures changes { result.changes ≡ after_first first [] }
+{
+    let (reply, noted) = refusal(fault);
+    Taken {
+        reply,
+        noted,
+        changes: ChangeList::of(first, LaterChanges::none(alloc)),
+    }
+}
+
+/// A message was accepted, and asked to see nothing.
+fn accepted(alloc: Global, changes: ChangeList) -> Taken
+    ensures reply { result.reply ≡ reply.Answer [] fin.empty }
+    ensures noted { result.noted ≡ noted_reply result.reply }
+    ensures changes { result.changes ≡ changes }
+{
+    Taken {
+        reply: Reply::Answer {
+            pieces: PieceList::of(Vec::new(alloc)),
+            entries: EntryMap::new(alloc),
+        },
+        noted: NotedReply::Answer {
+            pieces: PieceList::of(Vec::new(alloc)),
+            entries: StampList::of(Vec::new(alloc)),
+        },
+        changes,
+    }
+}
+
+/// A message changed what a node has, or was refused. It tells nothing behind what comes first.
+pub fn done(alloc: Global, first: Option<LaneChange>, change: Result<(), StoreFault>) -> Taken
     ensures reply { result.reply ≡ done_reply change }
     ensures noted { result.noted ≡ noted_reply result.reply }
+    ensures changes { result.changes ≡ after_first first [] }
 {
     match change {
-        Ok(()) => Taken {
-            reply: Reply::Answer {
-                pieces: PieceList::of(Vec::new(alloc)),
-                entries: EntryMap::new(alloc),
-            },
-            noted: NotedReply::Answer {
-                pieces: PieceList::of(Vec::new(alloc)),
-                entries: StampList::of(Vec::new(alloc)),
-            },
-        },
-        Err(fault) => refused(fault),
+        Ok(()) => accepted(alloc, ChangeList::of(first, LaterChanges::none(alloc))),
+        Err(fault) => refused(alloc, first, fault),
     }
 }
 
-/// A message asked to see something.
-pub fn shown(alloc: Global, shown: Result<Reply, StoreFault>) -> Taken
+/// The same, where it may tell something behind what comes first.
+pub fn telling(
+    alloc: Global,
+    first: Option<LaneChange>,
+    change: Result<LaterChanges, StoreFault>,
+) -> Taken
+    ensures reply { result.reply ≡ done_reply change }
+    ensures noted { result.noted ≡ noted_reply result.reply }
+    ensures changes { result.changes ≡ after_first first (told_in change) }
+{
+    match change {
+        Ok(later) => accepted(alloc, ChangeList::of(first, later)),
+        Err(fault) => refused(alloc, first, fault),
+    }
+}
+
+/// A message asked to see something, which tells nothing behind what comes first.
+pub fn shown(alloc: Global, first: Option<LaneChange>, shown: Result<Reply, StoreFault>) -> Taken
     ensures reply { IsReplyTo shown result.reply }
     ensures noted { result.noted ≡ noted_reply result.reply }
+    ensures changes { result.changes ≡ after_first first [] }
 {
     match shown {
         Ok(reply) => match reply.noted(alloc) {
-            Ok(noted) => Taken { reply, noted },
-            Err(_) => refused(StoreFault::NoMemory),
+            Ok(noted) => Taken {
+                reply,
+                noted,
+                changes: ChangeList::of(first, LaterChanges::none(alloc)),
+            },
+            Err(_) => refused(alloc, first, StoreFault::NoMemory),
         },
-        Err(fault) => refused(fault),
+        Err(fault) => refused(alloc, first, fault),
     }
 }
 

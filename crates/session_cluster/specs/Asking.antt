@@ -6,9 +6,10 @@ use Rattle.cluster_states.specs.declared.cluster_state.ClusterState.{ClusterStat
 use Rattle.doc_types.specs.SchemaCodes.{Types}
 use Rattle.io_ends.specs.Reading.{longest_line}
 use Rattle.op_machine.specs.Plans.{IsOwn}
-use Rattle.operation_keeping.specs.OperationKeeping.{IsPlainGet}
+use Rattle.op_machine.specs.Plans.{IsPlainGet}
 use Rattle.feed_lines.specs.Meaning.{line_said}
 use Rattle.feed_lines.specs.declared.command.Cause.{Cause}
+use Rattle.feed_lines.specs.declared.command.Cause.TheVariants as cause
 use Rattle.feed_lines.specs.declared.command.Command.{Command}
 use Rattle.feed_lines.specs.declared.command.Command.TheVariants as said
 use Rattle.session_cluster.specs.declared.asked.Asked.{Asked}
@@ -20,10 +21,11 @@ IsOfText text deaf a =
     ((state : ClusterState) × (IsStateText text state × (a ≡ asked.State state deaf)))
     ⊎ ((offset : ℕ) × (IsRefusedAt IsStateText text offset × (a ≡ asked.BadState offset)))
 
--- what a line is that says this
+-- what a line is that says this; no session answers searches yet
 abbrev pub IsAskedBy : Result Command Cause → Asked → Type 0
 IsAskedBy (Ok said.Blank) a = a ≡ asked.Blank
 IsAskedBy (Ok (said.Feed operation via)) a = a ≡ asked.Feed operation via
+IsAskedBy (Ok (said.Search text)) a = a ≡ asked.Bad cause.Unbuilt
 IsAskedBy (Ok (said.State text deaf)) a = IsOfText text deaf a
 IsAskedBy (Ok (said.Stop node)) a = a ≡ asked.Stop node
 IsAskedBy (Ok (said.Start node)) a = a ≡ asked.Start node

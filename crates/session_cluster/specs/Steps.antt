@@ -16,7 +16,7 @@ use Rattle.lane_keeping.specs.LaneKeeping.{setting_of}
 use Rattle.lane_keeping.specs.Tidings.{announced, stopped_next, started_next, last_state}
 use Rattle.lane_lives.specs.LaneValues.{LaneValue, IsLaneValue}
 use Rattle.lane_lives.specs.Upkept.{Maintains}
-use Rattle.operation_keeping.specs.OperationKeeping.{IsFresh}
+use Rattle.lane_keeping.specs.Lines.{IsFresh}
 use Rattle.lane_lives.specs.declared.setting.Setting.{Setting}
 use Rattle.lane_core.specs.Runs.{IsLineRun}
 use Rattle.lane_lives.specs.Upkeep.{IsSpan}

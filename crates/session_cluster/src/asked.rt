@@ -83,6 +83,10 @@ fn short_asked(
     match read_line(alloc, values, bytes, schema, bits) {
         Ok(Command::Blank) => Ok(Asked::Blank),
         Ok(Command::Feed { operation, via }) => Ok(Asked::Feed { operation, via }),
+        // No session answers searches yet.
+        Ok(Command::Search { .. }) => Ok(Asked::Bad {
+            cause: Cause::Unbuilt,
+        }),
         Ok(Command::State { text, deaf }) => Ok(of_text(text.text(), deaf)),
         Ok(Command::Stop { node }) => Ok(Asked::Stop { node }),
         Ok(Command::Start { node }) => Ok(Asked::Start { node }),

@@ -1,6 +1,6 @@
 -- Changes are shown in several steps.
 use Rattle.std.proofs.Common.{◌≡◌, List, [], ◌∷◌, ◌++◌, ap, sym, ◌∙◌, subst, append_assoc}
-use Rattle.lane_views.specs.declared.change.LaneChange.{LaneChange}
+use Rattle.view_changes.specs.declared.change.LaneChange.{LaneChange}
 use Rattle.shelves.specs.Shelves.{ShowsFirst, TakesFirst}
 
 pub shows_on : (shows shows' shows'' : List LaneChange → Type 0) (before now after : List LaneChange) → ShowsFirst shows shows' before now → ShowsFirst shows' shows'' now after → ShowsFirst shows shows'' before after

@@ -1,7 +1,7 @@
 -- A view takes changes in, one after the other.
 use Rattle.std.proofs.Common.{◌≡◌, ◌<◌, List, [], ◌∷◌, ◌++◌, length, drop, slice_index_or, refl, ap, sym, ◌∙◌, append_assoc, arith}
-use Rattle.lane_views.specs.declared.change.LaneChange.{LaneChange}
-use Rattle.lane_views.specs.Views.{View, changed, view_after}
+use Rattle.view_changes.specs.declared.change.LaneChange.{LaneChange}
+use Rattle.view_changes.specs.Views.{View, changed, view_after}
 use Rattle.shelves.specs.Plain.{ShowsPart}
 
 pub view_after-append : (v : View) (cs ds : List LaneChange) → view_after v (cs ++ ds) ≡ view_after (view_after v cs) ds

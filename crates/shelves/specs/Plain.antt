@@ -1,10 +1,10 @@
 -- What a plain shelf is.
 use Rattle.std.specs.Prelude.{◌≡◌, ◌++◌, List, refl}
 use Rattle.std.specs.Coded.{Coded, code_by, coded×, coded_list}
-use Rattle.lane_views.specs.Views.{View, view_after}
+use Rattle.view_changes.specs.Views.{View, view_after}
 use Rattle.lane_views.specs.ViewCodes.{view_code}
-use Rattle.lane_views.specs.declared.change.LaneChange.{LaneChange}
-use Rattle.lane_views.specs.contracts.change.LaneChange as change
+use Rattle.view_changes.specs.declared.change.LaneChange.{LaneChange}
+use Rattle.view_changes.specs.contracts.change.LaneChange as change
 
 -- the view that it showed at first, the one that it shows, and the changes that this lacks
 pub record Plain : Type 0 where

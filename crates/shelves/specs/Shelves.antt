@@ -1,6 +1,6 @@
 -- What becomes of the changes of a shelf: they are pending first, and then shown.
 use Rattle.std.specs.Prelude.{◌≡◌, ◌↔◌, ◌++◌, List}
-use Rattle.lane_views.specs.declared.change.LaneChange.{LaneChange}
+use Rattle.view_changes.specs.declared.change.LaneChange.{LaneChange}
 
 -- what was appended is what is shown, and then what is pending
 abbrev pub Holds : (List LaneChange → Type 0) → List LaneChange → List LaneChange → Type 0

@@ -1,7 +1,7 @@
 //! Laws of shelves; no function here does anything.
 
 ghost use Rattle.std.specs.Prelude.{◌≡◌, List, [], ◌∷◌, ◌++◌};
-ghost use Rattle.lane_views.specs.declared.change.LaneChange.{LaneChange};
+ghost use Rattle.view_changes.specs.declared.change.LaneChange.{LaneChange};
 ghost use Rattle.shelves.specs.Shelves.{ShowsFirst, TakesFirst, Holds};
 
 use crate::shelf::Shelf;

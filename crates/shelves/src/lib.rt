@@ -20,8 +20,6 @@ mod no_shelf;
 mod plain_shelf;
 mod settling;
 mod shelf;
-#[cfg(test)]
-mod tests;
 
 pub use no_shelf::NoShelf;
 pub use plain_shelf::PlainShelf;

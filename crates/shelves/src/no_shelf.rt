@@ -1,6 +1,6 @@
 use crate::shelf::Shelf;
-use lane_views::LaneChange;
 use value_lists::NoMemory;
+use view_changes::LaneChange;
 
 /// Shows nothing to anybody, so every list of changes counts as shown. Its calls take no memory.
 #[derive(Drop)]

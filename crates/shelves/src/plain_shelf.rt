@@ -3,12 +3,13 @@ ghost use Rattle.std.specs.VecDeque.{deque_len};
 ghost use Rattle.shelves.specs.Plain.{ShowsPart};
 
 use crate::shelf::Shelf;
-use lane_views::{LaneChange, LaneView};
+use lane_views::LaneView;
 use std::alloc::Global;
 use std::collections::VecDeque;
 use std::marker::Model;
 use std::snapshot::Snapshot;
 use value_lists::NoMemory;
+use view_changes::LaneChange;
 
 /// A view for one reader, and the changes that it doesn't show yet. An append takes constant time but for moves as the
 /// list of these grows; a publication takes what each change takes in the view.

@@ -2,9 +2,9 @@ ghost use Rattle.std.specs.Prelude.{◌≡◌, [], OnOk};
 ghost use Rattle.shelves.specs.Shelves.{TakesFirst};
 
 use crate::shelf::Shelf;
-use lane_views::LaneChange;
 use std::collections::VecDeque;
 use value_lists::NoMemory;
+use view_changes::LaneChange;
 
 /// Appends changes to a shelf, first to last. The only error is want of memory: the changes that weren't appended are
 /// left then.

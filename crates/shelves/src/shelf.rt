@@ -1,9 +1,9 @@
 ghost use Rattle.std.specs.Prelude.{◌≡◌, List, [], ◌∷◌, ◌++◌, IfErr, OnOk, OnErr};
-ghost use Rattle.lane_views.specs.declared.change.LaneChange.{LaneChange};
+ghost use Rattle.view_changes.specs.declared.change.LaneChange.{LaneChange};
 ghost use Rattle.shelves.specs.Shelves.{ShowsSame, ShowsFirst};
 
-use lane_views::LaneChange;
 use value_lists::NoMemory;
+use view_changes::LaneChange;
 
 /// Takes changes in, and shows them.
 pub trait Shelf {

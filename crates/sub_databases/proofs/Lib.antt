@@ -1,4 +1,5 @@
 -- Of this crate alone.
 mod RowSteps
 mod PartLaws
+mod ListLaws
 mod ReadyLaws

@@ -1,5 +1,5 @@
 -- That the parts stay what they are, and where each document then is.
-use Rattle.std.proofs.Common.{◌≡◌, ℕ, ◌+◌, ◌<◌, Bool, true, false, cond, not, ◌&&◌, List, [], ◌∷◌, Option, None, Some, is_some, Result, Ok, Err, OnOk, OnErr, arith, refl, sym, ap, ap₂, subst, ◌∙◌}
+use Rattle.std.proofs.Common.{◌≡◌, ℕ, ◌+◌, ◌<◌, Bool, true, false, cond, not, ◌&&◌, List, [], ◌∷◌, Option, None, Some, is_some, Result, Ok, Err, OnOk, arith, refl, sym, ap, ap₂, subst, ◌∙◌}
 use mathlib.Core.Bool.{true≢false}
 use Rattle.std.specs.Str.{bytes_eq}
 use Rattle.std.specs.Cmp.Lexicographic.{nat_list_cmp_total}
@@ -15,16 +15,16 @@ use Rattle.entry_maps.specs.EntryCodes.{Entries}
 use Rattle.entry_maps.specs.Entries.{is_newer, with_entry, in_bucket}
 use Rattle.document_rows.specs.Rows.{Rows, has_row, document_of, fitted, AreDistinct}
 use Rattle.document_rows.proofs.RowLaws.{same_id, own_id}
-use Rattle.node_rows.specs.TypedRows.{TypedRows, with_rows, without_in}
-use Rattle.lane_views.specs.Shown.{HasRoom, shown, body_shown}
-use Rattle.lane_views.specs.Deeds.{RoomAlong}
-use Rattle.lane_views.specs.Room.{AllAt, AllHave}
-use Rattle.lane_views.proofs.ShownLaws.{turned}
+use Rattle.node_rows.specs.TypedRows.{TypedRows, without_in}
+use Rattle.view_changes.specs.Shown.{HasRoom, shown, body_shown}
+use Rattle.view_changes.specs.Deeds.{RoomAlong}
+use Rattle.view_changes.specs.Room.{AllAt, AllHave}
+use Rattle.view_changes.proofs.ShownLaws.{turned}
 use Rattle.value_lists.specs.declared.no_memory.NoMemory.{NoMemory}
 use Rattle.sub_databases.specs.Parts.{Parts, AreParts, AreShown, HasOwnId, no_parts, place_in, entry_place, body_place}
 use Rattle.sub_databases.specs.declared.place.Place.TheVariants.{Ready, Nowhere}
-use Rattle.sub_databases.specs.Changes.{with_both, rows_after, after_take, place_after, after_drop, place_dropped, is_remove_of, place_forgotten}
-use Rattle.sub_databases.proofs.RowSteps.{has_some, rows_after-is, without_in-is}
+use Rattle.sub_databases.specs.Changes.{with_both, rows_after, after_take, place_after, after_drop, place_dropped, is_remove_of, place_forgotten, IsTaken}
+use Rattle.sub_databases.proofs.RowSteps.{is_one, not_one, has_some, rows_after-is, without_in-is}
 
 -- ---- maps of entries
 
@@ -48,12 +48,6 @@ come_and_gone m e none = same_map nat_list_cmp_total (slice_cmp-IsAntisymmetric 
     by_test : (q : List ℕ) (t : Bool) → bytes_eq e.id q ≡ t → cond t None (cond t (Some e) (fin.get m q)) ≡ fin.get m q
     by_test q true same = sym (ap (fin.get m) (sym (same_id e.id q same)) ∙ none)
     by_test q false other = refl
-
-is_one : {A : Type 0} (a b : A) → Some a ≡ Some b → a ≡ b
-is_one a b e = cc
-
-not_one : {A : Type 0} (a : A) → None ≡ Some a → ⊥
-not_one a e = cc
 
 -- what holds of each entry at its id stays
 module _ (P : List ℕ → Entry → Type 0) where
@@ -308,16 +302,15 @@ take_room finds m t e few distinct h =
         by_test false = all_have (parts_of m t) h q has
 
 pub kept_either : (m : Entries) (t : TypedRows) (e : Entry) (ready : Bool) → HasOwnId e → HasRoom t.rows → AreParts (parts_of m t) → (r : Result (Unit {0}) NoMemory) (n : Entries) (u : TypedRows)
-    → OnOk r (n ≡ fin.insert m e.id e) → OnOk r (u ≡ with_rows (rows_after t.types ready t.rows e) t) → OnErr r (n ≡ m) → OnErr r (u ≡ t) → AreParts (parts_of n u)
-kept_either m t e ready own room h (Ok x) n u a b c d =
-    subst (λ k. AreParts (parts_of k u)) (sym a) (subst (λ k. AreParts (parts_of (fin.insert m e.id e) k)) (sym b) (parts_newer (parts_of m t) e ready own room h))
-kept_either m t e ready own room h (Err x) n u a b c d = subst (λ k. AreParts (parts_of k u)) (sym c) (subst (λ k. AreParts (parts_of m k)) (sym d) h)
+    → IsTaken e ready m t r n u → AreParts (parts_of n u)
+kept_either m t e ready own room h (Ok x) n u is = subst (λ k. AreParts (parts_of k u)) (sym is.0) (subst (λ k. AreParts (parts_of (fin.insert m e.id e) k)) (sym is.1) (parts_newer (parts_of m t) e ready own room h))
+kept_either m t e ready own room h (Err x) n u is = subst (λ k. AreParts (parts_of k u)) (sym is.0) (subst (λ k. AreParts (parts_of m k)) (sym is.1) h)
 
 pub placed_either : (m : Entries) (t : TypedRows) (e : Entry) (ready : Bool) → HasOwnId e → HasRoom t.rows → is_newer e (fin.get m e.id) ≡ true → (r : Result (Unit {0}) NoMemory) (n : Entries) (u : TypedRows)
-    → OnOk r (n ≡ fin.insert m e.id e) → OnOk r (u ≡ with_rows (rows_after t.types ready t.rows e) t) → OnOk r ((q : List ℕ) → place_in (parts_of n u) q ≡ place_after e ready (parts_of m t) q)
-placed_either m t e ready own room newer (Ok x) n u a b = λ q.
-    ap₂ (λ k l. place_in (parts_of k l) q) a b ∙ (place_newer (parts_of m t) e ready own room q ∙ place_taken (parts_of m t) e ready newer q)
-placed_either m t e ready own room newer (Err x) n u a b = tt
+    → IsTaken e ready m t r n u → OnOk r ((q : List ℕ) → place_in (parts_of n u) q ≡ place_after e ready (parts_of m t) q)
+placed_either m t e ready own room newer (Ok x) n u is = λ q.
+    ap₂ (λ k l. place_in (parts_of k l) q) is.0 is.1 ∙ (place_newer (parts_of m t) e ready own room q ∙ place_taken (parts_of m t) e ready newer q)
+placed_either m t e ready own room newer (Err x) n u is = tt
 
 pub newer_first : (m : Entries) (e : Entry) → fin.get m e.id ≡ None → is_newer e (fin.get m e.id) ≡ true
 newer_first m e none = ap (is_newer e) none

@@ -2,37 +2,28 @@
 use Rattle.std.proofs.Common.{◌≡◌, ℕ, zero, suc, ◌<◌, Bool, true, false, cond, nat_lt, not, ◌||◌, ◌&&◌, List, [], ◌∷◌, filter, Option, None, Some, is_some, Result, Ok, Err, OnOk, OnErr, refl, sym, ap, ap₂, subst, ◌∙◌}
 use mathlib.Core.Bool.{true≢false}
 use Rattle.std.specs.Str.{bytes_eq}
-use Rattle.std.specs.Cmp.Lexicographic.{nat_list_cmp_total}
 use Rattle.std.specs.FinMap as fin
-use Rattle.std.specs.FinMap.{get-retain_keys, get-from_entries, slice_cmp-IsAntisymmetric, nat_cmp-IsAntisymmetric}
-use Rattle.std.proofs.lemmas.Map.Text.{is_eq-slice_cmp}
 use Rattle.bucket_ids.specs.Buckets.{Low}
 use Rattle.doc_types.specs.SchemaCodes.{Types}
 use Rattle.documents.specs.Fields.{Contents}
 use Rattle.documents.specs.declared.entry.Entry.{Entry}
-use Rattle.documents.specs.EntryCodes.{id_cmp}
 use Rattle.entry_maps.specs.EntryCodes.{Entries}
 use Rattle.entry_maps.specs.Entries.{in_bucket, by_id, AreSingle}
-use Rattle.entry_maps.proofs.SlotLists.{same_id, same_id-refl, same_id-is, cond_none}
-use Rattle.document_rows.specs.Rows.{Rows, has_row, document_of, fitted, free_place, put_free, replaced, without, with_document, after_body, taken_into, AreDistinct}
+use Rattle.entry_maps.proofs.SlotLists.{same_id, same_id-is}
+use Rattle.document_rows.specs.Rows.{Rows, has_row, has_entry, document_of, fitted, free_place, put_free, replaced, without, with_document, after_body, taken_into, AreDistinct}
 use Rattle.document_rows.specs.Reading.{row_at}
 use Rattle.document_rows.proofs.RowLaws.{same_id as same_text, own_id}
-use Rattle.node_rows.specs.TypedRows.{TypedRows, with_rows, AreNew, has_entry, all_taken}
-use Rattle.lane_views.specs.Shown.{HasRoom, shown, body_shown}
-use Rattle.lane_views.specs.Room.{AllAt}
-use Rattle.lane_views.specs.Deeds.{RoomAlong}
-use Rattle.lane_views.proofs.ShownLaws.{body-is, turned}
+use Rattle.node_rows.specs.TypedRows.{TypedRows, with_rows, AreNew, all_taken}
+use Rattle.view_changes.specs.Shown.{HasRoom, shown, body_shown}
+use Rattle.view_changes.specs.Room.{AllAt}
+use Rattle.view_changes.specs.Deeds.{RoomAlong}
+use Rattle.view_changes.proofs.ShownLaws.{body-is, turned}
 use Rattle.sub_databases.specs.Parts.{Parts, AreParts, AreShown, HasOwnId, entry_place, body_place}
 use Rattle.sub_databases.specs.Changes.{with_both, is_waiting, made_ready, MakesReady}
 use Rattle.value_lists.specs.declared.no_memory.NoMemory.{NoMemory}
-use Rattle.sub_databases.proofs.RowSteps.{has_some}
+use Rattle.sub_databases.proofs.RowSteps.{not_one, has_some}
+use Rattle.sub_databases.proofs.ListLaws.{found, other_id, own_entry, none_found, found_within, list_at}
 use Rattle.sub_databases.proofs.PartLaws.{FindRoom, parts_of, all_have}
-
-is_one : {A : Type 0} (a b : A) → Some a ≡ Some b → a ≡ b
-is_one a b e = cc
-
-not_one : {A : Type 0} (a : A) → None ≡ Some a → ⊥
-not_one a e = cc
 
 first : (a b : Bool) → a && b ≡ true → a ≡ true
 first true b k = refl
@@ -42,45 +33,6 @@ second : (a b : Bool) → a && not b ≡ true → b ≡ false
 second true true k = absurd (true≢false (sym k))
 second true false k = refl
 second false b k = absurd (true≢false (sym k))
-
--- ---- the entries of a bucket, as a list
-
--- the first entry of an id among some
-abbrev found : List ℕ → List Entry → Option Entry
-found q es = fin.find id_cmp q (by_id es)
-
-other_id : (q : List ℕ) (e : Entry) → same_id q e.id ≡ false → bytes_eq e.id q ≡ false
-other_id q e h = sym (turned q e.id) ∙ (sym (is_eq-slice_cmp q e.id) ∙ h)
-
-own_entry : (q : List ℕ) (e : Entry) → same_id q e.id ≡ true → bytes_eq e.id q ≡ true
-own_entry q e h = sym (turned q e.id) ∙ (sym (is_eq-slice_cmp q e.id) ∙ h)
-
-none_found : (q : List ℕ) (es : List Entry) → found q es ≡ None → has_entry q es ≡ false
-none_found q [] h = refl
-none_found q (e ∷ es) h =
-    let k = cond_none (same_id q e.id) e (found q es) h in
-    ap₂ (λ a b. a || b) (other_id q e k.0) (none_found q es k.1)
-
-all_found : (m : Entries) (es : List Entry) → AreSingle (by_id es) → ((q : List ℕ) (x : Entry) → found q es ≡ Some x → fin.get m q ≡ Some x) → AllAt m es
-all_found m [] single in_m = tt
-all_found m (e ∷ es) single in_m = (in_m e.id e (ap (λ t. cond t (Some e) (found e.id es)) (same_id-refl e.id)), all_found m es single.1 (λ q x h. in_m q x (later q x h (same_id q e.id) refl)))
-  where
-    later : (q : List ℕ) (x : Entry) → found q es ≡ Some x → (t : Bool) → same_id q e.id ≡ t → cond t (Some e) (found q es) ≡ Some x
-    later q x h true same = absurd (not_one x (sym (ap (λ i. found i es) (same_id-is q e.id same) ∙ single.0) ∙ h))
-    later q x h false other = h
-
-get_within : (m : Entries) (b : Low) (q : List ℕ) → fin.get (fin.retain_keys m (in_bucket b)) q ≡ cond (in_bucket b q) (fin.get m q) None
-get_within m b q = get-retain_keys m (in_bucket b) q (λ x e. ap (in_bucket b) (sym (slice_cmp-IsAntisymmetric nat_cmp-IsAntisymmetric q x e)))
-
-found_within : (m : Entries) (b : Low) (es : List Entry) → fin.from_entries (by_id es) ≡ fin.retain_keys m (in_bucket b) → (q : List ℕ) → found q es ≡ cond (in_bucket b q) (fin.get m q) None
-found_within m b es listed q = sym (get-from_entries nat_list_cmp_total (by_id es) q) ∙ (ap (λ n. fin.get n q) listed ∙ get_within m b q)
-
-list_at : (m : Entries) (b : Low) (es : List Entry) → fin.from_entries (by_id es) ≡ fin.retain_keys m (in_bucket b) → AreSingle (by_id es) → AllAt m es
-list_at m b es listed single = all_found m es single (λ q x h. by_test q x (in_bucket b q) (sym (found_within m b es listed q) ∙ h))
-  where
-    by_test : (q : List ℕ) (x : Entry) (t : Bool) → cond t (fin.get m q) None ≡ Some x → fin.get m q ≡ Some x
-    by_test q x true k = k
-    by_test q x false k = absurd (not_one x k)
 
 -- ---- those of them that wait
 

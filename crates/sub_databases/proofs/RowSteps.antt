@@ -11,9 +11,15 @@ use Rattle.document_rows.specs.Rows.{Rows, has_row, document_of, without}
 use Rattle.document_rows.specs.Reading.{row_at}
 use Rattle.document_rows.proofs.RowLaws.{same_id, own_id, without-is}
 use Rattle.node_rows.specs.TypedRows.{TypedRows, with_rows, without_in}
-use Rattle.lane_views.specs.Shown.{body_shown, HasRoom}
-use Rattle.lane_views.proofs.ShownLaws.{body-is}
+use Rattle.view_changes.specs.Shown.{body_shown, HasRoom}
+use Rattle.view_changes.proofs.ShownLaws.{body-is}
 use Rattle.sub_databases.specs.Changes.{rows_after}
+
+pub not_one : {A : Type 0} (a : A) → None ≡ Some a → ⊥
+not_one a e = cc
+
+pub is_one : {A : Type 0} (a b : A) → Some a ≡ Some b → a ≡ b
+is_one a b e = cc
 
 -- some place has a document exactly where there is one
 pub has_some : (id : List ℕ) (rows : Rows) → has_row id rows ≡ is_some (document_of id rows)
@@ -55,12 +61,6 @@ without_in-is b q (Some d ∷ rows) = step (in_bucket b d.id) (in_bucket b q) (b
     step false false false a k c ih = rw c (ih ∙ rw k refl)
 
 -- ---- a document's local id
-
-not_one : {A : Type 0} (a : A) → None ≡ Some a → ⊥
-not_one a e = cc
-
-is_one : {A : Type 0} (a b : A) → Some a ≡ Some b → a ≡ b
-is_one a b e = cc
 
 -- the place has the document of this id
 abbrev pub stands_at : Rows → ℕ → List ℕ → Type 0

@@ -1,6 +1,7 @@
 -- What each call makes of a node's three parts, and of the place of each document.
-use Rattle.std.specs.Prelude.{◌≡◌, ◌==◌, ◌&&◌, ℕ, Bool, true, false, not, List, Option, None, Some, is_some, if◌then◌else◌}
+use Rattle.std.specs.Prelude.{◌≡◌, ◌==◌, ◌&&◌, ℕ, Bool, true, false, not, List, Option, None, Some, is_some, Result, Ok, Err, if◌then◌else◌}
 use Rattle.std.specs.FinMap as fin
+use Rattle.value_lists.specs.declared.no_memory.NoMemory.{NoMemory}
 use Rattle.std.specs.Str.{bytes_eq}
 use Rattle.bucket_ids.specs.Buckets.{Low}
 use Rattle.stamps.specs.declared.stamp.Stamp.{Stamp}
@@ -11,7 +12,7 @@ use Rattle.entry_maps.specs.Entries.{is_newer, in_bucket}
 use Rattle.entry_maps.specs.EntryCodes.{Entries}
 use Rattle.document_rows.specs.Rows.{Rows, has_row, without, taken_into}
 use Rattle.document_rows.specs.Reading.{row_at}
-use Rattle.node_rows.specs.TypedRows.{without_in}
+use Rattle.node_rows.specs.TypedRows.{TypedRows, with_rows, without_in}
 use Rattle.sub_databases.specs.Parts.{Parts, body_place, place_in}
 use Rattle.sub_databases.specs.declared.place.Place.{Place}
 use Rattle.sub_databases.specs.declared.place.Place.TheVariants.{Ready, NotReady, Nowhere}
@@ -29,6 +30,11 @@ rows_after types false rows e = without e.id rows
 -- a remove of an entry's stamp and document
 abbrev pub removal : Entry → Entry
 removal e = record { stamp = e.stamp; id = e.id; body = None }
+
+-- a newer entry is kept, and its document in the ready part or not; or nothing changes
+abbrev pub IsTaken : Entry → Bool → Entries → TypedRows → Result (Unit {0}) NoMemory → Entries → TypedRows → Type 0
+IsTaken e ready m t (Ok _) n u = (n ≡ fin.insert m e.id e) × (u ≡ with_rows (rows_after t.types ready t.rows e) t)
+IsTaken e ready m t (Err _) n u = (n ≡ m) × (u ≡ t)
 
 -- a newer entry is kept, and its mark decides; one that isn't newer changes nothing
 abbrev pub after_take : Entry → Bool → Parts → Parts

@@ -8,7 +8,7 @@ use Rattle.documents.specs.declared.entry.Entry.{Entry}
 use Rattle.entry_maps.specs.EntryCodes.{Entries, entries_code}
 use Rattle.document_rows.specs.Rows.{Rows, has_row, document_of}
 use Rattle.node_rows.specs.TypedRows.{rows_code}
-use Rattle.lane_views.specs.Shown.{AreOwn, shown}
+use Rattle.view_changes.specs.Shown.{AreOwn, shown}
 use Rattle.sub_databases.specs.declared.place.Place.{Place}
 use Rattle.sub_databases.specs.declared.place.Place.TheVariants.{Ready, NotReady, Removed, Nowhere}
 

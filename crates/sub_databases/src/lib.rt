@@ -14,13 +14,12 @@
 //! ```
 #![tactic(auto)]
 
+mod dropping;
 mod filling;
 pub mod laws;
 pub mod parts;
 pub mod place;
 mod taking;
-#[cfg(test)]
-mod tests;
 
 pub use parts::SubDatabases;
 pub use place::Place;

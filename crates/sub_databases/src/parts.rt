@@ -9,6 +9,7 @@ ghost use Rattle.entry_maps.specs.Entries.{in_bucket};
 ghost use Rattle.sub_databases.specs.Parts.{no_parts, place_in, AreParts, HasOwnId};
 ghost use Rattle.sub_databases.specs.Changes.{after_take, place_after, MakesReady, after_drop, place_dropped, after_forget, place_forgotten};
 
+use crate::dropping::{drop_rows, listed_in};
 use crate::filling::waiting;
 use crate::place::{Place, place_by};
 use crate::taking::{is_newer, is_remove_of, take_first, take_newer};
@@ -17,12 +18,12 @@ use document_ids::DocId;
 use documents::{Entry, SharedEntry};
 use entry_maps::EntryMap;
 use global_ids::key_of;
-use lane_views::laws::entries_find_room;
 use node_rows::{NodeRows, SharedSchema};
 use stamps::Stamp;
 use std::alloc::Global;
 use std::marker::Model;
 use value_lists::{NoMemory, TryCopy};
+use view_changes::laws::entries_find_room;
 
 /// The three parts of a node in one lane.
 #[derive(Drop)]
@@ -133,18 +134,19 @@ impl SubDatabases {
     {
         entries_find_room();
         let _ = self.ready.len();
-        let entries = self.entries.within(bucket)?.listed()?;
+        let entries = listed_in(&self.entries, bucket)?;
         let waiting = waiting(alloc, &self.ready, &entries)?;
         self.ready.take_all(alloc, &waiting)
     }
 
-    /// Drops the entries of a bucket, and its documents from the ready part. Takes no memory.
+    /// Drops the entries of a bucket, and its documents from the ready part. Costs the bucket's entries, or where memory
+    /// doesn't serve for a list of them, all places of the ready part.
     pub fn drop_bucket(&mut self, bucket: Bucket)
         ensures left { self.new ≡ after_drop bucket self.old }
         ensures places { (id : List ℕ) → place_in self.new id ≡ place_dropped (in_bucket bucket id) (place_in self.old id) }
     {
+        drop_rows(&mut self.ready, &self.entries, bucket);
         self.entries.remove_within(bucket);
-        self.ready.drop_in(bucket);
     }
 
     /// Drops a document's entry exactly where it is a remove of a stamp. Takes no memory.

@@ -1,11 +1,10 @@
-ghost use Rattle.std.specs.Prelude.{◌≡◌, ◌&&◌, None, true, false, is_some, not, IfOk, OnOk, OnErr, option_map};
+ghost use Rattle.std.specs.Prelude.{◌≡◌, ◌&&◌, None, true, false, is_some, IfOk, OnOk, OnErr};
 ghost use Rattle.std.specs.Option.{option_copied};
 ghost use Rattle.std.specs.FinMap as fin;
 ghost use Rattle.global_ids.specs.Keys.{key_of};
-ghost use Rattle.document_rows.specs.Rows.{has_row};
 ghost use Rattle.entry_maps.specs.Entries.{is_newer};
 ghost use Rattle.node_rows.specs.TypedRows.{with_rows};
-ghost use Rattle.sub_databases.specs.Changes.{rows_after, is_remove_of, removal};
+ghost use Rattle.sub_databases.specs.Changes.{rows_after, is_remove_of, removal, IsTaken};
 
 use document_ids::DocId;
 use documents::{Entry, SharedEntry};
@@ -87,11 +86,7 @@ pub fn take_first(
 ) -> Result<(), NoMemory>
     requires key { key ≡ key_of entry.now.id }
     requires none { fin.get entries.old entry.now.id ≡ None }
-    ensures entries { OnOk result (entries.new ≡ fin.insert entries.old entry.now.id entry.now) }
-    ensures rows { OnOk result (rows.new
-        ≡ with_rows (rows_after rows.old.types ready rows.old.rows entry.now) rows.old) }
-    ensures entries_before { OnErr result (entries.new ≡ entries.old) }
-    ensures rows_before { OnErr result (rows.new ≡ rows.old) }
+    ensures { IsTaken entry.now ready entries.old rows.old result entries.new rows.new }
 {
     entries.put_at(key, entry.copy(alloc)?)?;
     let Ok(()) = settle(rows, alloc, key, entry, ready) else {
@@ -112,11 +107,7 @@ pub fn take_newer(
 ) -> Result<(), NoMemory>
     requires key { key ≡ key_of entry.now.id }
     requires there { is_some (fin.get entries.old entry.now.id) ≡ true }
-    ensures entries { OnOk result (entries.new ≡ fin.insert entries.old entry.now.id entry.now) }
-    ensures rows { OnOk result (rows.new
-        ≡ with_rows (rows_after rows.old.types ready rows.old.rows entry.now) rows.old) }
-    ensures entries_before { OnErr result (entries.new ≡ entries.old) }
-    ensures rows_before { OnErr result (rows.new ≡ rows.old) }
+    ensures { IsTaken entry.now ready entries.old rows.old result entries.new rows.new }
 {
     let shared = entry.copy(alloc)?;
     settle(rows, alloc, key, entry, ready)?;

@@ -12,8 +12,6 @@
 //! ```
 #![tactic(auto)]
 
-#[cfg(test)]
-mod few;
 pub mod scanner;
 mod scanning;
 

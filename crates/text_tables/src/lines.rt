@@ -1,11 +1,14 @@
 use crate::fields::json_text;
+use crate::found::found;
 use crate::texts::{byte, halves, number, shown, word};
 use crate::world::World;
 use carriers::Fate;
+use doc_types::Schema;
 use feed_lines::{Command, read_line};
 use io_ends::{LineReader, MemorySource, Next};
 use line_values::ValueReader;
-use messages::{OpKind, Operation};
+use message_texts::{MessageFault, message_text, read_message};
+use messages::{Message, OpKind, Operation};
 use reports::{Answer, report};
 use std::alloc::Global;
 use value_lists::NoMemory;
@@ -52,6 +55,7 @@ fn command_told(alloc: Global, command: &Command) -> Result<String, NoMemory> {
     match command {
         Command::Blank => shown(alloc, &"blank"),
         Command::Feed { operation, via } => shown(alloc, &(kind_of(operation), via)),
+        Command::Search { text } => shown(alloc, &("search", text.text())),
         Command::State { text, deaf } => shown(alloc, &("state", text.text(), deaf.bits())),
         Command::Stop { node } => shown(alloc, &("stop", node)),
         Command::Start { node } => shown(alloc, &("start", node)),
@@ -144,7 +148,12 @@ fn length_of(next: Next, line: &[u8]) -> usize {
 /// The report of an answer: the line's number, what the answer is, and its numbers.
 pub fn reported(alloc: Global, asked: &str) -> Result<String, NoMemory> {
     let (kind, numbers) = halves(asked);
-    let answer = answer_of(kind, numbers);
+    let answer = match kind {
+        "Search" => Answer::Search {
+            answer: found(alloc, numbers)?,
+        },
+        _ => answer_of(kind, numbers),
+    };
     report_told(alloc, word(numbers, 0), &answer)
 }
 
@@ -190,8 +199,23 @@ fn answer_of_state(kind: &str, number: u32) -> Answer {
         "NotNewer" => Answer::NotNewer { have: number },
         "Published" => Answer::Published { version: number },
         "BadState" => Answer::BadState { offset: number },
+        "BadQuery" => Answer::BadQuery { offset: number },
         "NoDistributor" => Answer::NoDistributor,
         "TooLong" => Answer::TooLong,
         _ => Answer::NoMemory,
     }
+}
+
+/// Whether a text is that of the message that it is read as.
+pub fn message_read(alloc: Global, schema: &Schema, text: &str) -> Result<String, NoMemory> {
+    match read_message(alloc, text.as_bytes(), schema) {
+        Ok(message) => shown(alloc, &is_text(alloc, &message, text)?),
+        Err(MessageFault::BadMessage) => shown(alloc, &false),
+        Err(MessageFault::NoMemory) => Err(NoMemory),
+    }
+}
+
+fn is_text(alloc: Global, message: &Message, text: &str) -> Result<bool, NoMemory> {
+    let printed = message_text(alloc, message)?;
+    Ok(printed.as_slice() == text.as_bytes())
 }

@@ -9,9 +9,11 @@
 #![tactic(auto)]
 
 mod fields;
+mod found;
 mod ids;
 mod languages;
 mod lines;
+mod scanned;
 mod states;
 mod tables;
 mod texts;

@@ -1,5 +1,5 @@
 use crate::world::World;
-use crate::{fields, ids, languages, lines, states};
+use crate::{fields, ids, languages, lines, scanned, states};
 use std::alloc::Global;
 use value_lists::NoMemory;
 
@@ -31,6 +31,7 @@ pub enum Table {
     StateSets,
     Published,
     Places,
+    Scanned,
     Schemas,
     Kinds,
     Lexemes,
@@ -47,10 +48,11 @@ pub enum Table {
     Words,
     Faults,
     Reports,
+    MessageTexts,
 }
 
 /// The tables with their files.
-pub const TABLES: [(Table, &str); 41] = [
+pub const TABLES: [(Table, &str); 43] = [
     (Table::Ids, "ids"),
     (Table::IdParts, "id_parts"),
     (Table::Digests, "digests"),
@@ -76,6 +78,7 @@ pub const TABLES: [(Table, &str); 41] = [
     (Table::StateSets, "state_sets"),
     (Table::Published, "published"),
     (Table::Places, "places"),
+    (Table::Scanned, "scanned"),
     (Table::Schemas, "schema_faults"),
     (Table::Kinds, "kinds"),
     (Table::Lexemes, "lexemes"),
@@ -92,6 +95,7 @@ pub const TABLES: [(Table, &str); 41] = [
     (Table::Words, "words"),
     (Table::Faults, "faults"),
     (Table::Reports, "reports"),
+    (Table::MessageTexts, "message_texts"),
 ];
 
 /// What comes where a line of a table asks.
@@ -127,6 +131,7 @@ pub fn answer(
         Table::StateSets => states::state_sets(alloc, asked),
         Table::Published => states::published(alloc, &mut world.states, asked),
         Table::Places => states::places(alloc, asked),
+        Table::Scanned => scanned::scanned(alloc, asked),
         Table::Schemas => fields::schema_fault(alloc, asked),
         Table::Kinds => fields::kind_named(alloc, asked),
         Table::Lexemes => fields::lexemes(alloc, asked),
@@ -143,5 +148,6 @@ pub fn answer(
         Table::Words => lines::options_told(alloc, asked),
         Table::Faults => lines::lines_read(alloc, asked),
         Table::Reports => lines::reported(alloc, asked),
+        Table::MessageTexts => lines::message_read(alloc, &world.standard, asked),
     }
 }

@@ -17,7 +17,7 @@ use Rattle.lane_journals.specs.Facts.{AnsweredApply}
 use Rattle.lane_journals.specs.Meanings.{history}
 use Rattle.lane_journals.specs.declared.event.LaneEvent.{LaneEvent}
 use Rattle.lane_journals.specs.declared.event.LaneEvent.TheVariants.{Sent, Delivered, Returned, Decided}
-use Rattle.round_keeping.specs.RoundKeeping.{is_among_first, AreAnswers, KnowsAnswersOf, KnowsAnswers, KnowsRoundOf, KnowsRound}
+use Rattle.lane_keeping.specs.RoundKeeping.{is_among_first, AreAnswers, KnowsAnswersOf, KnowsAnswers, KnowsRoundOf, KnowsRound}
 use Rattle.round_keeping.specs.declared.round_run.RoundRun.{RoundRun}
 use Rattle.round_keeping.specs.declared.round_run.RoundEnd.{RoundEnd}
 use Rattle.lane_carriage.specs.Carrying.{AreCarried}

@@ -25,7 +25,7 @@ use Rattle.lane_journals.specs.Places.{Setting}
 use Rattle.lane_journals.specs.KeptJournals.{IsLegal}
 use Rattle.lane_journals.specs.Meanings.{history, names}
 use Rattle.lane_journals.specs.declared.event.LaneEvent.{LaneEvent}
-use Rattle.round_keeping.specs.RoundKeeping.{is_apply, is_of, is_among_first, IsNamed}
+use Rattle.lane_keeping.specs.RoundKeeping.{is_apply, is_of, is_among_first, IsNamed}
 use Rattle.round_keeping.proofs.Sent.{sent-passes, passes}
 use Rattle.lane_rest.specs.Rest.{documents}
 use Rattle.pass_model.specs.Scripts.{Script}

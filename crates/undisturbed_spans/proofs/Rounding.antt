@@ -29,7 +29,7 @@ use Rattle.pass_model.specs.Nodes.{Node, apply_once, apply_node, received, count
 use Rattle.pieces.specs.Pieces.{apply_at}
 use Rattle.pass_model.specs.Lanes.{is_taken, is_answer, seen_node}
 use Rattle.pass_model.specs.Scripts.{Script, told_body}
-use Rattle.round_keeping.specs.RoundKeeping.{was_sent, is_apply, is_of}
+use Rattle.lane_keeping.specs.RoundKeeping.{was_sent, is_apply, is_of}
 use Rattle.round_keeping.proofs.Waiting.{answered-stays}
 use Rattle.undisturbed_spans.specs.Undisturbed.{IsTakenOnce, IsTakenTwice}
 use Rattle.undisturbed_spans.specs.Telling.{seen_nodes, IsShownIn, IsToldIn}

@@ -29,7 +29,7 @@ use Rattle.lane_carriage.specs.Laws.{OfTaken}
 use Rattle.upkeep_spans.specs.Spans.{later, IsUpkeepBody, IsUpkeepEvent, AreUpkeep, OfUpkeep}
 use Rattle.pass_model.specs.Lanes.{IsPassBody}
 use Rattle.pass_model.specs.Scripts.{Script}
-use Rattle.round_keeping.specs.RoundKeeping.{origin_in, was_sent, is_apply, is_of, is_among_first}
+use Rattle.lane_keeping.specs.RoundKeeping.{origin_in, was_sent, is_apply, is_of, is_among_first}
 use Rattle.lane_carriage.specs.Carrying.{AreCarried}
 use Rattle.round_keeping.specs.RoundRuns.{Sends, SendsNext, IsRoundRun, Nothing, Further, WasRefused, is_read_in, is_apply_in}
 use Rattle.round_keeping.proofs.Runs.{runs-carried}

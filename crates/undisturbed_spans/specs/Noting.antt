@@ -11,7 +11,7 @@ use Rattle.merge_rounds.specs.Rounds.{RoundState, HaveAllShown, IsOver, pieces_b
 use Rattle.lane_journals.specs.Events.{Content}
 use Rattle.lane_journals.specs.declared.event.LaneEvent.{LaneEvent}
 use Rattle.lane_keeping.specs.NodeKeeping.{stamp_of}
-use Rattle.round_keeping.specs.RoundKeeping.{KnowsRoundOf}
+use Rattle.lane_keeping.specs.RoundKeeping.{KnowsRoundOf}
 use Rattle.lane_rest.specs.Sets.{newest_of}
 use Rattle.pass_model.specs.Scripts.{Script}
 use Rattle.pass_model.specs.Shapes.{Over, Inside, IsApart, shape_of}

@@ -18,7 +18,7 @@ use Rattle.lane_keeping.specs.NodeKeeping.{stamp_of}
 use Rattle.lane_keeping.specs.Replaying.{sending}
 use Rattle.pass_model.specs.Nodes.{Node, apply_node}
 use Rattle.pass_model.specs.Scripts.{Script}
-use Rattle.round_keeping.specs.RoundKeeping.{was_sent, is_apply, is_of}
+use Rattle.lane_keeping.specs.RoundKeeping.{was_sent, is_apply, is_of}
 use Rattle.undisturbed_spans.specs.Undisturbed.{IsTakenOnce, IsTakenTwice}
 use Rattle.undisturbed_spans.specs.Telling.{seen_nodes, held_in}
 

@@ -1,7 +1,11 @@
 use Rattle.serde_json.specs.View.{view}
 use Rattle.feed_lines.proofs.SettingLaws.{state_is, stop_is, start_is, net_is}
+use Rattle.feed_lines.proofs.SearchLaws.{search_is}
 use Rattle.feed_lines.proofs.UpkeepLaws.{maintain_is}
 use Rattle.feed_lines.proofs.reading.own_command.Goals as goal
+
+pub returns-in-Search : goal.returns-in-Search
+returns-in-Search c = rw c.in-Search.is (rw (search_is c.args.schema.now c.args.bits (view c.args.line.now)) at c.search_command.ensures)
 
 pub returns-in-State : goal.returns-in-State
 returns-in-State c = rw c.in-State.is (rw (state_is c.args.schema.now c.args.bits (view c.args.line.now)) at c.state_command.ensures)

@@ -1,22 +1,12 @@
-use Rattle.std.proofs.Common.{◌≡◌, ◌≤◌, cond, sym, ap, ◌∙◌, Some, bytes_eq, rules, arith}
+use Rattle.std.proofs.Common.{◌≡◌, cond, sym, ap, ◌∙◌, Some, bytes_eq, rules}
 use Rattle.std.specs.BTreeMap.{get_by_text}
-use Rattle.std.proofs.lemmas.Map.Text.{text_keys, btree_map_updates_text}
+use Rattle.std.proofs.lemmas.Map.Text.{btree_map_updates_text}
 use Rattle.group_counts.specs.Tallies.{tally_with}
-use Rattle.group_counts.proofs.TallyLaws.{count-within}
 use Rattle.group_counts.proofs.tallies.take_text.Goals as goal
 
-pub take-requires : goal.take-requires
-take-requires c =
-    let there : get_by_text c.args.tallies.now c.args.text.now ≡ Some c.in-Some.tally.now = sym c.in-Some.ensures.value in
-    let most : (c.in-Some.tally.now).count ≤ 9223372036854775807 = count-within 9223372036854775807 (get_by_text c.args.tallies.now) c.args.text.now c.in-Some.tally.now c.requires there in
-    omega (arith, most)
-
-pub returns-in-Some-clause-ok : goal.returns-in-Some-clause-ok
-returns-in-Some-clause-ok c = λ q.
+pub returns-in-Some : goal.returns-in-Some
+returns-in-Some c = λ q.
     let old = c.args.tallies.now in
     let there : get_by_text old c.args.text.now ≡ Some c.in-Some.tally.now = sym c.in-Some.ensures.value in
     btree_map_updates_text c.args.text.now old (c.get_mut.follows.lender c.take.new.self) (Some c.take.new.self) ((c.get_mut.follows.holds c.take.new.self).3 (search rules)) q
     ∙ ap (λ o. cond (bytes_eq c.args.text.now q) o (get_by_text old q)) (ap Some c.take.ensures ∙ ap (λ o. Some (tally_with c.args.kinds.now c.args.document.now o)) (sym there))
-
-pub returns-clause-ok : goal.returns-clause-ok
-returns-clause-ok c = grind (arith, text_keys)

@@ -1,4 +1,4 @@
-use Rattle.journal_views.specs.Changes.{changes_of}
+use Rattle.lane_changes.specs.Changes.{changes_of}
 use Rattle.journal_views.proofs.Folds.{counted}
 use Rattle.journal_views.proofs.Standing.{Given}
 use Rattle.journal_views.proofs.Reading.{reads, views, lies, fronts-read, first-changes}

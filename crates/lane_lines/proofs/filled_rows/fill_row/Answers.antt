@@ -81,7 +81,7 @@ returns-in_err-reserve-clause-cut g c =
     let x = c.args.lane.now in
     let d = c.args.distributor in
     let key = c.args.key in
-    let n = record x { journal = c.reserve.new.self } in
+    let n = record x { journal = record x.journal { events = c.reserve.new.self } } in
     let cut : OfUnprepared x d key (λ line o s stamp. BeganNoRound (journal_of x) line s.version → IsCutOffWith x n line o d s stamp) =
     λ line o s stamp w same none. cut-nothing x n line o d s stamp (nothing-done x n line o d s stamp (rw c.in_err-reserve.ensures.items refl) w) in
     on-err c.from_residual.result _ cut

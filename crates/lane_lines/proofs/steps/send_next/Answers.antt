@@ -118,7 +118,7 @@ pub returns-clause-quiet : goal.returns-clause-quiet
 returns-clause-quiet g c = quiet-on _ _ _ c.write_wanted.ensures.quiet c.exchange_operation.ensures.quiet
 
 pub returns-in_err-exchange_operation-clause-finds : goal.returns-in_err-exchange_operation-clause-finds
-returns-in_err-exchange_operation-clause-finds g c = finds-grown (place_of c.write_wanted.new.places) c.write_wanted.new.lane.journal.items c.exchange_operation.new.lane.journal.items c.exchange_operation.ensures.entries c.write_wanted.ensures.finds
+returns-in_err-exchange_operation-clause-finds g c = finds-grown (place_of c.write_wanted.new.places) c.write_wanted.new.lane.journal.events.items c.exchange_operation.new.lane.journal.events.items c.exchange_operation.ensures.entries c.write_wanted.ensures.finds
 
 pub returns-clause-finds : goal.returns-clause-finds
-returns-clause-finds g c = finds-grown (place_of c.write_wanted.new.places) c.write_wanted.new.lane.journal.items c.exchange_operation.new.lane.journal.items c.exchange_operation.ensures.entries c.write_wanted.ensures.finds
+returns-clause-finds g c = finds-grown (place_of c.write_wanted.new.places) c.write_wanted.new.lane.journal.events.items c.exchange_operation.new.lane.journal.events.items c.exchange_operation.ensures.entries c.write_wanted.ensures.finds

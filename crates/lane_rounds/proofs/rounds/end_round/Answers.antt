@@ -13,7 +13,7 @@ use Rattle.lane_journals.specs.Meanings.{history}
 use Rattle.lane_journals.specs.KeptJournals.{IsLegalStep}
 use Rattle.lane_journals.specs.declared.event.LaneEvent.TheVariants.{Decided}
 use Rattle.lane_keeping.specs.LaneKeeping.{part_in, PartKeeps, setting_of}
-use Rattle.round_keeping.specs.RoundKeeping.{KnowsAnswers, NoRound}
+use Rattle.lane_keeping.specs.RoundKeeping.{KnowsAnswers, NoRound}
 use Rattle.lane_states.specs.LaneStates.{journal_of}
 use Rattle.round_keeping.specs.RoundRuns.{IsRunBy, IsStageOver, EndsJob, EndsRun, KnowsRefusals}
 use Rattle.lane_states.proofs.Kept.{kept_more}

@@ -10,7 +10,7 @@ use Rattle.distributor_part.specs.declared.rules.Rules.{Rules}
 use Rattle.lane_states.specs.declared.lane_state.LaneState.{LaneState}
 use Rattle.lane_states.specs.LaneStates.{journal_of}
 use Rattle.lane_states.specs.Growing.{IsSettled}
-use Rattle.round_keeping.specs.RoundKeeping.{KnowsRound, IsAwaited}
+use Rattle.lane_keeping.specs.RoundKeeping.{KnowsRound, IsAwaited}
 use Rattle.round_keeping.specs.RoundRuns.{IsRunning, IsCutOff, left}
 use Rattle.round_keeping.specs.RoundShortages.{wants_memory}
 use Rattle.round_keeping.proofs.Running.{no-ask, running-sent, goes-on}

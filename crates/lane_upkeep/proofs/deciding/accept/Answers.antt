@@ -22,6 +22,7 @@ writes c =
     let a = c.args.lane.now in
     record {
       same = refl;
+      told = refl;
       roomy = refl;
       here = subst (λ n. n < length a.parts.items) c.from.ensures (search rules);
       read = subst (λ n. c.index_mut.result.now ≡ get_or a.parts.items n c.index_mut.result.now) c.from.ensures c.index_mut.ensures.value;
@@ -43,7 +44,7 @@ returns-clause-passing c given h =
     let a = c.args.lane.now in
     let o = c.args.owner.now in
     let w = writes c in
-    still-passes a (then_is c) o (writes-after w) (writes-len w) refl (writes-others w) given h.spare
+    still-passes a (then_is c) o (writes-after w) (writes-len w) refl (writes-others w) refl given h.spare
     (c.acceptances_are_kept.ensures a.lane a.rules (journal_of a) a.newest a.last a.nodes.items a.parts.items h.keeps.keeps (then_is c).parts.items o.distributor c.args.at
     (writes-now w (λ y z. AcceptsAt y z c.args.at) c.accept.ensures) (writes-others w))
     (writes-accepted w (accepted_accepted (history (journal_of a)) c.index_mut.result.now c.accept.new.self c.args.at c.accept.ensures (now-accepted c given h)) h.keeps)

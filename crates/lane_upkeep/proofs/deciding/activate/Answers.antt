@@ -17,20 +17,21 @@ use Rattle.lane_upkeep.proofs.deciding.activate.Goals as goal
 
 pub returns-in_err-room_for_decision-clause-passing : goal.returns-in_err-room_for_decision-clause-passing
 returns-in_err-room_for_decision-clause-passing c given h =
-    roomy-passes c.args.lane.now c.room_for_decision.new.lane c.args.owner.now c.room_for_decision.ensures.same c.room_for_decision.ensures.after given c.room_for_decision.ensures.spare h
+    roomy-passes c.args.lane.now c.room_for_decision.new.lane c.args.owner.now c.room_for_decision.ensures.same c.room_for_decision.ensures.after c.room_for_decision.ensures.told given c.room_for_decision.ensures.spare h
 
 pub returns-in_err-room_for_decision-clause-on : goal.returns-in_err-room_for_decision-clause-on
 returns-in_err-room_for_decision-clause-on c = roomy-on c.args.lane.now c.room_for_decision.new.lane c.args.owner.now c.room_for_decision.ensures.same c.room_for_decision.ensures.after
 
 -- the lane then
 abbrev then_is : goal.After-push_within → LaneState
-then_is c = record c.room_for_decision.new.lane { journal = c.push_within.new.events; parts = with_item c.room_for_decision.new.lane.parts c.from.result c.activate.new.self }
+then_is c = record c.room_for_decision.new.lane { journal = record c.room_for_decision.new.lane.journal { events = c.push_within.new.events }; parts = with_item c.room_for_decision.new.lane.parts c.from.result c.activate.new.self }
 
 writes : (c : goal.After-push_within) → Writes c.args.lane.now c.room_for_decision.new.lane (then_is c) c.args.owner.now c.index_mut-part.result.now c.activate.new.self
 writes c =
     let r = c.room_for_decision.new.lane in
     record {
       same = c.room_for_decision.ensures.same;
+      told = c.room_for_decision.ensures.told;
       roomy = c.room_for_decision.ensures.after;
       here = subst (λ n. n < length r.parts.items) c.from.ensures (search rules);
       read = subst (λ n. c.index_mut-part.result.now ≡ get_or r.parts.items n c.index_mut-part.result.now) c.from.ensures c.index_mut-part.ensures.value;
@@ -69,7 +70,7 @@ next c =
 pub returns-clause-passing : goal.returns-clause-passing
 returns-clause-passing c given h =
     let w = writes c in
-    decided-passes c.args.lane.now (then_is c) c.args.owner.now (writes-after w) (writes-len w) (ActiveOn c.index-rows-at.result.bucket c.args.node) tt (grows c) (writes-others w)
+    decided-passes c.args.lane.now (then_is c) c.args.owner.now (writes-after w) (writes-len w) (ActiveOn c.index-rows-at.result.bucket c.args.node) tt (grows c) (writes-others w) w.told
     c.upkeep_leaves_lines.ensures.idle given (room c) (next c)
     (writes-accepted w (accepted_activated (history (journal_of c.args.lane.now)) c.index_mut-part.result.now c.activate.new.self c.args.at c.args.node c.activate.ensures) h.keeps)
     _ (opened-then w _ c.activate.ensures.after c.args.owner.now.state h.rows h.opened) (resting-then w _ c.activate.ensures.after h.resting) h

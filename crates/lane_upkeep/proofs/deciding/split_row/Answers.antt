@@ -16,20 +16,21 @@ use Rattle.lane_upkeep.proofs.deciding.split_row.Goals as goal
 
 pub returns-in_err-room_for_decision-clause-passing : goal.returns-in_err-room_for_decision-clause-passing
 returns-in_err-room_for_decision-clause-passing c given h =
-    roomy-passes c.args.lane.now c.room_for_decision.new.lane c.args.owner.now c.room_for_decision.ensures.same c.room_for_decision.ensures.after given c.room_for_decision.ensures.spare h
+    roomy-passes c.args.lane.now c.room_for_decision.new.lane c.args.owner.now c.room_for_decision.ensures.same c.room_for_decision.ensures.after c.room_for_decision.ensures.told given c.room_for_decision.ensures.spare h
 
 pub returns-in_err-room_for_decision-clause-on : goal.returns-in_err-room_for_decision-clause-on
 returns-in_err-room_for_decision-clause-on c = roomy-on c.args.lane.now c.room_for_decision.new.lane c.args.owner.now c.room_for_decision.ensures.same c.room_for_decision.ensures.after
 
 -- the lane then
 abbrev then_is : goal.After-push_within → LaneState
-then_is c = record c.room_for_decision.new.lane { journal = c.push_within.new.events; parts = with_item c.room_for_decision.new.lane.parts c.from.result c.split_row.new.self }
+then_is c = record c.room_for_decision.new.lane { journal = record c.room_for_decision.new.lane.journal { events = c.push_within.new.events }; parts = with_item c.room_for_decision.new.lane.parts c.from.result c.split_row.new.self }
 
 writes : (c : goal.After-push_within) → Writes c.args.lane.now c.room_for_decision.new.lane (then_is c) c.args.owner.now c.index_mut-part.result.now c.split_row.new.self
 writes c =
     let r = c.room_for_decision.new.lane in
     record {
       same = c.room_for_decision.ensures.same;
+      told = c.room_for_decision.ensures.told;
       roomy = c.room_for_decision.ensures.after;
       here = subst (λ n. n < length r.parts.items) c.from.ensures (search rules);
       read = subst (λ n. c.index_mut-part.result.now ≡ get_or r.parts.items n c.index_mut-part.result.now) c.from.ensures c.index_mut-part.ensures.value;
@@ -67,7 +68,7 @@ next c =
 pub returns-clause-passing : goal.returns-clause-passing
 returns-clause-passing c given h =
     let w = writes c in
-    decided-passes c.args.lane.now (then_is c) c.args.owner.now (writes-after w) (writes-len w) (RowSplit c.index-rows-at.result.bucket) tt (grows c) (writes-others w)
+    decided-passes c.args.lane.now (then_is c) c.args.owner.now (writes-after w) (writes-len w) (RowSplit c.index-rows-at.result.bucket) tt (grows c) (writes-others w) w.told
     c.upkeep_leaves_lines.ensures.idle given (room c) (next c)
     (writes-accepted w (accepted_split (history (journal_of c.args.lane.now)) c.index_mut-part.result.now c.split_row.new.self c.args.at c.rows.ensures.whole c.in_ok-split_row.ensures.ok) h.keeps)
     _ (opened-then w _ c.in_ok-split_row.ensures.ok.after c.args.owner.now.state h.rows h.opened) (resting-then w _ c.in_ok-split_row.ensures.ok.after h.resting) h
@@ -97,10 +98,10 @@ returns-clause-did c =
 
 pub returns-in_err-split_row-clause-passing : goal.returns-in_err-split_row-clause-passing
 returns-in_err-split_row-clause-passing c given h =
-    unwritten-passes c.args.lane.now c.room_for_decision.new.lane c.args.owner.now c.index_mut-part.result.now c.split_row.new.self c.from.result c.room_for_decision.ensures.same
+    unwritten-passes c.args.lane.now c.room_for_decision.new.lane c.args.owner.now c.index_mut-part.result.now c.split_row.new.self c.from.result c.room_for_decision.ensures.same c.room_for_decision.ensures.told
     c.room_for_decision.ensures.after c.from.ensures (search rules) c.index_mut-part.ensures.value c.in_err-split_row.ensures.err given c.room_for_decision.ensures.spare h
 
 pub returns-in_err-split_row-clause-on : goal.returns-in_err-split_row-clause-on
 returns-in_err-split_row-clause-on c =
-    unwritten-on c.args.lane.now c.room_for_decision.new.lane c.args.owner.now c.index_mut-part.result.now c.split_row.new.self c.from.result c.room_for_decision.ensures.same
+    unwritten-on c.args.lane.now c.room_for_decision.new.lane c.args.owner.now c.index_mut-part.result.now c.split_row.new.self c.from.result c.room_for_decision.ensures.same c.room_for_decision.ensures.told
     c.room_for_decision.ensures.after c.from.ensures (search rules) c.index_mut-part.ensures.value c.in_err-split_row.ensures.err

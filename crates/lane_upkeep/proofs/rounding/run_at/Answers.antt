@@ -121,7 +121,7 @@ returns-in_err-reserve-clause-passing g c =
     let o = c.args.owner.now in
     let p = c.requires.passing in
     let d = o.distributor in
-    let e : LaneState = record x { journal = c.reserve.new.self } in
+    let e : LaneState = record x { journal = record x.journal { events = c.reserve.new.self } } in
     still-passing-in x e o _ p (rw c.in_err-reserve.ensures.items refl) refl (rw c.in_err-reserve.ensures.items p.keeps) (search rules)
 
 pub returns-in_err-reserve-clause-on : goal.returns-in_err-reserve-clause-on
@@ -130,7 +130,7 @@ returns-in_err-reserve-clause-on g c =
     let o = c.args.owner.now in
     let p = c.requires.passing in
     let d = o.distributor in
-    let e : LaneState = record x { journal = c.reserve.new.self } in
+    let e : LaneState = record x { journal = record x.journal { events = c.reserve.new.self } } in
     still-passes-in x e o (rw c.in_err-reserve.ensures.items refl) refl
 
 pub returns-in_err-run_round-clause-passing : goal.returns-in_err-run_round-clause-passing
@@ -340,7 +340,7 @@ returns-clause-ran g c =
     let job = c.run_round.ensures.job in
     let step = c.begin_round_at-run.ensures.step in
     let go = c.run_round.ensures.same in
-    ran-left x m n o c.args.at run y job.0 _ p begins step go job.1 (record x { journal = c.reserve.new.self }) c.begin_round_at-run.ensures.after refl refl refl refl c.run_round.ensures.took c.in_ok-run_round.field-0 _ _ c.in_ok-run_round.ensures.whole c.in_ok-run_round.ensures.end
+    ran-left x m n o c.args.at run y job.0 _ p begins step go job.1 (record x { journal = record x.journal { events = c.reserve.new.self } }) c.begin_round_at-run.ensures.after refl refl refl refl c.run_round.ensures.took c.in_ok-run_round.field-0 _ _ c.in_ok-run_round.ensures.whole c.in_ok-run_round.ensures.end
 
 pub returns-clause-had : goal.returns-clause-had
 returns-clause-had g c =

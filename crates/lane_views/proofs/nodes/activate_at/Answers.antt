@@ -1,5 +1,5 @@
 use Rattle.std.proofs.Common.{sym, ap, ◌∙◌, ℕ, arith}
-use Rattle.lane_views.specs.Views.{activated, node_at, is_barred}
+use Rattle.view_changes.specs.Views.{activated, node_at, is_barred}
 use Rattle.lane_views.specs.Typed.{nodes_of}
 use Rattle.lane_views.proofs.StepLaws.{past-unless, sound-at, set-made, unless-free}
 use Rattle.lane_views.proofs.nodes.activate_at.Goals as goal

@@ -1,5 +1,5 @@
 use Rattle.std.proofs.Common.{sym, arith}
-use Rattle.lane_views.specs.Views.{adopted}
+use Rattle.view_changes.specs.Views.{adopted}
 use Rattle.lane_views.proofs.StepLaws.{set-made, step-past}
 use Rattle.lane_views.proofs.nodes.adopt_at.Goals as goal
 

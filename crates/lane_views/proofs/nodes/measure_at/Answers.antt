@@ -1,5 +1,5 @@
 use Rattle.std.proofs.Common.{sym, ◌∙◌, arith}
-use Rattle.lane_views.proofs.CoverLaws.{node-counted, node-skipped}
+use Rattle.lane_views.proofs.MeasureLaws.{node-counted, node-skipped}
 use Rattle.lane_views.proofs.nodes.measure_at.Goals as goal
 use Rattle.lane_views.proofs.nodes.measure_at.Goals.{then-serves, else-serves}
 

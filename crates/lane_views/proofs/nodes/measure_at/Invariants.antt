@@ -1,6 +1,6 @@
 use Rattle.std.proofs.Common.{◌≡◌, ◌+◌, drop}
 use Rattle.coverage.specs.Covering.{measure_of}
-use Rattle.lane_views.specs.Serving.{node_regions}
+use Rattle.view_changes.specs.Serving.{node_regions}
 use Rattle.lane_views.specs.Typed.{nodes_of}
 use Rattle.lane_views.proofs.nodes.measure_at.Given as goal
 

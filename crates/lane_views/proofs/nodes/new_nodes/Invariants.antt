@@ -1,5 +1,5 @@
 use Rattle.std.proofs.Common.{◌≡◌}
-use Rattle.lane_views.specs.Views.{new_node}
+use Rattle.view_changes.specs.Views.{new_node}
 use Rattle.lane_views.specs.Typed.{alike}
 use Rattle.lane_views.proofs.nodes.new_nodes.Given as goal
 

@@ -1,5 +1,5 @@
 use Rattle.std.proofs.Common.{sym, ap, ◌∙◌, arith}
-use Rattle.lane_views.specs.Views.{NodeView}
+use Rattle.view_changes.specs.Views.{NodeView}
 use Rattle.lane_views.specs.Typed.{TypedNode}
 use Rattle.lane_views.proofs.StepLaws.{node-made, node-past}
 use Rattle.lane_views.proofs.nodes.rows_at.Goals as goal

@@ -1,5 +1,5 @@
 use Rattle.std.proofs.Common.{sym, ap, ◌∙◌, arith}
-use Rattle.lane_views.specs.Serving.{serves}
+use Rattle.view_changes.specs.Serving.{serves}
 use Rattle.lane_views.specs.Typed.{TypedNode}
 use Rattle.lane_views.proofs.StepLaws.{serves-made, serves-past}
 use Rattle.lane_views.proofs.nodes.serves_at.Goals as goal

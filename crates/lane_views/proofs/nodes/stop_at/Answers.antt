@@ -1,5 +1,5 @@
 use Rattle.std.proofs.Common.{sym, arith}
-use Rattle.lane_views.specs.Views.{stopped_as}
+use Rattle.view_changes.specs.Views.{stopped_as}
 use Rattle.lane_views.proofs.StepLaws.{set-made, step-past}
 use Rattle.lane_views.proofs.nodes.stop_at.Goals as goal
 

@@ -1,5 +1,5 @@
 use Rattle.std.proofs.Common.{sym, arith}
-use Rattle.lane_views.specs.Views.{taken}
+use Rattle.view_changes.specs.Views.{taken}
 use Rattle.lane_views.proofs.StepLaws.{set-made, step-past}
 use Rattle.lane_views.proofs.nodes.take_at.Goals as goal
 

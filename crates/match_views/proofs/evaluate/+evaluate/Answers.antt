@@ -3,7 +3,7 @@ use mir.Val.{to_z, of_z, SFits}
 use mir.Syntax.{w64}
 use Rattle.std.proofs.lemmas.Int.{to_z-of_z}
 use Rattle.std.specs.FinMap as fin
-use Rattle.lane_views.specs.Serving.{rows_of}
+use Rattle.view_changes.specs.Serving.{rows_of}
 use Rattle.query_text.specs.Truth.{expr_holds, contains, value_relates}
 use Rattle.match_views.specs.Merging.{joined, cut, lacking}
 use Rattle.proof_basics.proofs.Results.{if_ok}

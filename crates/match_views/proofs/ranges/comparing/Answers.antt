@@ -1,7 +1,7 @@
 use Rattle.std.proofs.Common.{◌≡◌, sym, ap, subst, ◌∙◌, map}
 use mir.Syntax.{w64}
 use Rattle.std.proofs.lemmas.Int.{to_z-of_z}
-use Rattle.lane_views.specs.Serving.{rows_of}
+use Rattle.view_changes.specs.Serving.{rows_of}
 use Rattle.proof_basics.proofs.Results.{if_ok}
 use Rattle.match_views.specs.Ranges.{AreAll}
 use Rattle.query_text.specs.Truth.{relates}

@@ -3,7 +3,7 @@ use mir.Val.{to_z, of_z, SFits}
 use mir.Syntax.{w64}
 use Rattle.std.proofs.lemmas.Int.{to_z-of_z}
 use Rattle.std.specs.Int.Signed.{◌≤ℤ◌}
-use Rattle.lane_views.specs.Serving.{rows_of}
+use Rattle.view_changes.specs.Serving.{rows_of}
 use Rattle.document_rows.specs.Reading.{places_where, has_number_in, IsWide}
 use Rattle.query_text.specs.Truth.{relates}
 use Rattle.match_views.specs.Ranges.{AreAll}

@@ -2,7 +2,7 @@ use Rattle.std.proofs.Common.{◌≡◌, ℤ, ◌<◌, ◌-ℤ◌, true, length,
 use Rattle.std.specs.List.{list_any, AllByRecursion}
 use Rattle.std.specs.Ordering.{int_eq}
 use Rattle.std.specs.Int.Signed.{◌≤ℤ◌, ◌<ℤ◌}
-use Rattle.lane_views.specs.Serving.{rows_of}
+use Rattle.view_changes.specs.Serving.{rows_of}
 use Rattle.document_rows.specs.Reading.{places_where, has_number_in}
 use Rattle.query_text.specs.Truth.{relates}
 use Rattle.match_views.specs.Ranges.{AreLists}

@@ -1,6 +1,6 @@
 use Rattle.std.proofs.Common.{◌≡◌, ◌==◌, ◌<◌, [], true, length, sym, ap, ◌∙◌, arith, refl, rules, get_or}
 use Rattle.std.specs.FinMap as fin
-use Rattle.lane_views.specs.Serving.{rows_of}
+use Rattle.view_changes.specs.Serving.{rows_of}
 use Rattle.std.proofs.lemmas.List.{take_all, get_or_default}
 use Rattle.document_rows.specs.Reading.{places_where}
 use Rattle.query_text.specs.Truth.{contains}

@@ -1,5 +1,5 @@
 use Rattle.std.proofs.Common.{◌≡◌, [], take, get_or}
-use Rattle.lane_views.specs.Serving.{rows_of}
+use Rattle.view_changes.specs.Serving.{rows_of}
 use Rattle.document_rows.specs.Reading.{places_where}
 use Rattle.match_views.proofs.TruthLaws.{has_all}
 use Rattle.match_views.proofs.terms.containing.Given as goal

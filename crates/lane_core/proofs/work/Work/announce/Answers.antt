@@ -45,7 +45,7 @@ returns-clause-keeps c =
     (ap (λ (z : LaneState). z.rules) c.hear_all.ensures.after ∙ ap (λ (z : LaneState). z.rules) c.publish.ensures.after)
     grows c.hear_all.ensures.keeps (search rules) (search rules) (search rules) (λ made. let wrong : false ≡ true = made in cc)
     (rw newest (lines-announced c.args.deaf s J x.state.lane x.state.rules x.state.newest (count_of x.drawn) lines))
-    (finds-announced c.args.deaf s J (place_of x.places) (finds-still (place_of x.places) x.state.journal.items c.requires.keeps.finds))
+    (finds-announced c.args.deaf s J (place_of x.places) (finds-still (place_of x.places) x.state.journal.events.items c.requires.keeps.finds))
 
 pub returns-clause-carried : goal.returns-clause-carried
 returns-clause-carried c =

@@ -18,7 +18,7 @@ returns-in_err-hear-clause-keeps c = record {
   no_round = search rules;
   job_is = search rules;
   lasts = search rules;
-  finds = finds-same (place_of c.args.self.now.places) c.args.self.now.state.journal.items c.hear.new.self.journal.items c.in_err-hear.ensures.err c.requires.keeps.finds;
+  finds = finds-same (place_of c.args.self.now.places) c.args.self.now.state.journal.events.items c.hear.new.self.journal.events.items c.in_err-hear.ensures.err c.requires.keeps.finds;
 }
 
 pub returns-clause-keeps : goal.returns-clause-keeps
@@ -34,7 +34,7 @@ returns-clause-keeps c = record {
   no_round = search rules;
   job_is = search rules;
   lasts = search rules;
-  finds = finds-heard (place_of c.args.self.now.places) c.args.self.now.state.journal.items c.hear.new.self.journal.items c.args.distributor c.args.self.now.state.newest c.in_ok-hear.ensures.grows c.requires.keeps.finds;
+  finds = finds-heard (place_of c.args.self.now.places) c.args.self.now.state.journal.events.items c.hear.new.self.journal.events.items c.args.distributor c.args.self.now.state.newest c.in_ok-hear.ensures.grows c.requires.keeps.finds;
 }
 
 pub returns-clause-carried : goal.returns-clause-carried

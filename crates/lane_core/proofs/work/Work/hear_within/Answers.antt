@@ -22,7 +22,7 @@ returns-clause-keeps c =
     work-between x c.hear_within.new.self (heard_next d (Some s) J) x.has_room c.requires.keeps c.requires.idle (ap (λ (z : LaneState). z.lane) after) (ap (λ (z : LaneState). z.rules) after) c.hear_within.ensures.grows c.hear_within.ensures.keeps
     (search rules) (search rules) (search rules) (search rules)
     (rw (ap (λ (z : LaneState). z.newest) after) (lines-heard x.state.lane x.state.rules J x.state.newest (count_of x.drawn) d s lines))
-    (finds-heard (place_of x.places) x.state.journal.items (past (heard_next d (Some s) J)) d (Some s) (past-past (heard_next d (Some s) J)) c.requires.keeps.finds)
+    (finds-heard (place_of x.places) x.state.journal.events.items (past (heard_next d (Some s) J)) d (Some s) (past-past (heard_next d (Some s) J)) c.requires.keeps.finds)
 
 pub returns-clause-carried : goal.returns-clause-carried
 returns-clause-carried c =

@@ -49,7 +49,7 @@ returns-clause-keeps c =
       job_is = job-begun x.state.lane x.state.rules J c.args.line c.args.via s o (drawn o.kind s.version J) c.requires.acting c.requires.in_lane c.requires.own c.requires.plain (drawn-stamped o.kind s.version J) may.preparing;
       lasts = refl;
     })
-    (finds-noted (place_of x.places) x.state.journal.items (Begun c.args.line c.args.via s.version o.id (drawn o.kind s.version J)) refl c.requires.keeps.finds))
+    (finds-noted (place_of x.places) x.state.journal.events.items (Begun c.args.line c.args.via s.version o.id (drawn o.kind s.version J)) refl c.requires.keeps.finds))
 
 pub returns-clause-carried : goal.returns-clause-carried
 returns-clause-carried c = carried-more c.args.self.now.state c.note.new.self (Begun c.args.line c.args.via c.version-version.result c.args.id c.next_stamp-stamp.result) tt c.note.ensures.grows (ap (λ (z : LaneState). z.last) c.note.ensures.after) (ap (λ (z : LaneState). z.late.late) c.note.ensures.after)

@@ -18,7 +18,7 @@ returns-clause-keeps c = record {
   no_round = search rules;
   job_is = search rules;
   lasts = search rules;
-  finds = finds-pushed (place_of c.args.self.now.places) c.args.self.now.state.journal.items c.publish.new.self.journal.items _ refl c.publish.ensures.grows c.requires.keeps.finds;
+  finds = finds-pushed (place_of c.args.self.now.places) c.args.self.now.state.journal.events.items c.publish.new.self.journal.events.items _ refl c.publish.ensures.grows c.requires.keeps.finds;
 }
 
 pub returns-clause-carried : goal.returns-clause-carried

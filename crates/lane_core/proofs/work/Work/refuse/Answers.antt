@@ -20,7 +20,7 @@ returns-clause-keeps c = record {
   no_round = search rules;
   job_is = search rules;
   lasts = search rules;
-  finds = finds-pushed (place_of c.args.self.now.places) c.args.self.now.state.journal.items c.note.new.self.journal.items (Refused c.args.line c.args.via (OwnedElsewhere c.args.owner c.version-version.result)) refl (c.note.ensures.grows ∙ rw c.reserve.ensures.items refl) c.requires.keeps.finds;
+  finds = finds-pushed (place_of c.args.self.now.places) c.args.self.now.state.journal.events.items c.note.new.self.journal.events.items (Refused c.args.line c.args.via (OwnedElsewhere c.args.owner c.version-version.result)) refl (c.note.ensures.grows ∙ rw c.reserve.ensures.items refl) c.requires.keeps.finds;
 }
 
 pub returns-clause-carried : goal.returns-clause-carried

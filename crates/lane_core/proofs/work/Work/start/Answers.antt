@@ -20,7 +20,7 @@ returns-clause-keeps c =
     work-between x y (started_next c.args.node J) false c.requires.keeps c.requires.idle (ap (λ (z : LaneState). z.lane) after) (ap (λ (z : LaneState). z.rules) after) c.start.ensures.grows c.start.ensures.keeps
     (search rules) (search rules) (search rules) (λ made. let wrong : false ≡ true = made in cc)
     (rw (ap (λ (z : LaneState). z.newest) after) (lines-started c.args.node J x.state.lane x.state.rules x.state.newest (count_of x.drawn) lines))
-    (finds-started c.args.node J (place_of x.places) (finds-still (place_of x.places) x.state.journal.items c.requires.keeps.finds))
+    (finds-started c.args.node J (place_of x.places) (finds-still (place_of x.places) x.state.journal.events.items c.requires.keeps.finds))
 
 pub returns-clause-carried : goal.returns-clause-carried
 returns-clause-carried c =

@@ -20,7 +20,7 @@ returns-clause-keeps c =
     work-between x y (stopped_next c.args.node J) false c.requires.keeps c.requires.idle (ap (λ (z : LaneState). z.lane) after) (ap (λ (z : LaneState). z.rules) after) c.stop.ensures.grows c.stop.ensures.keeps
     (search rules) (search rules) (search rules) (λ made. let wrong : false ≡ true = made in cc)
     (rw (ap (λ (z : LaneState). z.newest) after) (lines-stopped c.args.node J x.state.lane x.state.rules x.state.newest (count_of x.drawn) lines))
-    (finds-stopped c.args.node J (place_of x.places) (finds-still (place_of x.places) x.state.journal.items c.requires.keeps.finds))
+    (finds-stopped c.args.node J (place_of x.places) (finds-still (place_of x.places) x.state.journal.events.items c.requires.keeps.finds))
 
 pub returns-clause-carried : goal.returns-clause-carried
 returns-clause-carried c =

@@ -1,9 +1,13 @@
-use Rattle.std.proofs.Common.{rules, ◌≡◌, ◌≤◌, ◌<◌, length, slice_set, subst, arith}
+use Rattle.std.proofs.Common.{rules, ◌≡◌, ◌≤◌, ◌<◌, ◌∷◌, ◌++◌, length, slice_set, get_or, ap, ◌∙◌, subst, arith}
 use Rattle.service_layer.specs.Nodes.{Node}
+use Rattle.service_layer.specs.Telling.{changes_taken}
 use Rattle.lane_keeping.specs.NodeKeeping.{NodeKeeps}
-use Rattle.lane_keeping.specs.LaneKeeping.{node_in}
+use Rattle.lane_keeping.specs.LaneKeeping.{setting_of, node_in}
+use Rattle.lane_keeping.specs.Replaying.{delivered}
+use Rattle.lane_changes.specs.Changes.{changes_of}
 use Rattle.lane_states.specs.LaneStates.{journal_of}
 use Rattle.lane_states.proofs.Kept.{kept_taken, kept_runs}
+use Rattle.lane_states.proofs.Counts.{count-more}
 use Rattle.lane_states.proofs.LaneSteps.{past-length, has-room, node-at, taken-at}
 use Rattle.lane_states.proofs.NodeSpans.{go-one}
 use Rattle.lane_states.proofs.lane_state.LaneState.deliver.Goals as goal
@@ -15,17 +19,25 @@ take_at-taken-requires-clause-room c =
     let within : n < length x.nodes.items = search rules in
     let is : node_in x.nodes.items n ≡ c.index_mut.result.now = node-at x.nodes.items n c.index_mut.result.now within (rw c.from.ensures at c.index_mut.ensures.value) in
     let few : c.index_mut.result.now.serial ≤ length (journal_of x) = c.nodes_hold.ensures.serials (journal_of x) n c.index_mut.result.now (subst (λ (y : Node). NodeKeeps (journal_of x) n y) is (c.requires.keeps.1.keeps.nodes_are n)) in
-    let same : length (journal_of x) ≡ length x.journal.items = past-length x.journal.items in
-    has-room c.args.message.now.body c.index_mut.result.now.serial (omega (arith, few, same, x.journal.ok.0, x.journal.small))
+    let same : length (journal_of x) ≡ length x.journal.events.items = past-length x.journal.events.items in
+    has-room c.args.message.now.body c.index_mut.result.now.serial (omega (arith, few, same, x.journal.events.ok.0, x.journal.events.small))
 
 pub returns-clause-keeps : goal.returns-clause-keeps
 returns-clause-keeps c parts k =
-    let within : c.args.message.now.receiver < length c.args.self.now.nodes.items = search rules in
-    rw (c.push_within.ensures.past, c.take_at-taken.ensures.noted, c.from.ensures)
-    (kept_taken k (search rules) (c.events_are_kept.ensures.taken _ _ _ _ _ _ _ k.keeps c.args.number c.args.message.now c.take_at-taken.result.reply
-    (slice_set c.args.self.now.nodes.items c.args.message.now.receiver c.take_at-taken.new.self) c.requires.flight (kept_runs k c.args.message.now.receiver c.requires.receives)
-    (taken-at c.args.self.now.nodes.items c.args.message.now c.index_mut.result.now c.take_at-taken.new.self c.take_at-taken.result.reply within
-    (rw c.from.ensures at c.index_mut.ensures.value) c.take_at-taken.ensures.takes)))
+    let x = c.args.self.now in
+    let m = c.args.message.now in
+    let y = c.index_mut.result.now in
+    let r = c.take_at-taken.result.reply in
+    let within : m.receiver < length x.nodes.items = search rules in
+    let here : y ≡ get_or x.nodes.items m.receiver y = rw c.from.ensures at c.index_mut.ensures.value in
+    let is : node_in x.nodes.items m.receiver ≡ y = node-at x.nodes.items m.receiver y within here in
+    let told : changes_of (delivered c.args.number r ∷ journal_of x) ≡ changes_of (journal_of x) ++ changes_taken y m r
+    = c.nodes_tell_changes.ensures.told (setting_of x.lane x.rules) (journal_of x) c.args.number m y r k.keeps.legal c.requires.flight
+    (subst (λ (z : Node). NodeKeeps (journal_of x) m.receiver z) is (k.keeps.nodes_are m.receiver)) in
+    rw (c.push_telling.ensures.past, c.push_telling.ensures.told, c.take_at-taken.ensures.noted, c.from.ensures)
+    (kept_taken k (search rules) (c.events_are_kept.ensures.taken _ _ _ _ _ _ _ k.keeps c.args.number m r (slice_set x.nodes.items m.receiver c.take_at-taken.new.self) c.requires.flight (kept_runs k m.receiver c.requires.receives)
+    (taken-at x.nodes.items m y c.take_at-taken.new.self r within here c.take_at-taken.ensures.takes))
+    (count-more (journal_of x) (delivered c.args.number r) (changes_taken y m r) x.journal.told c.len-told.result k.told_is told (c.len-told.ensures ∙ ap length c.take_at-taken.ensures.changes)))
 
 pub returns-clause-taken : goal.returns-clause-taken
 returns-clause-taken c =
@@ -38,7 +50,7 @@ pub returns-clause-took : goal.returns-clause-took
 returns-clause-took c =
     let x = c.args.self.now in
     let within : c.args.message.now.receiver < length x.nodes.items = search rules in
-    rw (c.push_within.ensures.past, c.take_at-taken.ensures.noted, c.from.ensures)
+    rw (c.push_telling.ensures.past, c.take_at-taken.ensures.noted, c.from.ensures)
     (go-one (journal_of x) x.nodes.items (slice_set x.nodes.items c.args.message.now.receiver c.take_at-taken.new.self) c.args.number c.args.message.now c.take_at-taken.result.reply c.requires.flight c.requires.keeps.1.keeps.nodes_are
     (taken-at x.nodes.items c.args.message.now c.index_mut.result.now c.take_at-taken.new.self c.take_at-taken.result.reply within
     (rw c.from.ensures at c.index_mut.ensures.value) c.take_at-taken.ensures.takes))

@@ -11,8 +11,8 @@ invariant-loop l = record {
   due : DeliversSome l.fn.self.last l.fn.self.late.late l.self.late.late (journal_of l.fn.self) (journal_of l.self);
   after : l.self ≡ record l.fn.self { journal = l.self.journal; nodes = l.self.nodes; late = l.self.late };
   nodes : vec_len l.self.nodes ≡ vec_len l.fn.self.nodes;
-  len : vec_len l.self.journal + length l.self.late.late ≤ vec_len l.fn.self.journal + length l.fn.self.late.late;
-  capacity : vec_capacity l.fn.self.journal ≤ vec_capacity l.self.journal;
+  len : vec_len l.self.journal.events + length l.self.late.late ≤ vec_len l.fn.self.journal.events + length l.fn.self.late.late;
+  capacity : vec_capacity l.fn.self.journal.events ≤ vec_capacity l.self.journal.events;
 }
 
 abbrev pub decreases-loop : goal.decreases-loop

@@ -10,7 +10,7 @@ invariant-loop-distributor l = record {
   grows : journal_of l.self ≡ heard_below l.distributor l.deaf l.state (journal_of l.fn.self);
   after : l.self ≡ record l.fn.self { journal = l.self.journal; parts = l.self.parts };
   parts : vec_len l.self.parts ≡ vec_len l.fn.self.parts;
-  len : vec_len l.self.journal ≤ vec_len l.fn.self.journal + l.distributor;
-  capacity : vec_capacity l.fn.self.journal ≤ vec_capacity l.self.journal;
+  len : vec_len l.self.journal.events ≤ vec_len l.fn.self.journal.events + l.distributor;
+  capacity : vec_capacity l.fn.self.journal.events ≤ vec_capacity l.self.journal.events;
   resting : AreResting l.fn.self → AreResting l.self;
 }

@@ -13,5 +13,5 @@ returns-clause-more c = rw c.keep.ensures (length-kept _ _)
 pub overflow_add-number : goal.overflow_add-number
 overflow_add-number c =
     let x = c.args.self.now in
-    let same : length (journal_of x) ≡ length x.journal.items = past-length x.journal.items in
-    omega (arith, same, x.journal.ok.0, x.journal.small, c.requires.keeps.counted, c.from.ensures, c.ranges.later.fits)
+    let same : length (journal_of x) ≡ length x.journal.events.items = past-length x.journal.events.items in
+    omega (arith, same, x.journal.events.ok.0, x.journal.events.small, c.requires.keeps.counted, c.from.ensures, c.ranges.later.fits)

@@ -7,8 +7,8 @@ use Rattle.lane_states.proofs.lane_state.LaneState.send_message.Goals as goal
 pub overflow_add-self : goal.overflow_add-self
 overflow_add-self c =
     let x = c.args.self.now in
-    let same : length (journal_of x) ≡ length x.journal.items = past-length x.journal.items in
-    omega (arith, same, x.journal.ok.0, x.journal.small, c.requires.keeps.counted)
+    let same : length (journal_of x) ≡ length x.journal.events.items = past-length x.journal.events.items in
+    omega (arith, same, x.journal.events.ok.0, x.journal.events.small, c.requires.keeps.counted)
 
 pub returns-clause-keeps : goal.returns-clause-keeps
 returns-clause-keeps c = rw (c.push_within.ensures.past, c.requires.noted)

@@ -1,6 +1,6 @@
 use Rattle.std.proofs.Common.{sym, subst}
 use Rattle.lane_views.specs.Typed.{TypedNode}
-use Rattle.lane_views.specs.Kept.{AreInside}
+use Rattle.view_changes.specs.Kept.{AreInside}
 use Rattle.lane_views.proofs.FreshLaws.{fresh-made}
 use Rattle.lane_views.proofs.node.SeenNode.activate.Goals as goal
 

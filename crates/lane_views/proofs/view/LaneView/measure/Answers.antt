@@ -1,6 +1,6 @@
 use Rattle.std.proofs.Common.{arith}
 use Rattle.lane_views.specs.Typed.{seen}
-use Rattle.lane_views.proofs.CoverLaws.{view-bounded}
+use Rattle.view_changes.proofs.CoverLaws.{view-bounded}
 use Rattle.lane_views.proofs.view.LaneView.measure.Goals as goal
 
 pub measure_at-requires : goal.measure_at-requires

@@ -1,6 +1,5 @@
 use Rattle.std.proofs.Common.{◌≡◌, take}
-use Rattle.node_rows.specs.Kept.{all_left}
-use Rattle.node_rows.specs.TypedRows.{with_rows}
+use Rattle.node_rows.specs.TypedRows.{with_rows, all_left}
 use Rattle.node_rows.proofs.node_rows.NodeRows.leave_all.Given as goal
 
 abbrev pub invariant-loop-at : goal.invariant-loop-at

@@ -1,11 +1,10 @@
 use Rattle.std.proofs.Common.{◌≡◌, ◌<◌, true, length, take, bytes_eq, refl, sym, ap, ap₂, subst, ◌∙◌, arith}
 use Rattle.std.proofs.lemmas.List.Folds.{list_any_at}
 use Rattle.documents.specs.declared.entry.Entry.{Entry}
-use Rattle.document_rows.specs.Rows.{taken_into}
+use Rattle.document_rows.specs.Rows.{taken_into, has_entry}
 use Rattle.document_rows.specs.Reading.{row_at}
 use Rattle.document_rows.proofs.RowLaws.{own_id}
-use Rattle.node_rows.specs.Kept.{all_left}
-use Rattle.node_rows.specs.TypedRows.{TypedRows, with_rows, has_entry, all_taken}
+use Rattle.node_rows.specs.TypedRows.{TypedRows, with_rows, all_taken, all_left}
 use Rattle.node_rows.proofs.UndoLaws.{IsOver, over_self, over_taken, left_back, left_rest, fold_more}
 use Rattle.node_rows.proofs.node_rows.NodeRows.take_all.Goals as goal
 

@@ -12,9 +12,9 @@ returns-clause-ok g c = λ q w vs h.
     record {
       query = h.query;
       version = h.version;
-      count = ap (λ hits. s.count + length hits) c.items-many.ensures ∙ count-more q s.query.now w s.version vs v c.in_ok-hits.hits s.count h.query h.version nodes c.in_ok-hits.ensures h.count;
+      count = ap (λ hits. s.count + length hits) c.items-many.ensures ∙ count-more q s.query.now w s.version vs v c.in_ok-hits.hits s.count h.query h.version nodes c.in_ok-hits.ensures.hits h.count;
       covered = covered-more w s.version vs v s.covered c.measure.result c.saturating_add-self.result h.version h.covered c.measure.ensures.value capped_sum;
       by = c.in_ok-add.ensures.by ∙ h.by;
-      groups = groups-more q s.query.now w s.version vs v c.in_ok-hits.hits s.groups c.add.new.self h.query h.version nodes c.in_ok-hits.ensures c.in_ok-add.ensures.documents h.groups;
+      groups = groups-more q s.query.now w s.version vs v c.in_ok-hits.hits s.groups c.add.new.self h.query h.version nodes c.in_ok-hits.ensures.hits c.in_ok-add.ensures.documents h.groups;
       views = c.in_ok-add.ensures.views ∙ views-more vs v s.groups.views h.views;
     }

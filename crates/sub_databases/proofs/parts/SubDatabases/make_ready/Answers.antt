@@ -9,7 +9,7 @@ take_all-requires c =
     let t = c.self.inside.ready in
     let list = c.in_ok-entries.entries.items in
     let those : c.deref-2.result.now ≡ filter (is_waiting t.rows) list = c.deref-2.ensures.value ∙ c.in_ok-waiting.ensures ∙ ap (filter (is_waiting t.rows)) c.deref.ensures.value in
-    let awaited : AreAwaited m t c.args.bucket list c.deref-2.result.now = record { parts = c.self.invariant; listed = c.in_ok-entries.ensures.entries ∙ c.in_ok-within.ensures; single = c.in_ok-entries.ensures.single; waiting = those } in
+    let awaited : AreAwaited m t c.args.bucket list c.deref-2.result.now = record { parts = c.self.invariant; listed = c.in_ok-entries.ensures.entries; single = c.in_ok-entries.ensures.single; waiting = those } in
     record { new = awaited_new m t c.args.bucket list c.deref-2.result.now awaited }
 
 pub invariant_of-self : goal.invariant_of-self
@@ -18,7 +18,7 @@ invariant_of-self c =
     let t = c.self.inside.ready in
     let list = c.in_ok-entries.entries.items in
     let those : c.deref-2.result.now ≡ filter (is_waiting t.rows) list = c.deref-2.ensures.value ∙ c.in_ok-waiting.ensures ∙ ap (filter (is_waiting t.rows)) c.deref.ensures.value in
-    let awaited : AreAwaited m t c.args.bucket list c.deref-2.result.now = record { parts = c.self.invariant; listed = c.in_ok-entries.ensures.entries ∙ c.in_ok-within.ensures; single = c.in_ok-entries.ensures.single; waiting = those } in
+    let awaited : AreAwaited m t c.args.bucket list c.deref-2.result.now = record { parts = c.self.invariant; listed = c.in_ok-entries.ensures.entries; single = c.in_ok-entries.ensures.single; waiting = those } in
     let few = rw (← c.self.view_is) at c.requires.room in
     ready_either c.entries_find_room.ensures m t c.args.bucket list c.deref-2.result.now few c.len.ensures.distinct awaited c.take_all.result c.take_all.new.self c.take_all.ensures.ok c.take_all.ensures.err
 
@@ -28,6 +28,6 @@ returns-clause-ok c =
     let t = c.self.inside.ready in
     let list = c.in_ok-entries.entries.items in
     let those : c.deref-2.result.now ≡ filter (is_waiting t.rows) list = c.deref-2.ensures.value ∙ c.in_ok-waiting.ensures ∙ ap (filter (is_waiting t.rows)) c.deref.ensures.value in
-    let awaited : AreAwaited m t c.args.bucket list c.deref-2.result.now = record { parts = c.self.invariant; listed = c.in_ok-entries.ensures.entries ∙ c.in_ok-within.ensures; single = c.in_ok-entries.ensures.single; waiting = those } in
+    let awaited : AreAwaited m t c.args.bucket list c.deref-2.result.now = record { parts = c.self.invariant; listed = c.in_ok-entries.ensures.entries; single = c.in_ok-entries.ensures.single; waiting = those } in
     let few = rw (← c.self.view_is) at c.requires.room in
     rw (← c.self.view_is) (made_either c.entries_find_room.ensures m t c.args.bucket list c.deref-2.result.now few c.len.ensures.distinct awaited c.take_all.result c.take_all.new.self c.take_all.ensures.ok)

@@ -1,0 +1,15 @@
+use Rattle.std.proofs.Common.{take}
+use Rattle.std.specs.Ordering.{int_cmp}
+use Rattle.std.specs.BTreeMap as tree
+use Rattle.std.specs.BTreeMap.{get_by_text}
+use Rattle.group_counts.specs.Keyed.{number_in, text_in}
+use Rattle.group_counts.specs.Tallies.{ArePlaced, ArePlacesMore}
+use Rattle.group_counts.specs.Gathered.{documents_at}
+use Rattle.group_counts.proofs.taking.place_all.Given as goal
+
+abbrev pub invariant-loop-hit : goal.invariant-loop-hit
+invariant-loop-hit g l =
+    ArePlacesMore (l.by).outputs l.initial.numbers.entries l.numbers.entries (tree.get int_cmp l.initial.numbers) (tree.get int_cmp l.numbers)
+    × ArePlacesMore (l.by).outputs l.initial.texts.entries l.texts.entries (get_by_text l.initial.texts) (get_by_text l.texts)
+    × ArePlaced (number_in (l.by).field) (documents_at (g.V.Lists.seen l.view) (take l.hit-index l.hits)) (tree.get int_cmp l.numbers)
+    × ArePlaced (text_in (l.by).field) (documents_at (g.V.Lists.seen l.view) (take l.hit-index l.hits)) (get_by_text l.texts)

@@ -1,5 +1,0 @@
-use Rattle.lane_states.proofs.LaneSteps.{past-push}
-use Rattle.lane_states.proofs.lane_state.push_within.Goals as goal
-
-pub returns-clause-past : goal.returns-clause-past
-returns-clause-past c = rw c.in-Ok.ensures.items (past-push _ _)

@@ -1,0 +1,3 @@
+mod Regions
+mod Stages
+mod Readings
