@@ -91,8 +91,8 @@ pub fn fronts_count_once()
     keys_locate();
 }
 
-/// A search over views that show what was read of some lanes gives the answer of what was read. In which order a view
-/// has its documents counts for nothing.
+/// A search over views that show what was read of some lanes answers what was read: its answer is that of some lists of
+/// the documents of each node, with each of them once. That lists in another order have the same groups isn't said.
 pub fn answers_are_of_what_is_read()
     ensures { (q : Query) (w : ℕ) (reads : List LaneRead) (vs : List View) → AreShown reads vs
         → IsAnswer q w reads (search_answer q w vs) }
