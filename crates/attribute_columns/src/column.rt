@@ -65,7 +65,7 @@ impl Column {
         self.kind
     }
 
-    /// The value of a document; takes no memory.
+    /// The value of a document.
     pub fn value(&self, local: u32) -> Option<&FieldValue>
         ensures { option_copied result ≡ fin.get self.now.values local }
     {
@@ -73,7 +73,7 @@ impl Column {
     }
 
     /// Gives a document a value, of which a copy is kept. Takes for each number of the value and of the one before a
-    /// logarithm, and the move of the ids above it in that number's list. The only error is want of memory.
+    /// logarithm, and the move of the ids above it in that number's list.
     pub fn set(&mut self, alloc: Global, local: u32, value: &FieldValue) -> Result<(), NoMemory>
         requires { kind_of value.now ≡ self.old.kind }
         ensures ok { OnOk result (self.new ≡ with_value local value.now self.old) }
@@ -96,7 +96,7 @@ impl Column {
         }
     }
 
-    /// Takes the value of a document away, if it has one; takes no memory.
+    /// Takes the value of a document away, if it has one.
     pub fn clear(&mut self, local: u32)
         ensures { self.new ≡ without_value local self.old }
     {

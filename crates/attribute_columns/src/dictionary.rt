@@ -22,7 +22,7 @@ pub fn list_in(lists: &BTreeMap<i64, Vec<u32>>, number: i64) -> &[u32]
     }
 }
 
-/// An id more at a number. The only error is want of memory.
+/// An id more at a number.
 fn add_in(
     alloc: Global,
     lists: &mut BTreeMap<i64, Vec<u32>>,

@@ -44,6 +44,9 @@ use Rattle.cell_session.proofs.KeptClauses.{kept_outcomes, kept_fates, kept_show
 use Rattle.session_cluster.proofs.KeptLanes.{in_lanes, kept_legal}
 use Rattle.session_cluster.proofs.LaneLists.{journal_is, journal_at}
 use Rattle.cell_session.proofs.Loops.{appends_nothing, few_none, first_none, unopened_ends}
+use Rattle.cell_session.proofs.ReadLaws.{none_read}
+use Rattle.cell_session.proofs.SearchCounts.{SearchLaws, kept_counts, none_counts}
+use Rattle.cell_session.specs.Searches.{CountOnce}
 use Rattle.cell_session.proofs.UpkeepLaws.{none_upkept}
 
 -- ---- what is promised of every lane
@@ -167,8 +170,8 @@ were_asked : (types : Types) (bits : ℕ) (text : Option (List ℕ)) (cs : List 
 were_asked types bits text cs dealt count few first = record { count = count; told = λ at c there. asked_at types bits text cs at c first there; few = few.few; few_states = few.few_states; few_maintains = few.few_maintains }
 
 -- where no line was dealt with, for want of memory
-none_lines : (s : Setting) (types : Types) (plans : ℕ → List Fate) (text : Option (List ℕ)) (c : Cell) → c.lanes ≡ [] → c.dealt ≡ 0 → c.upkeeps ≡ [] → HaveLines status.NoMemory s types plans text c
-none_lines s types plans text c none dealt unkept = record {
+none_lines : (s : Setting) (types : Types) (plans : ℕ → List Fate) (text : Option (List ℕ)) (c : Cell) → c.lanes ≡ [] → c.dealt ≡ 0 → c.upkeeps ≡ [] → c.fronts ≡ [] → HaveLines status.NoMemory s types plans text c
+none_lines s types plans text c none dealt unkept unread = record {
   asked = [];
   were_asked = were_asked types s.bits text [] c.dealt (sym dealt) few_none (told_none types s.bits text);
   one_outcome = record {
@@ -183,6 +186,7 @@ none_lines s types plans text c none dealt unkept = record {
     short = λ lane v at line answered needed absent. absurd (no_lane c.lanes lane v none at);
   };
   upkeeps = none_upkept status.NoMemory s c unkept;
+  search_fronts = none_read s c unread;
   reached = tt;
 }
 
@@ -195,7 +199,7 @@ pub record AllLines : Type 0 where
 
 pub ends_lines : AllLines → (end : Status) (s : Setting) → IsSetting s → (types : Types) (plans : ℕ → List Fate) (text left : Option (List ℕ)) (c : Cell) (before now : Option (List ℕ)) → EndsAs end s types plans text left c before now
     → HaveLines end s types plans text c
-ends_lines all end s setting types plans text left c before now (inl none) = subst (λ e. HaveLines e s types plans text c) (sym none.memory) (none_lines s types plans text c none.none none.dealt none.unkept)
+ends_lines all end s setting types plans text left c before now (inl none) = subst (λ e. HaveLines e s types plans text c) (sym none.memory) (none_lines s types plans text c none.none none.dealt none.unkept none.unread)
 ends_lines all end s setting types plans text left c before now (inr some) = record {
   asked = some.commands;
   were_asked = were_asked types s.bits text some.commands c.dealt (sym some.kept.dealt) some.few some.first;
@@ -204,8 +208,16 @@ ends_lines all end s setting types plans text left c before now (inr some) = rec
   fates = kept_fates s plans some.commands c some.kept;
   causes = kept_causes all.refused all.short s setting plans some.commands c some.kept;
   upkeeps = some.upkept;
+  search_fronts = some.read;
   reached = some.reached;
 }
+
+-- ---- the searches
+
+pub ends_searches : SearchLaws → (end : Status) (s : Setting) → IsSetting s → (types : Types) (plans : ℕ → List Fate) (text left : Option (List ℕ)) (c : Cell) (before now : Option (List ℕ)) → EndsAs end s types plans text left c before now
+    → CountOnce s c
+ends_searches laws end s setting types plans text left c before now (inl none) = none_counts s c none.unread
+ends_searches laws end s setting types plans text left c before now (inr some) = kept_counts laws s setting plans some.commands c some.kept (some.few).few some.read
 
 -- ---- the bytes written
 
@@ -233,46 +245,51 @@ ends_usage end s types plans text left c before now (inr some) is = not_usage en
 -- ---- of what the words choose
 
 pub chosen_legal : (words : List Text) (a x : Choice) (end : Status) (plans : ℕ → List Fate) (text left : Option (List ℕ)) (c : Cell) (before now : Option (List ℕ)) → Chooses words a → Chooses words x
-    → EndsAs end a.setting a.schema plans text left c before now → AreLegal x.setting (journals_of c)
+    → EndsAs end a.setting a.setting.schema plans text left c before now → AreLegal x.setting (journals_of c)
 chosen_legal words a x end plans text left c before now p q ends =
-    subst (λ (y : Choice). AreLegal y.setting (journals_of c)) (one_choice words a x p q) (ends_legal end a.setting a.schema plans text left c before now ends)
+    subst (λ (y : Choice). AreLegal y.setting (journals_of c)) (one_choice words a x p q) (ends_legal end a.setting a.setting.schema plans text left c before now ends)
 
 pub chosen_lanes : (words : List Text) (a x : Choice) (end : Status) (plans : ℕ → List Fate) (text left : Option (List ℕ)) (c : Cell) (before now : Option (List ℕ)) → Chooses words a → Chooses words x
-    → EndsAs end a.setting a.schema plans text left c before now → HasLanes end x.setting c
+    → EndsAs end a.setting a.setting.schema plans text left c before now → HasLanes end x.setting c
 chosen_lanes words a x end plans text left c before now p q ends =
-    subst (λ (y : Choice). HasLanes end y.setting c) (one_choice words a x p q) (ends_lanes end a.setting a.schema plans text left c before now ends)
+    subst (λ (y : Choice). HasLanes end y.setting c) (one_choice words a x p q) (ends_lanes end a.setting a.setting.schema plans text left c before now ends)
 
 pub chosen_shown : (words : List Text) (a x : Choice) (end : Status) (plans : ℕ → List Fate) (text left : Option (List ℕ)) (c : Cell) (before now : Option (List ℕ)) → Chooses words a → Chooses words x
-    → EndsAs end a.setting a.schema plans text left c before now → AreShownRight x.setting c
+    → EndsAs end a.setting a.setting.schema plans text left c before now → AreShownRight x.setting c
 chosen_shown words a x end plans text left c before now p q ends =
-    subst (λ (y : Choice). AreShownRight y.setting c) (one_choice words a x p q) (ends_shown end a.setting a.schema plans text left c before now ends)
+    subst (λ (y : Choice). AreShownRight y.setting c) (one_choice words a x p q) (ends_shown end a.setting a.setting.schema plans text left c before now ends)
 
 pub chosen_lines : AllLines → (words : List Text) (a x : Choice) (end : Status) (plans : ℕ → List Fate) (text left : Option (List ℕ)) (c : Cell) (before now : Option (List ℕ)) → Chooses words a → Chooses words x
-    → EndsAs end a.setting a.schema plans text left c before now → HaveLines end x.setting x.schema plans text c
+    → EndsAs end a.setting a.setting.schema plans text left c before now → HaveLines end x.setting x.setting.schema plans text c
 chosen_lines all words a x end plans text left c before now p q ends =
-    subst (λ (y : Choice). HaveLines end y.setting y.schema plans text c) (one_choice words a x p q) (ends_lines all end a.setting (chosen_setting words a p) a.schema plans text left c before now ends)
+    subst (λ (y : Choice). HaveLines end y.setting y.setting.schema plans text c) (one_choice words a x p q) (ends_lines all end a.setting (chosen_setting words a p) a.setting.schema plans text left c before now ends)
+
+pub chosen_searches : SearchLaws → (words : List Text) (a x : Choice) (end : Status) (plans : ℕ → List Fate) (text left : Option (List ℕ)) (c : Cell) (before now : Option (List ℕ)) → Chooses words a → Chooses words x
+    → EndsAs end a.setting a.setting.schema plans text left c before now → CountOnce x.setting c
+chosen_searches laws words a x end plans text left c before now p q ends =
+    subst (λ (y : Choice). CountOnce y.setting c) (one_choice words a x p q) (ends_searches laws end a.setting (chosen_setting words a p) a.setting.schema plans text left c before now ends)
 
 pub chosen_dealt : (words : List Text) (a x : Choice) (end : Status) (plans : ℕ → List Fate) (text left : Option (List ℕ)) (c : Cell) (before now : Option (List ℕ)) → Chooses words a → Chooses words x
-    → EndsAs end a.setting a.schema plans text left c before now → IfTold text (λ t. DealsWith end x.schema (x.setting).bits t c.dealt left)
+    → EndsAs end a.setting a.setting.schema plans text left c before now → IfTold text (λ t. DealsWith end x.setting.schema (x.setting).bits t c.dealt left)
 chosen_dealt words a x end plans text left c before now p q ends =
-    subst (λ (y : Choice). IfTold text (λ t. DealsWith end y.schema (y.setting).bits t c.dealt left)) (one_choice words a x p q) (ends_dealt end a.setting a.schema plans text left c before now ends)
+    subst (λ (y : Choice). IfTold text (λ t. DealsWith end y.setting.schema (y.setting).bits t c.dealt left)) (one_choice words a x p q) (ends_dealt end a.setting a.setting.schema plans text left c before now ends)
 
 pub chosen_written : (words : List Text) (a x : Choice) (end : Status) (plans : ℕ → List Fate) (text left : Option (List ℕ)) (c : Cell) (before now : Option (List ℕ)) → Chooses words a → Chooses words x
-    → EndsAs end a.setting a.schema plans text left c before now → IfTold text (λ t. OfFirst x.schema (x.setting).bits t c.dealt (λ commands. Writes end x.setting commands c before now))
+    → EndsAs end a.setting a.setting.schema plans text left c before now → IfTold text (λ t. OfFirst x.setting.schema (x.setting).bits t c.dealt (λ commands. Writes end x.setting commands c before now))
 chosen_written words a x end plans text left c before now p q ends =
-    subst (λ (y : Choice). IfTold text (λ t. OfFirst y.schema (y.setting).bits t c.dealt (λ commands. Writes end y.setting commands c before now))) (one_choice words a x p q)
-    (ends_written end a.setting a.schema plans text left c before now ends)
+    subst (λ (y : Choice). IfTold text (λ t. OfFirst y.setting.schema (y.setting).bits t c.dealt (λ commands. Writes end y.setting commands c before now))) (one_choice words a x p q)
+    (ends_written end a.setting a.setting.schema plans text left c before now ends)
 
 -- a cluster that is empty, as memory wanted before the words were read
-all_zero : (n m u : ℕ) → IsTrue (n == 0 && (m == 0 && u == 0)) → (n ≡ 0) × ((m ≡ 0) × (u ≡ 0))
-all_zero n m u h = grind (arith, nat_tests)
+all_zero : (n m u f : ℕ) → IsTrue (n == 0 && (m == 0 && (u == 0 && f == 0))) → (n ≡ 0) × ((m ≡ 0) × ((u ≡ 0) × (f ≡ 0)))
+all_zero n m u f h = grind (arith, nat_tests)
 
 no_items : {X : Type 0} (vs : List X) → length vs ≡ 0 → vs ≡ []
 no_items [] none = refl
 no_items (v ∷ vs) none = absurd (omega (arith, none))
 
-pub empty_cell : (c : Cell) → IsTrue (is_empty c) → (c.lanes ≡ []) × ((c.dealt ≡ 0) × (c.upkeeps ≡ []))
-empty_cell c h = let all = all_zero (length c.lanes) c.dealt (length c.upkeeps) h in (no_items c.lanes all.0, (all.1.0, no_items c.upkeeps all.1.1))
+pub empty_cell : (c : Cell) → IsTrue (is_empty c) → (c.lanes ≡ []) × ((c.dealt ≡ 0) × ((c.upkeeps ≡ []) × (c.fronts ≡ [])))
+empty_cell c h = let all = all_zero (length c.lanes) c.dealt (length c.upkeeps) (length c.fronts) h in (no_items c.lanes all.0, (all.1.0, (no_items c.upkeeps all.1.1.0, no_items c.fronts all.1.1.1)))
 
 pub empty_ends : (s : Setting) (types : Types) (plans : ℕ → List Fate) (text left : Option (List ℕ)) (c : Cell) (before : Option (List ℕ)) → IsTrue (is_empty c) → EndsAs status.NoMemory s types plans text left c before before
 empty_ends s types plans text left c before h = unopened_ends s types plans text left c before (empty_cell c h)
@@ -299,3 +316,6 @@ empty_fates plans c h lane v at = absurd (no_lane c.lanes lane v (empty_cell c h
 
 pub empty_shown : (s : Setting) (c : Cell) → IsTrue (is_empty c) → AreShownRight s c
 empty_shown s c h lane v at = absurd (no_lane c.lanes lane v (empty_cell c h).0 at)
+
+pub empty_searches : (s : Setting) (c : Cell) → IsTrue (is_empty c) → CountOnce s c
+empty_searches s c h = none_counts s c (empty_cell c h).1.1.1

@@ -1,4 +1,6 @@
 mod UpkeepLaws
+mod ReadLaws
+mod SearchCounts
 mod OutputLaws
 mod LongLines
 mod KeptClauses

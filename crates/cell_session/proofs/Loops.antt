@@ -32,6 +32,7 @@ use Rattle.carriers.specs.declared.fate.Fate.{Fate}
 use Rattle.lane_lives.specs.Settings.{IsSetting}
 use Rattle.lane_lives.specs.declared.setting.Setting.{Setting}
 use Rattle.cell_session.specs.Operations.{IsCommandAt}
+use Rattle.cell_session.specs.Searches.{AreRead}
 use Rattle.cell_session.specs.SoFar.{IsBehind, IsSoFar}
 use Rattle.session_cluster.specs.Steps.{without_room, IsSpanNoted, IsAfter}
 use Rattle.cell_session.specs.declared.answering.Stop.{Stop}
@@ -43,6 +44,7 @@ use Rattle.cell_session.specs.declared.status.Status.TheVariants as status
 use Rattle.cell_session.proofs.OutputLaws.{output_kept, output_more, roomier_output}
 use Rattle.session_cluster.proofs.Elements.{element_seen}
 use Rattle.session_cluster.proofs.SessionSteps.{kept_more, kept_roomier}
+use Rattle.cell_session.proofs.ReadLaws.{read_more, none_read, read_roomier}
 use Rattle.cell_session.proofs.UpkeepLaws.{upkept_more, noted_last, cut_last, none_upkept, upkept_at, upkept_roomier}
 
 -- ---- how many lines are read as states, and how many as upkeep
@@ -122,6 +124,8 @@ counts_by counts counted states maintains (command.Stop node) are h = same_count
 counts_by counts counted states maintains (command.Start node) are h = same_counts counts counted states maintains are h
 counts_by counts counted states maintains (command.Net lane fates) are h = same_counts counts counted states maintains are h
 counts_by counts counted states maintains command.Maintain are h = maintain_counts counts counted states maintains (one_more most_maintains counts.maintains) are refl h
+counts_by counts counted states maintains (command.Search query) are h = same_counts counts counted states maintains are h
+counts_by counts counted states maintains (command.BadQuery offset) are h = same_counts counts counted states maintains are h
 
 -- with one line more
 counts_more : (counts counted : Counts) (cs : List Asked) (c : Asked) → AreCounts counts (state_lines cs) (maintain_lines cs) → counts_with counts c ≡ Ok counted → AreCounts counted (state_lines (cs ++ c ∷ [])) (maintain_lines (cs ++ c ∷ []))
@@ -161,6 +165,8 @@ counts_full counts (command.Stop node) which h = cc h
 counts_full counts (command.Start node) which h = cc h
 counts_full counts (command.Net lane fates) which h = cc h
 counts_full counts command.Maintain which h = maintain_full counts command.Maintain which (one_more most_maintains counts.maintains) refl refl h
+counts_full counts (command.Search query) which h = cc h
+counts_full counts (command.BadQuery offset) which h = cc h
 
 -- ---- the commands of the first lines of a text
 
@@ -237,8 +243,8 @@ told_none types bits (Some t) = (first_none types bits t, start_at t most_lines 
 abbrev pub no_counts : Counts
 no_counts = record { states = 0; maintains = 0 }
 
-pub so_far_new : (s : Setting) (types : Types) (plans : ℕ → List Fate) (text before : Option (List ℕ)) (reader : Reading) (c : Cell) → IsSetting s → reader ≡ first_reading → IsKept s plans [] c → c.upkeeps ≡ [] → IsSoFar s types plans text reader text no_counts c before before
-so_far_new s types plans text before reader c setting is kept none = subst (λ r. IsSoFar s types plans text r text no_counts c before before) (sym is) (record {
+pub so_far_new : (s : Setting) (types : Types) (plans : ℕ → List Fate) (text before : Option (List ℕ)) (reader : Reading) (c : Cell) → IsSetting s → reader ≡ first_reading → IsKept s plans [] c → c.upkeeps ≡ [] → c.fronts ≡ [] → IsSoFar s types plans text reader text no_counts c before before
+so_far_new s types plans text before reader c setting is kept none unread = subst (λ r. IsSoFar s types plans text r text no_counts c before before) (sym is) (record {
   setting = setting;
   commands = [];
   count = refl;
@@ -250,6 +256,7 @@ so_far_new s types plans text before reader c setting is kept none = subst (λ r
   kept = kept;
   output = Appends-nil before;
   upkept = none_upkept status.Done s c none;
+  read = none_read s c unread;
   told = told_none types s.bits text;
 })
 
@@ -273,6 +280,7 @@ record IsMore (s : Setting) (types : Types) (plans : ℕ → List Fate) (text le
   told : IfTold text (IsBehind types s.bits reader' left' (cs ++ c ∷ []))
   earlier : output_of s cs new ≡ output_of s cs old
   output : output_of s (cs ++ c ∷ []) new ≡ output_of s cs old ++ report_in s old.told number c new
+  read : AreRead s (cs ++ c ∷ []) new
 
 line_more : (s : Setting) (types : Types) (plans : ℕ → List Fate) (text left left' : Option (List ℕ)) (reader reader' : Reading) (counts counted : Counts) (old new : Cell) (before now : Option (List ℕ)) (number : ℕ) (c : Asked)
     → (so : IsSoFar s types plans text reader left counts old before now) → reader.max_lines ≡ most_lines → reader.max_bytes ≡ most_bytes
@@ -290,8 +298,9 @@ line_more s types plans text left left' reader reader' counts counted old new be
       few = few_of (cs ++ c ∷ []) counted grown (omega (arith, length-append cs (c ∷ []), k, small));
       kept = kept_more s plans cs c old new number so.kept k after;
       told = told_more types s.bits text reader reader' left left' cs number c so.told so.count lines bytes shows stands (subst (λ n. n ≤ most_states) grown.states_are grown.few_states) (subst (λ n. n ≤ most_maintains) grown.maintains_are grown.few_maintains);
-      earlier = output_kept s plans cs c old new number so.kept k after;
-      output = output_more s plans cs c old new number so.kept k after;
+      earlier = output_kept s plans cs c old new number so.kept k after so.read;
+      output = output_more s plans cs c old new number so.kept k after so.read;
+      read = read_more s plans cs c old new number so.kept k after so.read;
     }
 
 pub so_far_more : (s : Setting) (types : Types) (plans : ℕ → List Fate) (text left left' : Option (List ℕ)) (reader reader' : Reading) (counts counted : Counts) (old new : Cell) (before now now' : Option (List ℕ)) (number : ℕ) (c : Asked)
@@ -317,6 +326,7 @@ so_far_more s types plans text left left' reader reader' counts counted old new 
       output = subst (Appends before now') (sym more.output) (Appends-trans before now now' (output_of s cs old) (report_in s old.told number c new) so.output wrote);
       told = more.told;
       upkept = upkept_more s plans cs c old new number so.kept (omega (arith, is, so.count)) grown status.Done so.upkept (noted_last s c old new number status.Done noted);
+      read = more.read;
     }
 
 -- ---- why no further line is dealt with
@@ -380,6 +390,7 @@ over_with end s types plans text left left' reader reader' states c before now s
   stops = stops_of end types s.bits text left left' reader reader' so.commands so.told so.count lines bytes finishes stands holds last a b may;
   output = wrote;
   upkept = upkept_at end s so.commands c so.upkept;
+  read = so.read;
   few = so_few s types plans text reader left states c before now so;
   reached = reached_of end reader reader' so.commands so.count lines holds;
 })
@@ -450,6 +461,7 @@ full_end s types plans text left left' reader counts c before now number command
   stops = full_passes which s types plans text left reader counts c before now number command so lines bytes shows (counts_full counts command which full);
   output = so.output;
   upkept = upkept_at (status.Limit which) s so.commands c so.upkept;
+  read = so.read;
   few = so_few s types plans text reader left counts c before now so;
   reached = full_reached which counts so.commands command so.states_are so.maintains_are (counts_full counts command which full);
 })
@@ -504,6 +516,7 @@ fault_ends why s types plans text left left' reader reader' counts counted old n
             output = subst (λ x. Appends before now' (x ++ front)) (sym more.earlier) (Appends-trans before now now' (output_of s cs old) front so.output wrote);
           };
           upkept = upkept_more s plans cs c old new number so.kept (omega (arith, is, so.count)) grown status.WriteFault so.upkept (noted_last s c old new number status.WriteFault noted);
+          read = more.read;
           few = more.few;
           reached = tt;
         })
@@ -543,6 +556,7 @@ memory_ends why s types plans text left left' reader reader' counts counted old 
       stops = no_claim types s.bits text left' so.commands;
       output = inl (subst (Appends before now') (sym (roomier_output s so.commands old new roomier)) wrote);
       upkept = upkept_at status.NoMemory s so.commands new (upkept_roomier s so.commands old new (ap (λ (x : Cell). x.upkeeps) roomier.rest) (roomier_seen old new roomier) so.upkept);
+      read = read_roomier s so.commands old new (ap (λ (x : Cell). x.fronts) roomier.rest) (ap (λ (x : Cell). x.upkeeps) roomier.rest) (roomier_seen old new roomier) so.read;
       few = so_few s types plans text reader left counts old before now so;
       reached = tt;
     })
@@ -556,6 +570,7 @@ memory_ends why s types plans text left left' reader reader' counts counted old 
           stops = no_claim types s.bits text left' (cs ++ c ∷ []);
           output = inr (record { earlier = cs; last = c; all = refl; output = subst (Appends before now') (sym more.earlier) wrote });
           upkept = upkept_more s plans cs c old new number so.kept (omega (arith, is, so.count)) grown status.NoMemory so.upkept (cut_last s c old new number grown);
+          read = more.read;
           few = more.few;
           reached = tt;
         })
@@ -569,17 +584,18 @@ keeps_same : (a : Option (List ℕ)) → Keeps a a
 keeps_same None = tt
 keeps_same (Some x) = refl
 
-pub opened_ends : (s : Setting) (types : Types) (plans : ℕ → List Fate) (text left : Option (List ℕ)) (c : Cell) (before : Option (List ℕ)) → IsKept s plans [] c → c.upkeeps ≡ [] → EndsAs status.NoMemory s types plans text left c before before
-opened_ends s types plans text left c before kept none = inr (record {
+pub opened_ends : (s : Setting) (types : Types) (plans : ℕ → List Fate) (text left : Option (List ℕ)) (c : Cell) (before : Option (List ℕ)) → IsKept s plans [] c → c.upkeeps ≡ [] → c.fronts ≡ [] → EndsAs status.NoMemory s types plans text left c before before
+opened_ends s types plans text left c before kept none unread = inr (record {
   commands = [];
   kept = kept;
   first = firsts_none types s.bits text;
   stops = no_claim types s.bits text left [];
   output = inl (Appends-nil before);
   upkept = none_upkept status.NoMemory s c none;
+  read = none_read s c unread;
   few = few_none;
   reached = tt;
 })
 
-pub unopened_ends : (s : Setting) (types : Types) (plans : ℕ → List Fate) (text left : Option (List ℕ)) (c : Cell) (before : Option (List ℕ)) → (c.lanes ≡ []) × ((c.dealt ≡ 0) × (c.upkeeps ≡ [])) → EndsAs status.NoMemory s types plans text left c before before
-unopened_ends s types plans text left c before is = inl (record { memory = refl; none = is.0; dealt = is.1.0; unkept = is.1.1; kept = keeps_same before })
+pub unopened_ends : (s : Setting) (types : Types) (plans : ℕ → List Fate) (text left : Option (List ℕ)) (c : Cell) (before : Option (List ℕ)) → (c.lanes ≡ []) × ((c.dealt ≡ 0) × ((c.upkeeps ≡ []) × (c.fronts ≡ []))) → EndsAs status.NoMemory s types plans text left c before before
+unopened_ends s types plans text left c before is = inl (record { memory = refl; none = is.0; dealt = is.1.0; unkept = is.1.1.0; unread = is.1.1.1; kept = keeps_same before })

@@ -17,14 +17,20 @@ use Rattle.session_cluster.specs.Cells.{Cell, journals, journals_of}
 use Rattle.session_cluster.specs.Deeds.{first_told, told_next, told_by, told_of}
 use Rattle.session_cluster.specs.Keeping.{IsKept}
 use Rattle.session_cluster.specs.Lanes.{Journal, lane_of_id, journal_in, AreLegal}
-use Rattle.session_cluster.specs.Output.{outcome_answer, closed_answer, operation_answer, upkeep_answer, bytes_of, report_in, output_from, output_of}
+use Rattle.session_cluster.specs.Output.{outcome_answer, closed_answer, operation_answer, upkeep_answer, found_answer_of, bytes_of, report_in, output_from, output_of}
+use Rattle.session_cluster.specs.Searches.{fronts_of, version_now, answer_to}
 use Rattle.session_cluster.specs.Spans.{spans_of}
 use Rattle.session_cluster.specs.Steps.{without_room, IsAfter}
 use Rattle.session_cluster.specs.declared.asked.Asked.{Asked}
 use Rattle.session_cluster.specs.declared.asked.Asked.TheVariants as command
 use Rattle.session_cluster.proofs.KeptLanes.{kept_legal}
 use Rattle.session_cluster.proofs.Moving.{Moves, moves, journals_seen, plans_seen}
-use Rattle.session_cluster.proofs.SessionSteps.{LeavesSpans, leaves_spans}
+use Rattle.session_cluster.proofs.SessionSteps.{LeavesSpans, LeavesFronts, leaves_spans, leaves_fronts}
+use Rattle.cell_session.specs.Searches.{AreRead}
+use Rattle.cell_session.proofs.ReadLaws.{ViewsStay, views_stay}
+use Rattle.doc_types.specs.SchemaCodes.{Types}
+use Rattle.query_text.specs.Grammar.{Said}
+use Rattle.reports.specs.declared.answer.Answer.TheVariants as answer
 
 -- an earlier line's answer stays
 closed_same : (s : Setting) (lane k j : ℕ) (J K : Journal) (o : Option Outcome) → IsLegal (setting_of (bucket_in s lane) s.rules) J → IsLine k J K → outcome_in j J ≡ o → closed_answer o K ≡ closed_answer o J
@@ -48,25 +54,39 @@ moved_answer s lane k j J K (inr same) legal h = ap (λ x. closed_answer (outcom
 operation_stays : (s : Setting) (j k : ℕ) (id : List ℕ) (vs ws : List LaneValue) → Moves k vs ws → AreLegal s (journals vs) → j ≢ k → operation_answer s j id (journals ws) ≡ operation_answer s j id (journals vs)
 operation_stays s j k id vs ws m legal h = let lane = lane_of_id s.bits id in moved_answer s lane k j (journal_in lane (journals vs)) (journal_in lane (journals ws)) (m.journal lane) (legal lane) h
 
-report_stays : (s : Setting) (told : Told) (j k : ℕ) (c : Asked) (vs ws : Cell) → Moves k vs.lanes ws.lanes → LeavesSpans k vs ws → AreLegal s (journals_of vs) → j ≢ k → report_in s told j c ws ≡ report_in s told j c vs
-report_stays s told j k command.Blank vs ws m spans legal h = refl
-report_stays s told j k command.TooLong vs ws m spans legal h = refl
-report_stays s told j k (command.Bad why) vs ws m spans legal h = refl
-report_stays s told j k (command.Feed op via) vs ws m spans legal h = ap (bytes_of j) (operation_stays s j k op.id vs.lanes ws.lanes m legal h)
-report_stays s told j k (command.State state deaf) vs ws m spans legal h = refl
-report_stays s told j k (command.BadState offset) vs ws m spans legal h = refl
-report_stays s told j k (command.Stop node) vs ws m spans legal h = refl
-report_stays s told j k (command.Start node) vs ws m spans legal h = refl
-report_stays s told j k (command.Net lane fates) vs ws m spans legal h = ap (bytes_of j) (m.plans lane)
-report_stays s told j k command.Maintain vs ws m spans legal h = ap (λ o. bytes_of j (upkeep_answer o)) (spans j (λ e. h (sym e)))
+-- what a search found stays, where the views to which it read do
+found_same : (types : Types) (told : Told) (q : Said) (j : ℕ) (vs ws : Cell) (o : Option (List ℕ)) → ViewsStay types vs ws → fronts_of j vs.fronts ≡ o → found_answer_of types told q o (journals ws.lanes) ≡ found_answer_of types told q o (journals vs.lanes)
+found_same types told q j vs ws None views is = refl
+found_same types told q j vs ws (Some gs) views is = ap (λ us. Some (answer.Search (answer_to q (version_now told) us))) (views j gs is)
+
+found_stays : (types : Types) (told : Told) (q : Said) (j k : ℕ) (vs ws : Cell) → LeavesFronts k vs ws → ViewsStay types vs ws → j ≢ k
+    → found_answer_of types told q (fronts_of j ws.fronts) (journals ws.lanes) ≡ found_answer_of types told q (fronts_of j vs.fronts) (journals vs.lanes)
+found_stays types told q j k vs ws fronts views h =
+    ap (λ o. found_answer_of types told q o (journals ws.lanes)) (fronts j (λ e. h (sym e))) ∙ found_same types told q j vs ws (fronts_of j vs.fronts) views refl
+
+report_stays : (s : Setting) (told : Told) (j k : ℕ) (c : Asked) (vs ws : Cell) → Moves k vs.lanes ws.lanes → LeavesSpans k vs ws → LeavesFronts k vs ws → ViewsStay s.schema vs ws → AreLegal s (journals_of vs) → j ≢ k
+    → report_in s told j c ws ≡ report_in s told j c vs
+report_stays s told j k command.Blank vs ws m spans fronts views legal h = refl
+report_stays s told j k command.TooLong vs ws m spans fronts views legal h = refl
+report_stays s told j k (command.Bad why) vs ws m spans fronts views legal h = refl
+report_stays s told j k (command.Feed op via) vs ws m spans fronts views legal h = ap (bytes_of j) (operation_stays s j k op.id vs.lanes ws.lanes m legal h)
+report_stays s told j k (command.State state deaf) vs ws m spans fronts views legal h = refl
+report_stays s told j k (command.BadState offset) vs ws m spans fronts views legal h = refl
+report_stays s told j k (command.Stop node) vs ws m spans fronts views legal h = refl
+report_stays s told j k (command.Start node) vs ws m spans fronts views legal h = refl
+report_stays s told j k (command.Net lane fates) vs ws m spans fronts views legal h = ap (bytes_of j) (m.plans lane)
+report_stays s told j k command.Maintain vs ws m spans fronts views legal h = ap (λ o. bytes_of j (upkeep_answer o)) (spans j (λ e. h (sym e)))
+report_stays s told j k (command.Search q) vs ws m spans fronts views legal h = ap (bytes_of j) (found_stays s.schema told q j k vs ws fronts views h)
+report_stays s told j k (command.BadQuery offset) vs ws m spans fronts views legal h = refl
 
 below_apart : (start n k : ℕ) → start + suc n ≤ k → start ≢ k
 below_apart start n k h e = omega arith
 
-output_stays : (s : Setting) (told : Told) (start k : ℕ) (cs : List Asked) (vs ws : Cell) → Moves k vs.lanes ws.lanes → LeavesSpans k vs ws → AreLegal s (journals_of vs) → start + length cs ≤ k → output_from s told start cs ws ≡ output_from s told start cs vs
-output_stays s told start k [] vs ws m spans legal h = refl
-output_stays s told start k (c ∷ cs) vs ws m spans legal h =
-    ap₂ (λ a b. a ++ b) (report_stays s told start k c vs ws m spans legal (below_apart start (length cs) k h)) (output_stays s (told_next c told) (suc start) k cs vs ws m spans legal (omega arith))
+output_stays : (s : Setting) (told : Told) (start k : ℕ) (cs : List Asked) (vs ws : Cell) → Moves k vs.lanes ws.lanes → LeavesSpans k vs ws → LeavesFronts k vs ws → ViewsStay s.schema vs ws → AreLegal s (journals_of vs) → start + length cs ≤ k
+    → output_from s told start cs ws ≡ output_from s told start cs vs
+output_stays s told start k [] vs ws m spans fronts views legal h = refl
+output_stays s told start k (c ∷ cs) vs ws m spans fronts views legal h =
+    ap₂ (λ a b. a ++ b) (report_stays s told start k c vs ws m spans fronts views legal (below_apart start (length cs) k h)) (output_stays s (told_next c told) (suc start) k cs vs ws m spans fronts views legal (omega arith))
 
 output-push : (s : Setting) (told : Told) (start : ℕ) (cs : List Asked) (c : Asked) (vs : Cell)
     → output_from s told start (cs ++ c ∷ []) vs ≡ output_from s told start cs vs ++ report_in s (told_by told cs) (start + length cs) c vs
@@ -77,31 +97,35 @@ output-push s told start (x ∷ cs) c vs =
     ∙ sym (append_assoc (report_in s told start x vs) (output_from s next (suc start) cs vs) (report_in s (told_by next cs) (start + suc (length cs)) c vs))
 
 -- the output of the earlier lines stays
-pub output_kept : (s : Setting) (plans : ℕ → List Fate) (cs : List Asked) (c : Asked) (old new : Cell) (k : ℕ) → IsKept s plans cs old → k ≡ length cs + 1 → IsAfter s k c old new → output_of s cs new ≡ output_of s cs old
-output_kept s plans cs c old new k kept is after = output_stays s (first_told s) 1 k cs old new (moves s plans cs c old new k kept after) (leaves_spans s c old new k after) (kept_legal s plans cs old kept) (omega (arith, is))
+pub output_kept : (s : Setting) (plans : ℕ → List Fate) (cs : List Asked) (c : Asked) (old new : Cell) (k : ℕ) → IsKept s plans cs old → k ≡ length cs + 1 → IsAfter s k c old new → AreRead s cs old → output_of s cs new ≡ output_of s cs old
+output_kept s plans cs c old new k kept is after so =
+    output_stays s (first_told s) 1 k cs old new (moves s plans cs c old new k kept after) (leaves_spans s c old new k after) (leaves_fronts s c old new k after) (views_stay s plans cs c old new k kept is after so s.schema)
+    (kept_legal s plans cs old kept) (omega (arith, is))
 
-pub output_more : (s : Setting) (plans : ℕ → List Fate) (cs : List Asked) (c : Asked) (old new : Cell) (k : ℕ) → IsKept s plans cs old → k ≡ length cs + 1 → IsAfter s k c old new
+pub output_more : (s : Setting) (plans : ℕ → List Fate) (cs : List Asked) (c : Asked) (old new : Cell) (k : ℕ) → IsKept s plans cs old → k ≡ length cs + 1 → IsAfter s k c old new → AreRead s cs old
     → output_of s (cs ++ c ∷ []) new ≡ output_of s cs old ++ report_in s old.told k c new
-output_more s plans cs c old new k kept is after =
-    output-push s (first_told s) 1 cs c new ∙ ap₂ (λ a n. a ++ report_in s (told_of s cs) n c new) (output_kept s plans cs c old new k kept is after) (omega (arith, is))
+output_more s plans cs c old new k kept is after so =
+    output-push s (first_told s) 1 cs c new ∙ ap₂ (λ a n. a ++ report_in s (told_of s cs) n c new) (output_kept s plans cs c old new k kept is after so) (omega (arith, is))
     ∙ ap (λ t. output_of s cs old ++ report_in s t k c new) (sym kept.told)
 
 -- room alone changes no report
-report_seen : (s : Setting) (told : Told) (j : ℕ) (c : Asked) (vs ws : Cell) → map without_room ws.lanes ≡ map without_room vs.lanes → ws.upkeeps ≡ vs.upkeeps → report_in s told j c ws ≡ report_in s told j c vs
-report_seen s told j command.Blank vs ws same spans = refl
-report_seen s told j command.TooLong vs ws same spans = refl
-report_seen s told j (command.Bad why) vs ws same spans = refl
-report_seen s told j (command.Feed op via) vs ws same spans = ap (λ Js. bytes_of j (operation_answer s j op.id Js)) (journals_seen vs.lanes ws.lanes same)
-report_seen s told j (command.State state deaf) vs ws same spans = refl
-report_seen s told j (command.BadState offset) vs ws same spans = refl
-report_seen s told j (command.Stop node) vs ws same spans = refl
-report_seen s told j (command.Start node) vs ws same spans = refl
-report_seen s told j (command.Net lane fates) vs ws same spans = ap (bytes_of j) (plans_seen vs.lanes ws.lanes same lane)
-report_seen s told j command.Maintain vs ws same spans = ap (λ us. bytes_of j (upkeep_answer (spans_of j us))) spans
+report_seen : (s : Setting) (told : Told) (j : ℕ) (c : Asked) (vs ws : Cell) → map without_room ws.lanes ≡ map without_room vs.lanes → ws.upkeeps ≡ vs.upkeeps → ws.fronts ≡ vs.fronts → report_in s told j c ws ≡ report_in s told j c vs
+report_seen s told j command.Blank vs ws same spans fronts = refl
+report_seen s told j command.TooLong vs ws same spans fronts = refl
+report_seen s told j (command.Bad why) vs ws same spans fronts = refl
+report_seen s told j (command.Feed op via) vs ws same spans fronts = ap (λ Js. bytes_of j (operation_answer s j op.id Js)) (journals_seen vs.lanes ws.lanes same)
+report_seen s told j (command.State state deaf) vs ws same spans fronts = refl
+report_seen s told j (command.BadState offset) vs ws same spans fronts = refl
+report_seen s told j (command.Stop node) vs ws same spans fronts = refl
+report_seen s told j (command.Start node) vs ws same spans fronts = refl
+report_seen s told j (command.Net lane fates) vs ws same spans fronts = ap (bytes_of j) (plans_seen vs.lanes ws.lanes same lane)
+report_seen s told j command.Maintain vs ws same spans fronts = ap (λ us. bytes_of j (upkeep_answer (spans_of j us))) spans
+report_seen s told j (command.Search q) vs ws same spans fronts = ap₂ (λ o Js. bytes_of j (found_answer_of s.schema told q o Js)) (ap (fronts_of j) fronts) (journals_seen vs.lanes ws.lanes same)
+report_seen s told j (command.BadQuery offset) vs ws same spans fronts = refl
 
-output_seen : (s : Setting) (told : Told) (start : ℕ) (cs : List Asked) (vs ws : Cell) → map without_room ws.lanes ≡ map without_room vs.lanes → ws.upkeeps ≡ vs.upkeeps → output_from s told start cs ws ≡ output_from s told start cs vs
-output_seen s told start [] vs ws same spans = refl
-output_seen s told start (c ∷ cs) vs ws same spans = ap₂ (λ a b. a ++ b) (report_seen s told start c vs ws same spans) (output_seen s (told_next c told) (suc start) cs vs ws same spans)
+output_seen : (s : Setting) (told : Told) (start : ℕ) (cs : List Asked) (vs ws : Cell) → map without_room ws.lanes ≡ map without_room vs.lanes → ws.upkeeps ≡ vs.upkeeps → ws.fronts ≡ vs.fronts → output_from s told start cs ws ≡ output_from s told start cs vs
+output_seen s told start [] vs ws same spans fronts = refl
+output_seen s told start (c ∷ cs) vs ws same spans fronts = ap₂ (λ a b. a ++ b) (report_seen s told start c vs ws same spans fronts) (output_seen s (told_next c told) (suc start) cs vs ws same spans fronts)
 
 pub roomier_output : (s : Setting) (cs : List Asked) (old new : Cell) → IsRoomier old new → output_of s cs new ≡ output_of s cs old
-roomier_output s cs old new r = output_seen s (first_told s) 1 cs old new r.lanes (ap (λ (x : Cell). x.upkeeps) r.rest)
+roomier_output s cs old new r = output_seen s (first_told s) 1 cs old new r.lanes (ap (λ (x : Cell). x.upkeeps) r.rest) (ap (λ (x : Cell). x.fronts) r.rest)

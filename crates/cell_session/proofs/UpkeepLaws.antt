@@ -76,7 +76,7 @@ grew_told s None state deaf old new k d lane w =
     grew_each (after_state state deaf) (λ v. grown_deed _ s v.lane (Announces state deaf) v.journal (after_state state deaf v).journal refl (grown_itself _)) old.lanes new.lanes lane w (ap (λ (x : Cell). x.lanes) d.now)
 grew_told s (Some why) state deaf old new k d lane w = grew_each with_room (λ v. grown_itself v.journal) old.lanes new.lanes lane w (ap (λ (x : Cell). x.lanes) d)
 
-grew_after : (s : Setting) (c : Asked) (old new : Cell) (k : ℕ) → IsAfter s k c old new → (lane : ℕ) (w : LaneValue) → slice_get new.lanes lane ≡ Some w → GrewFrom old.lanes lane w
+pub grew_after : (s : Setting) (c : Asked) (old new : Cell) (k : ℕ) → IsAfter s k c old new → (lane : ℕ) (w : LaneValue) → slice_get new.lanes lane ≡ Some w → GrewFrom old.lanes lane w
 grew_after s command.Blank old new k now lane w = grew_same old.lanes new.lanes lane w (ap (λ (x : Cell). x.lanes) now)
 grew_after s command.TooLong old new k now lane w = grew_same old.lanes new.lanes lane w (ap (λ (x : Cell). x.lanes) now)
 grew_after s (command.Bad why) old new k now lane w = grew_same old.lanes new.lanes lane w (ap (λ (x : Cell). x.lanes) now)
@@ -93,6 +93,8 @@ grew_after s (command.Start node) old new k now lane w =
 grew_after s (command.Net at fates) old new k now lane w =
     grew_one old.lanes new.lanes at lane now.before _ w (ap (λ (x : Cell). x.lanes) now.now) now.there (grown_itself _)
 grew_after s command.Maintain old new k now lane w = grew_all s old.lanes new.lanes lane w now.lanes
+grew_after s (command.Search query) old new k now lane w = grew_same old.lanes new.lanes lane w (ap (λ (x : Cell). x.lanes) now)
+grew_after s (command.BadQuery offset) old new k now lane w = grew_same old.lanes new.lanes lane w (ap (λ (x : Cell). x.lanes) now)
 
 -- ---- a span stands on
 
@@ -125,14 +127,14 @@ rest_in b r w lane rules h =
 stands_within : (s : Setting) (lane : Low) (deeds : List Deed) (J : List LaneEvent) (span : UpkeepSpan) → SpanStands s lane deeds J span → span.to ≤ length J
 stands_within s lane deeds J span h = omega (arith, h.to, ap length h.whole, length-append h.later h.after)
 
-some_is : {A : Type 0} {x y : A} → Some x ≡ Some y → x ≡ y
+pub some_is : {A : Type 0} {x y : A} → Some x ≡ Some y → x ≡ y
 some_is e = cc
 
-none_some : {A : Type 0} (o : Option A) (x : A) → o ≡ None → o ≡ Some x → ⊥
+pub none_some : {A : Type 0} (o : Option A) (x : A) → o ≡ None → o ≡ Some x → ⊥
 none_some o x a b = cc
 
 -- what stands in a list with one item more
-pushed : (cs : List Asked) (c : Asked) (k : ℕ) (x : Asked) → slice_get (cs ++ c ∷ []) k ≡ Some x → (slice_get cs k ≡ Some x) ⊎ ((k ≡ length cs) × (c ≡ x))
+pub pushed : (cs : List Asked) (c : Asked) (k : ℕ) (x : Asked) → slice_get (cs ++ c ∷ []) k ≡ Some x → (slice_get cs k ≡ Some x) ⊎ ((k ≡ length cs) × (c ≡ x))
 pushed [] c zero x h = inr (refl, some_is h)
 pushed [] c (suc k) x h = cc
 pushed (y ∷ cs) c zero x h = inl h
@@ -141,17 +143,17 @@ pushed (y ∷ cs) c (suc k) x h = elim (pushed cs c k x h) [
   | inr last ↦ inr (ap suc last.0, last.1)
 ]
 
-still : (cs : List Asked) (c : Asked) (k : ℕ) (x : Asked) → slice_get cs k ≡ Some x → slice_get (cs ++ c ∷ []) k ≡ Some x
+pub still : (cs : List Asked) (c : Asked) (k : ℕ) (x : Asked) → slice_get cs k ≡ Some x → slice_get (cs ++ c ∷ []) k ≡ Some x
 still [] c zero x h = cc h
 still [] c (suc k) x h = cc h
 still (y ∷ cs) c zero x h = h
 still (y ∷ cs) c (suc k) x h = still cs c k x h
 
-last_there : (cs : List Asked) (c : Asked) → slice_get (cs ++ c ∷ []) (length cs) ≡ Some c
+pub last_there : (cs : List Asked) (c : Asked) → slice_get (cs ++ c ∷ []) (length cs) ≡ Some c
 last_there [] c = refl
 last_there (y ∷ cs) c = last_there cs c
 
-take_low : (n : ℕ) (cs : List Asked) → length (take n cs) ≤ length cs
+pub take_low : (n : ℕ) (cs : List Asked) → length (take n cs) ≤ length cs
 take_low zero cs = omega arith
 take_low (suc n) [] = omega arith
 take_low (suc n) (c ∷ cs) = let low = take_low n cs in omega (arith, low)

@@ -20,6 +20,8 @@ is_state (asked.Stop node) = false
 is_state (asked.Start node) = false
 is_state (asked.Net lane fates) = false
 is_state asked.Maintain = false
+is_state (asked.Search query) = false
+is_state (asked.BadQuery offset) = false
 
 -- the line is read as upkeep
 abbrev pub is_maintain : Asked → Bool
@@ -33,6 +35,8 @@ is_maintain (asked.Stop node) = false
 is_maintain (asked.Start node) = false
 is_maintain (asked.Net lane fates) = false
 is_maintain asked.Maintain = true
+is_maintain (asked.Search query) = false
+is_maintain (asked.BadQuery offset) = false
 
 -- how many lines are read as states, and how many as upkeep
 abbrev pub state_lines : List Asked → ℕ
@@ -72,3 +76,5 @@ counts_with counts (asked.Stop node) = Ok counts
 counts_with counts (asked.Start node) = Ok counts
 counts_with counts (asked.Net lane fates) = Ok counts
 counts_with counts asked.Maintain = maintains_with counts (one_more most_maintains counts.maintains)
+counts_with counts (asked.Search query) = Ok counts
+counts_with counts (asked.BadQuery offset) = Ok counts

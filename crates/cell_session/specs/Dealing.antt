@@ -9,6 +9,7 @@ use Rattle.session_cluster.specs.Cells.{Cell}
 use Rattle.cell_session.specs.Counting.{AreFew}
 use Rattle.cell_session.specs.Ends.{IfTold, AreFirst, StopsAt, EndsAtLimit, Writes}
 use Rattle.session_cluster.specs.Keeping.{IsKept}
+use Rattle.cell_session.specs.Searches.{AreRead}
 use Rattle.cell_session.specs.Upkeep.{AreUpkept}
 use Rattle.cell_session.specs.declared.status.Status.{Status}
 use Rattle.cell_session.specs.declared.status.Status.TheVariants as status
@@ -21,6 +22,7 @@ pub record HasDealt (end : Status) (s : Setting) (types : Types) (plans : ℕ �
   pub stops : IfTold text (λ t. StopsAt end types s.bits t left commands)
   pub output : Writes end s commands c before now
   pub upkept : AreUpkept end s commands c
+  pub read : AreRead s commands c
   pub few : AreFew commands
   pub reached : EndsAtLimit end commands
 
@@ -30,6 +32,7 @@ pub record HasNothing (end : Status) (c : Cell) (before now : Option (List ℕ))
   pub none : c.lanes ≡ []
   pub dealt : c.dealt ≡ 0
   pub unkept : c.upkeeps ≡ []
+  pub unread : c.fronts ≡ []
   pub kept : Keeps before now
 
 abbrev pub EndsAs : Status → Setting → Types → (ℕ → List Fate) → Option (List ℕ) → Option (List ℕ) → Cell

@@ -9,6 +9,7 @@ use Rattle.cell_session.specs.Causes.{HaveCauses}
 use Rattle.cell_session.specs.Ends.{EndsAtLimit}
 use Rattle.cell_session.specs.Hearing.{HaveHeard}
 use Rattle.cell_session.specs.Operations.{WereAsked, HaveOutcomes, HaveFates}
+use Rattle.cell_session.specs.Searches.{AreRead}
 use Rattle.cell_session.specs.Upkeep.{AreUpkept}
 use Rattle.cell_session.specs.declared.status.Status.{Status}
 
@@ -25,5 +26,7 @@ pub record HaveLines (end : Status) (s : Setting) (types : Types) (plans : â„• â
   pub causes : HaveCauses s asked c
   -- how the upkeep went that they asked for
   pub upkeeps : AreUpkept end s asked c
+  -- how far those read that searched
+  pub search_fronts : AreRead s asked c
   -- what was reached, where a limit ends the session
   pub reached : EndsAtLimit end asked

@@ -64,6 +64,8 @@ pub fn counts_with(counts: Counts, command: &Asked) -> Result<Counts, LimitKind>
         | Asked::Feed { .. }
         | Asked::Stop { .. }
         | Asked::Start { .. }
-        | Asked::Net { .. } => Ok(counts),
+        | Asked::Net { .. }
+        | Asked::Search { .. }
+        | Asked::BadQuery { .. } => Ok(counts),
     }
 }

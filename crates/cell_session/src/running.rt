@@ -12,6 +12,7 @@ ghost use Rattle.cell_session.specs.Ends.{IfTold, OfFirst, HasLanes, DealsWith, 
 ghost use Rattle.cell_session.specs.Lines.{HaveLines};
 ghost use Rattle.session_cluster.specs.Lanes.{AreLegal, AreInOrder, AreTogether};
 ghost use Rattle.cell_session.specs.LanePromises.{AreDurable, AreComplete, AreShownRight};
+ghost use Rattle.cell_session.specs.Searches.{CountOnce};
 
 use crate::answering::{Stop, answer_line};
 use crate::counts::{Counts, counts_with};
@@ -19,8 +20,10 @@ use crate::limits::{MOST_BYTES, MOST_LINES};
 use crate::next_command::{Step, next_command};
 use crate::status::Status;
 use carriers::Carriers;
-use doc_types::Schema;
 use io_ends::{LimitKind, LineReader, Sink, Source, write_all};
+use journal_views::laws::{
+    answers_are_of_what_is_read, fronts_count_once, journals_are_read, journals_are_shown,
+};
 use lane_lives::Setting;
 use lane_promises::laws::{
     hearings_follow_deeds, lanes_are_complete, lanes_are_durable, lines_are_refused_with_cause,
@@ -61,15 +64,19 @@ pub fn run_one<S: Source, K: Sink, C: Carriers>(
     // were refused or lacked answers, and how upkeep went; and the bytes that answer them
     ensures dealt_with { (c : Choice) → Chooses (map string_bytes words.now) c
         → IfTold (S.left source.old)
-        (λ text. DealsWith result c.schema c.setting.bits text cluster.new.dealt (S.left source.new)) }
+        (λ text. DealsWith result c.setting.schema c.setting.bits text cluster.new.dealt (S.left source.new)) }
     ensures lines { (c : Choice) → Chooses (map string_bytes words.now) c
-        → HaveLines result c.setting c.schema (C.plans carriers.old) (S.left source.old) cluster.new }
+        → HaveLines result c.setting c.setting.schema (C.plans carriers.old) (S.left source.old) cluster.new }
     ensures completeness { (c : Choice) → Chooses (map string_bytes words.now) c
         → AreComplete c.setting cluster.new.lanes }
     ensures bytes_written { (c : Choice) → Chooses (map string_bytes words.now) c
-        → IfTold (S.left source.old) (λ text. OfFirst c.schema c.setting.bits text cluster.new.dealt
+        → IfTold (S.left source.old) (λ text. OfFirst c.setting.schema c.setting.bits text cluster.new.dealt
         (λ commands. Writes result c.setting commands cluster.new
         (K.written sink.old) (K.written sink.new))) }
+
+    // the searches: each counts a document once at most, and at full coverage as an operation left it that is no older
+    // than what was acknowledged before
+    ensures searches { (c : Choice) → Chooses (map string_bytes words.now) c → CountOnce c.setting cluster.new }
 
     // wrong words: the one usage line is written, nothing is read, and the cluster is as it was
     ensures wrong_words { AreWrong (map string_bytes words.now)
@@ -82,8 +89,8 @@ pub fn run_one<S: Source, K: Sink, C: Carriers>(
         × Appends (K.written sink.old) (K.written sink.new) usage_text }
     ensures limit { (which : LimitKind) → result ≡ Status.Limit which
         → (c : Choice) × (Chooses (map string_bytes words.now) c
-        × IfTold (S.left source.old) (λ text. OfFirst c.schema c.setting.bits text cluster.new.dealt
-        (PassesLimit which c.schema c.setting.bits text))) }
+        × IfTold (S.left source.old) (λ text. OfFirst c.setting.schema c.setting.bits text cluster.new.dealt
+        (PassesLimit which c.setting.schema c.setting.bits text))) }
     ensures read_fault { result ≡ Status.ReadFault
         → HasRisen S.last (S.faults source.old) (S.faults source.new) }
     ensures write_fault { result ≡ Status.WriteFault
@@ -96,16 +103,12 @@ pub fn run_one<S: Source, K: Sink, C: Carriers>(
     hearings_follow_deeds();
     lines_are_refused_with_cause();
     lines_fall_short_with_cause();
+    journals_are_read();
+    journals_are_shown();
+    fronts_count_once();
+    answers_are_of_what_is_read();
     match read_choice(alloc, words) {
-        Ok(choice) => run_lines(
-            alloc,
-            &choice.setting,
-            &choice.schema,
-            source,
-            sink,
-            carriers,
-            cluster,
-        ),
+        Ok(choice) => run_lines(alloc, &choice.setting, source, sink, carriers, cluster),
         Err(WordsFault::Usage) => refuse_words(alloc, sink),
         Err(WordsFault::NoMemory) => Status::NoMemory,
     }
@@ -130,7 +133,6 @@ fn refuse_words<K: Sink>(alloc: Global, sink: &mut K) -> Status
 fn run_lines<S: Source, K: Sink, C: Carriers>(
     alloc: Global,
     setting: &Setting,
-    schema: &Schema,
     source: &mut S,
     sink: &mut K,
     carriers: &mut C,
@@ -138,7 +140,7 @@ fn run_lines<S: Source, K: Sink, C: Carriers>(
 ) -> Status
     requires empty { IsTrue (is_empty cluster.old) }
     requires setting { IsSetting setting.now }
-    ensures ended { EndsAs result setting.now schema.now (C.plans carriers.old) (S.left source.old) (S.left source.new) cluster.new
+    ensures ended { EndsAs result setting.now setting.now.schema (C.plans carriers.old) (S.left source.old) (S.left source.new) cluster.new
         (K.written sink.old) (K.written sink.new) }
     ensures read_fault { result ≡ Status.ReadFault
         → HasRisen S.last (S.faults source.old) (S.faults source.new) }
@@ -163,7 +165,7 @@ fn run_lines<S: Source, K: Sink, C: Carriers>(
         let step = next_command(
             alloc,
             &mut values,
-            schema,
+            &setting.schema,
             setting.bits,
             &mut reader,
             source,

@@ -9,7 +9,7 @@ use field_indexes::FieldIndexes;
 use std::alloc::Global;
 use value_lists::NoMemory;
 
-/// A document has some fields no more; takes no memory.
+/// A document has some fields no more.
 pub fn leave_fields(indexes: &mut FieldIndexes, name: &str, fields: &[SharedField], local: u32)
     ensures cells { (n f : List ℕ) (k : ℕ) → cell (fields_of indexes.new) n f k
         ≡ (if (k == local) && is_named name.now (pairs fields.now) n f then None else cell (fields_of indexes.old) n f k) }
@@ -46,7 +46,7 @@ pub fn enter_fields(
     Ok(())
 }
 
-/// A document without fields has those of a greater local id, which then has none; takes no memory.
+/// A document without fields has those of a greater local id, which then has none.
 pub fn move_fields(
     indexes: &mut FieldIndexes,
     name: &str,

@@ -63,7 +63,7 @@ impl Indexes {
         }
     }
 
-    /// A document has its local id no more; takes no memory.
+    /// A document has its local id no more.
     pub fn leave(&mut self, local: u32, document: &Document)
         requires own { (n f : List ℕ) → cell (fields_of self.old.fields) n f local ≡ cell_of n f (Some document.now) }
         ensures listed { (name : List ℕ) → list_of name self.new.types
@@ -78,7 +78,7 @@ impl Indexes {
         leave_fields(&mut self.fields, name, document.fields(), local);
     }
 
-    /// A document has a lower local id from now on, which none had; takes no memory.
+    /// A document has a lower local id from now on, which none had.
     pub fn move_down(&mut self, from: u32, to: u32, document: &Document)
         requires below { to < from }
         requires own { (n f : List ℕ) → cell (fields_of self.old.fields) n f from ≡ cell_of n f (Some document.now) }
@@ -96,7 +96,7 @@ impl Indexes {
         move_fields(&mut self.fields, name, document.fields(), from, to);
     }
 
-    /// The local ids of the documents of a type; takes no memory.
+    /// The local ids of the documents of a type.
     pub fn of_type(&self, name: &str) -> &[u32]
         ensures ids { result.now ≡ list_of name.now self.now.types }
         ensures rising { IsRising result.now }
@@ -104,7 +104,7 @@ impl Indexes {
         self.types.list(name)
     }
 
-    /// A field of a type, where some document had a value there; takes no memory.
+    /// A field of a type, where some document had a value there.
     pub fn index(&self, name: &str, field: &str) -> Option<&FieldIndex>
         ensures { option_copied result ≡ fields_of self.now.fields name.now field.now }
     {

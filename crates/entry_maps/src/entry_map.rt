@@ -140,7 +140,7 @@ impl EntryMap {
     }
 
     /// Puts an entry in the place of its document's one, be it newer or older, with the key of its id beside it;
-    /// where there is none, nothing is put. Takes no memory.
+    /// where there is none, nothing is put.
     pub fn put_instead_at(&mut self, key: u64, entry: SharedEntry)
         requires { key ≡ key_of entry.id }
         ensures { self.new ≡ with_instead self.old entry }
@@ -148,7 +148,7 @@ impl EntryMap {
         self.kept.put_instead(path_of(key), entry);
     }
 
-    /// Removes the entry of a document, if there is one, with the key of its id beside it. Takes no memory.
+    /// Removes the entry of a document, if there is one, with the key of its id beside it.
     pub fn remove_at(&mut self, key: u64, id: &DocId)
         requires { key ≡ key_of id.now }
         ensures { self.new ≡ fin.remove self.old id.now }

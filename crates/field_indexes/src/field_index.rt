@@ -90,7 +90,7 @@ impl FieldIndex {
     }
 
     /// Gives a document a value that has none, of which a copy is kept, with its words. Takes for each number and word a
-    /// logarithm, and the move of the ids above in their lists. The only error is want of memory.
+    /// logarithm, and the move of the ids above in their lists.
     pub fn enter(&mut self, alloc: Global, local: u32, value: &FieldValue) -> Result<(), NoMemory>
         requires kind { kind_of value.now ≡ self.old.kind }
         requires free { fin.get self.old.values local ≡ None }
@@ -108,7 +108,7 @@ impl FieldIndex {
         }
     }
 
-    /// Takes the value of a document away, if it has one; takes no memory.
+    /// Takes the value of a document away, if it has one.
     pub fn leave(&mut self, local: u32)
         ensures { self.new ≡ without_value local self.old }
     {
@@ -117,7 +117,7 @@ impl FieldIndex {
         self.column.clear(local);
     }
 
-    /// Gives a document without a value that of a greater local id, which then has none; takes no memory.
+    /// Gives a document without a value that of a greater local id, which then has none.
     pub fn move_down(&mut self, from: u32, to: u32)
         requires below { to < from }
         requires free { fin.get self.old.values to ≡ None }
@@ -128,14 +128,14 @@ impl FieldIndex {
         self.column.move_down(from, to);
     }
 
-    /// The value of a document; takes no memory.
+    /// The value of a document.
     pub fn value(&self, local: u32) -> Option<&FieldValue>
         ensures { option_copied result ≡ fin.get self.now.values local }
     {
         self.column.value(local)
     }
 
-    /// The documents that have a word, in some item of a list; takes no memory.
+    /// The documents that have a word, in some item of a list.
     pub fn with_word(&self, word: &str) -> &[u32]
         ensures ids { result.now ≡ locals_having word.now self.now.values }
         ensures rising { IsRising result.now }
@@ -144,7 +144,7 @@ impl FieldIndex {
     }
 
     /// The least number from one to another, both with them, that some document has as its value or as an item, and those
-    /// that have it; takes no memory.
+    /// that have it.
     pub fn next_value(&self, low: i64, high: i64) -> Option<(i64, &[u32])>
         ensures none { IfNone result ((q : ℤ) → low ≤ℤ q → q ≤ℤ high → locals_with q self.now.values ≡ []) }
         ensures from { IfSome result (λ r. low ≤ℤ r.0) }

@@ -29,14 +29,14 @@ impl FieldIndexes {
         }
     }
 
-    /// The field of a type and of a name, where some document had a value there; takes no memory.
+    /// The field of a type and of a name, where some document had a value there.
     pub fn index(&self, name: &str, field: &str) -> Option<&FieldIndex>
         ensures { option_copied result ≡ fields_of self.now name.now field.now }
     {
         index_at(&self.types, name, field)
     }
 
-    /// Gives a document a value that has none in this field of its type. The only error is want of memory.
+    /// Gives a document a value that has none in this field of its type.
     pub fn enter(
         &mut self,
         alloc: Global,
@@ -56,7 +56,7 @@ impl FieldIndexes {
         enter_at(alloc, &mut self.types, name, field, local, value)
     }
 
-    /// Takes the value of a document away, if it has one; takes no memory.
+    /// Takes the value of a document away, if it has one.
     pub fn leave(&mut self, name: &str, field: &str, local: u32)
         ensures { (n f : List ℕ) → fields_of self.new n f
             ≡ (if is_field name.now field.now n f
@@ -66,7 +66,7 @@ impl FieldIndexes {
         leave_at(&mut self.types, name, field, local);
     }
 
-    /// Gives a document without a value that of a greater local id, which then has none; takes no memory.
+    /// Gives a document without a value that of a greater local id, which then has none.
     pub fn move_down(&mut self, name: &str, field: &str, from: u32, to: u32)
         requires below { to < from }
         requires free { IfSome (fields_of self.old name.now field.now) (λ h. fin.get h.values to ≡ None) }

@@ -11,7 +11,7 @@ use std::alloc::Global;
 use std::collections::BTreeMap;
 use value_lists::NoMemory;
 
-/// A value more in a field of a type. The only error is want of memory.
+/// A value more in a field of a type.
 fn enter_in(
     alloc: Global,
     fields: &mut BTreeMap<String, FieldIndex>,
@@ -59,7 +59,7 @@ fn move_in(fields: &mut BTreeMap<String, FieldIndex>, field: &str, from: u32, to
     }
 }
 
-/// A value more. The only error is want of memory.
+/// A value more.
 pub fn enter_at(
     alloc: Global,
     types: &mut BTreeMap<String, BTreeMap<String, FieldIndex>>,

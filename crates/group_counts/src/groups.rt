@@ -46,7 +46,7 @@ impl<'a> Model for Groups<'a> {
         × AreKept (outputs_by (option_map (λ by. by.now) g.by)) (g.views * 137438953472) (get_by_text g.texts) };
 }
 
-/// The groups of numbers, rising. The only error is want of memory.
+/// The groups of numbers, rising.
 fn push_numbers(
     alloc: Global,
     groups: &mut Vec<Group>,
@@ -65,7 +65,7 @@ fn push_numbers(
     Ok(())
 }
 
-/// The groups of texts, rising. The only error is want of memory.
+/// The groups of texts, rising.
 fn push_texts(
     alloc: Global,
     groups: &mut Vec<Group>,
@@ -86,7 +86,7 @@ fn push_texts(
 }
 
 impl<'a> Groups<'a> {
-    /// The groups of no documents, as a query asks for them; takes no memory.
+    /// The groups of no documents, as a query asks for them.
     pub fn new(alloc: Global, query: &'a Query) -> Groups<'a>
         ensures by { result.by ≡ query.now.group }
         ensures views { result.views ≡ 0 }
@@ -128,7 +128,7 @@ impl<'a> Groups<'a> {
         Ok(())
     }
 
-    /// The groups of the documents that came, rising by value. The only error is want of memory.
+    /// The groups of the documents that came, rising by value.
     pub fn finish(self, alloc: Global) -> Result<GroupList, NoMemory>
         ensures { (docs : List Contents) → IsGathered docs self.entry
             → IfOk result (λ groups. groups ≡ groups_of self.entry.by docs) }

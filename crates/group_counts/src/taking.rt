@@ -20,7 +20,7 @@ use std::collections::BTreeMap;
 use value_lists::NoMemory;
 use view_changes::Shown;
 
-/// A place for the number or the text that a document has in the field. The only error is want of memory.
+/// A place for the number or the text that a document has in the field.
 fn place_document(
     alloc: Global,
     by: &GroupBy,
@@ -46,7 +46,7 @@ fn place_document(
     }
 }
 
-/// Places for the values of the documents at some hits. The only error is want of memory.
+/// Places for the values of the documents at some hits.
 pub fn place_all<V: Shown>(
     alloc: Global,
     by: &GroupBy,
@@ -72,7 +72,7 @@ pub fn place_all<V: Shown>(
     Ok(())
 }
 
-/// A document more, where it has a number or a text in the field; takes no memory.
+/// A document more, where it has a number or a text in the field.
 fn take_document(
     by: &GroupBy,
     numbers: &mut BTreeMap<i64, Tally>,
@@ -99,7 +99,7 @@ fn take_document(
     }
 }
 
-/// The documents at some hits more; takes no memory.
+/// The documents at some hits more.
 pub fn take_all<V: Shown>(
     by: &GroupBy,
     numbers: &mut BTreeMap<i64, Tally>,

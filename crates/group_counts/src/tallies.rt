@@ -16,7 +16,7 @@ use std::alloc::Global;
 use std::collections::BTreeMap;
 use value_lists::NoMemory;
 
-/// A place for a number, if it has none. The only error is want of memory.
+/// A place for a number, if it has none.
 pub fn place_number(
     alloc: Global,
     tallies: &mut BTreeMap<i64, Tally>,
@@ -34,7 +34,7 @@ pub fn place_number(
     Ok(())
 }
 
-/// A place for a text, if it has none. The only error is want of memory.
+/// A place for a text, if it has none.
 pub fn place_text(
     alloc: Global,
     tallies: &mut BTreeMap<String, Tally>,
@@ -53,7 +53,7 @@ pub fn place_text(
     Ok(())
 }
 
-/// A document with a number more; takes no memory.
+/// A document with a number more.
 pub fn take_number(
     tallies: &mut BTreeMap<i64, Tally>,
     number: i64,
@@ -71,7 +71,7 @@ pub fn take_number(
     }
 }
 
-/// A document with a text more; takes no memory.
+/// A document with a text more.
 pub fn take_text(
     tallies: &mut BTreeMap<String, Tally>,
     text: &str,

@@ -39,7 +39,7 @@ fn take_values(values: &mut [Option<i128>], kinds: &[OutputKind], document: &Doc
     }
 }
 
-/// Outputs of no documents. The only error is want of memory.
+/// Outputs of no documents.
 fn first_values(alloc: Global, kinds: &[OutputKind]) -> Result<Vec<Option<i128>>, NoMemory>
     ensures value { IfOk result (λ values. values.items ≡ (told_of kinds.now []).values) }
     ensures small { IfOk result (λ values. AreSmall 0 values.items) }
@@ -51,7 +51,7 @@ fn first_values(alloc: Global, kinds: &[OutputKind]) -> Result<Vec<Option<i128>>
     Ok(values)
 }
 
-/// Outputs with their values. The only error is want of memory.
+/// Outputs with their values.
 fn outputs_of(
     alloc: Global,
     kinds: &[OutputKind],
@@ -72,7 +72,7 @@ fn outputs_of(
 }
 
 impl Tally {
-    /// Of no documents. The only error is want of memory.
+    /// Of no documents.
     pub fn new(alloc: Global, kinds: &[OutputKind]) -> Result<Tally, NoMemory>
         ensures { IfOk result (λ tally. tally ≡ told_of kinds.now []) }
     {
@@ -82,7 +82,7 @@ impl Tally {
         })
     }
 
-    /// A document more; takes no memory.
+    /// A document more.
     pub fn take(&mut self, kinds: &[OutputKind], document: &Document)
         requires { self.old.count < 9223372036854775808 }
         ensures { self.new ≡ told_with kinds.now document.now self.old }
@@ -98,7 +98,7 @@ impl Tally {
         self.count > 0
     }
 
-    /// The group of these documents. The only error is want of memory.
+    /// The group of these documents.
     pub fn group(
         &self,
         alloc: Global,

@@ -175,6 +175,7 @@ module _ (c : LaneState) (j : Job) (left : ℕ) (row : Low) (t : Standing) (of :
 pub record IsOnward (x y : LaneState) : Type 0 where
   pub lane : y.lane ≡ x.lane
   pub rules : y.rules ≡ x.rules
+  pub shelf : y.shelf ≡ x.shelf
   pub newest : y.newest ≡ x.newest
   pub spare : y.spare ≡ x.spare
   pub parted : vec_len y.parts ≡ vec_len x.parts
@@ -185,6 +186,7 @@ pub onward : (x y : LaneState) → y ≡ record x { journal = y.journal; last = 
 onward x y e q = record {
   lane = ap (λ (z : LaneState). z.lane) e;
   rules = ap (λ (z : LaneState). z.rules) e;
+  shelf = ap (λ (z : LaneState). z.shelf) e;
   newest = ap (λ (z : LaneState). z.newest) e;
   spare = ap (λ (z : LaneState). z.spare) e;
   parted = ap (λ (z : LaneState). vec_len z.parts) e;
@@ -216,7 +218,7 @@ module _ (x : Work) (y : LaneState) (places : StampPlaces) (j : Job) (left : ℕ
   then_of p = record { state = y; drawn = x.drawn; places = places; has_room = x.has_room; job = Some (record j { left = left; phase = p }) }
 
   same-value : (p : Phase) → value_of (then_of p) now planned takes ≡ with_run (value_of x given planned takes) (journal_of y) now (under_way_of j.line j.operation j.distributor (progress_of p) left)
-  same-value p = rw (on.lane, on.rules) refl
+  same-value p = rw (on.lane, on.rules, on.shelf) refl
 
   went : (p : Phase) → WentOn (under_way_of j.line j.operation j.distributor (progress_of j.phase) j.left) (progress_of p) (value_of x given planned takes) (value_of (then_of p) now planned takes)
   went p = record { left = left; fewer = fewer; after = same-value p; run = run }

@@ -3,6 +3,7 @@ pub mod Served
 -- Of this crate alone.
 mod JobEnds
 mod Stamps
+mod Generations
 mod Working
 mod Fitting
 mod Shortfalls

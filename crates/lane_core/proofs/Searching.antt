@@ -71,6 +71,7 @@ pub onward-rested : (x y : LaneState) (d : ℕ) → y ≡ record x { journal = y
 onward-rested x y d e q rests others parted = record {
   lane = lane_is;
   rules = rules_are;
+  shelf = ap (λ (z : LaneState). z.shelf) e;
   newest = ap (λ (z : LaneState). z.newest) e;
   spare = ap (λ (z : LaneState). z.spare) e;
   parted = parted;
@@ -202,7 +203,7 @@ module _ (x : Work) (j : Job) (w : IsWork x) (is : x.job ≡ Some j) (begun : ju
 
       value_is : value_of (record { state = y; drawn = x.drawn; places = x.places; has_room = x.has_room; job = spent (Some j) }) now planned takes
           ≡ with_run (value_of x given planned takes) (journal_of y) now (under_way_of j.line j.operation j.distributor progress.Short (j.left - 1))
-      value_is = rw (on.lane, on.rules) refl
+      value_is = rw (on.lane, on.rules, on.shelf) refl
 
       pub went-searched : OfNew (λ line o s stamp. GoesOnWith x.state y line o j.distributor s stamp) → WentAs progress.Short (under_way_in x.job) (value_of x given planned takes) (value_of after now planned takes)
       went-searched h = subst (λ (o : Option Job). WentAs progress.Short (under_way_in o) (value_of x given planned takes) (value_of (record { state = y; drawn = x.drawn; places = x.places; has_room = x.has_room; job = spent o }) now planned takes)) (sym is)

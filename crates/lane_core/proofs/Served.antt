@@ -53,6 +53,7 @@ module _ (s : Setting) (planned : List Fate) (lane : ℕ) (deeds : List Deed) (v
     serves_after deed J given room is after holds rising does = record {
       lane_is = ap (λ (n : LaneValue). n.lane) after ∙ is.lane_is;
       rules_are = ap (λ (n : LaneValue). n.rules) after ∙ is.rules_are;
+      types_are = ap (λ (n : LaneValue). n.types) after ∙ is.types_are;
       planned_are = ap (λ (n : LaneValue). n.planned) after ∙ is.planned_are;
       idle = ap (λ (n : LaneValue). n.under_way) after ∙ is.idle;
       rising = rising;
@@ -105,6 +106,7 @@ module _ (s : Setting) (planned : List Fate) (lane : ℕ) (deeds : List Deed) (v
     serves_room is after = subst (IsServing s planned lane deeds) (sym after) (record {
       lane_is = is.lane_is;
       rules_are = is.rules_are;
+      types_are = is.types_are;
       planned_are = is.planned_are;
       idle = is.idle;
       rising = is.rising;
@@ -120,6 +122,7 @@ module _ (s : Setting) (planned : List Fate) (lane : ℕ) (deeds : List Deed) (v
     serves_planned more is after = subst (IsServing s more lane deeds) (sym after) (record {
       lane_is = is.lane_is;
       rules_are = is.rules_are;
+      types_are = is.types_are;
       planned_are = refl;
       idle = is.idle;
       rising = is.rising;

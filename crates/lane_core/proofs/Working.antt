@@ -32,7 +32,7 @@ use Rattle.op_machine.specs.Plans.{IsPlainGet}
 use Rattle.lane_journals.specs.Facts.{AllClosed}
 use Rattle.lane_core.specs.declared.work.Job.{Job}
 use Rattle.lane_core.specs.declared.work.Work.{Work}
-use Rattle.lane_states.specs.LaneStates.{journal_of, IsKept, HasRoom, AreResting, IsSetUp}
+use Rattle.lane_states.specs.LaneStates.{journal_of, IsKept, HasRoom, StaysCarried, AreResting, IsSetUp}
 use Rattle.lane_lives.specs.LaneValues.{drawn}
 use Rattle.lane_keeping.specs.Tidings.{last_state}
 use Rattle.lane_states.specs.declared.lane_state.LaneState.{LaneState}
@@ -84,9 +84,9 @@ work-by w J set_up kept room spare parted resting is lines finds =
     }
 
 -- the value with another journal and another operation
-pub value-by : (a b : Work) (given planned : List Fate) (takes : Bool) (J : List LaneEvent) → b.state.lane ≡ a.state.lane → b.state.rules ≡ a.state.rules → journal_of b.state ≡ J → b.has_room ≡ a.has_room
+pub value-by : (a b : Work) (given planned : List Fate) (takes : Bool) (J : List LaneEvent) → b.state.lane ≡ a.state.lane → b.state.rules ≡ a.state.rules → b.state.shelf ≡ a.state.shelf → journal_of b.state ≡ J → b.has_room ≡ a.has_room
     → value_of b given planned takes ≡ record (value_of a given planned takes) { journal = J; under_way = under_way_in b.job }
-value-by a b given planned takes J lane rules journal room = rw (lane, rules, journal, room) refl
+value-by a b given planned takes J lane rules shelf journal room = rw (lane, rules, shelf, journal, room) refl
 
 -- ---- who holds a state
 
@@ -236,3 +236,34 @@ work-new w set_up kept journal newest parts spare room unmade none counts places
       lasts = tt;
     }))
     (finds-none (place_of w.places) places)
+
+-- ---- a settling
+
+module _ (x : Work) (y : LaneState) (after : y ≡ record x.state { journal = y.journal; shelf = y.shelf }) (events : y.journal.events ≡ x.state.journal.events) where
+  lane_is : y.lane ≡ x.state.lane
+  lane_is = ap (λ (z : LaneState). z.lane) after
+
+  rules_are : y.rules ≡ x.state.rules
+  rules_are = ap (λ (z : LaneState). z.rules) after
+
+  journal_is : journal_of y ≡ journal_of x.state
+  journal_is = ap (λ v. past v.items) events
+
+  pub work-settled : IsWork x → IsKept y → IsWork (record { state = y; drawn = x.drawn; places = x.places; has_room = x.has_room; job = x.job })
+  work-settled k kept =
+      let newest : y.newest ≡ x.state.newest = ap (λ (z : LaneState). z.newest) after in
+      let parts : y.parts ≡ x.state.parts = ap (λ (z : LaneState). z.parts) after in
+      let same : y.spare ≡ x.state.spare = ap (λ (z : LaneState). z.spare) after in
+      let room : HasRoom 0 x.state = k.room in
+      work-by (record { state = y; drawn = x.drawn; places = x.places; has_room = x.has_room; job = x.job }) (journal_of x.state)
+      (rw (lane_is, rules_are) k.set_up) kept (rw (events, same) room) (same ∙ k.spare_is)
+      (λ made. rw parts (k.parted made))
+      (λ d. rw (lane_is, rules_are, parts) (k.resting d)) journal_is
+      (rw (lane_is, rules_are, newest) (lines-of x k))
+      (subst (λ (xs : List LaneEvent). FindsEntries (place_of x.places) xs) (sym (past-past x.state.journal.events.items)) k.finds)
+
+  pub carried-settled : StaysCarried x.state y
+  carried-settled given h = rw (journal_is, ap (λ (z : LaneState). z.last) after, ap (λ (z : LaneState). z.late) after) h
+
+  pub value-settled : (y.shelf).opening ≡ (x.state.shelf).opening → (given planned : List Fate) (takes : Bool) → value_of (record { state = y; drawn = x.drawn; places = x.places; has_room = x.has_room; job = x.job }) given planned takes ≡ value_of x given planned takes
+  value-settled opening given planned takes = rw (lane_is, rules_are, opening, journal_is) refl

@@ -13,3 +13,4 @@ pub mod Upkeeping
 pub mod Undisturbed
 pub mod Advancing
 pub mod Runs
+pub mod Showing

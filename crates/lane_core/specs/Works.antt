@@ -61,6 +61,7 @@ abbrev pub value_of : Work → List Fate → List Fate → Bool → LaneValue
 value_of w given planned takes_plans = record {
   lane = w.state.lane;
   rules = w.state.rules;
+  types = ((w.state.shelf).opening).types;
   journal = journal_of w.state;
   given = given;
   planned = planned;

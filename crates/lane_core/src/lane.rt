@@ -1,4 +1,4 @@
-ghost use Rattle.std.specs.Prelude.{◌≡◌, ◌≤◌, ◌<◌, [], ◌∷◌, true, false, None, Some, IsSome, IfSome, IfOk, OnOk, OnErr, ℕ, ◌^◌, Option, ◌⊎◌};
+ghost use Rattle.std.specs.Prelude.{◌≡◌, ◌≤◌, ◌<◌, [], ◌∷◌, true, false, None, Some, IsSome, IfSome, IfOk, OnOk, OnErr, length, ℕ, ◌^◌, Option, ◌⊎◌};
 ghost use Rattle.std.specs.Option.{option_copied};
 ghost use Rattle.bucket_ids.specs.Buckets.{IsIn};
 ghost use Rattle.global_ids.specs.Keys as keys;
@@ -18,13 +18,16 @@ ghost use Rattle.op_machine.specs.Plans.{IsPlainGet};
 ghost use Rattle.lane_keeping.specs.Tidings.{heard_next, announced, stopped_next, started_next, last_state};
 ghost use Rattle.lane_lives.specs.LaneValues.{LaneValue, new_value, IsLaneValue, IsBeginning, BeginsAtOwner, IsAt, MayClose, closed_by};
 ghost use Rattle.lane_core.specs.Advancing.{IsAdvance, IsOutcome};
-ghost use Rattle.lane_states.specs.LaneStates.{IsSetUp, change_count};
+ghost use Rattle.lane_states.specs.LaneStates.{IsSetUp};
+ghost use Rattle.lane_states.specs.Told.{IsUnused, change_count};
 ghost use Rattle.lane_keeping.specs.Shown.{node_or_new, HasEntries, HasRows};
 ghost use Rattle.lane_lives.specs.Upkept.{IsUpkept};
 ghost use Rattle.lane_lives.specs.declared.progress.Progress.TheVariants as progress;
 ghost use Rattle.lane_lives.specs.Settings.{IsSetting};
 ghost use Rattle.lane_lives.specs.Serving.{IsServing};
 ghost use Rattle.lane_core.specs.Runs.{IsLineRun, IsFinish};
+ghost use Rattle.lane_core.specs.Showing.{view_in};
+ghost use Rattle.lane_changes.specs.Changes.{changes_of};
 ghost use Rattle.lane_lives.specs.Upkeep.{IsSpan, MayBeUpkept};
 ghost use Rattle.lane_core.specs.Undisturbed.{IsUndisturbed};
 ghost use Rattle.upkeep_spans.specs.declared.answers.Upkeep.{Upkeep};
@@ -45,9 +48,11 @@ use lane_lives::answers::{Advance, Begin};
 use lane_lives::spans::UpkeepSpan;
 use lane_states::known_owner::KnownOwner;
 use lane_states::written::entry_in;
+use lane_views::LaneView;
 use messages::{Operation, Outcome};
 use node_sets::NodeSet;
 use service_layer::NodePart;
+use shelves::PlainShelf;
 use stamps::Stamp;
 use std::alloc::Global;
 use std::marker::Model;
@@ -82,13 +87,22 @@ impl<C: Carrier + Drop> Model for Lane<C> {
 
 impl<C: Carrier + Drop> Lane<C> {
     /// A lane in which nothing happened, of this number among those of so many bits.
-    pub fn new(alloc: Global, lane: u8, bits: u8, rules: Rules, carrier: C) -> Lane<C>
+    pub fn new(
+        alloc: Global,
+        lane: u8,
+        bits: u8,
+        rules: Rules,
+        carrier: C,
+        shelf: PlainShelf,
+    ) -> Lane<C>
         requires set_up { IsSetUp (record { bits = bits; low = lane }) rules }
         requires unused { C.given carrier ≡ [] }
-        ensures { result ≡ new_value (record { bits = bits; low = lane }) rules [] (C.planned carrier) (C.takes_plans carrier) }
+        requires shelf { IsUnused shelf }
+        ensures { result ≡ new_value (record { bits = bits; low = lane }) rules (shelf.opening).types []
+            (C.planned carrier) (C.takes_plans carrier) }
     {
         Lane {
-            work: Work::new(alloc, Bucket::new(bits, u64::from(lane)), rules),
+            work: Work::new(alloc, Bucket::new(bits, u64::from(lane)), rules, shelf),
             owner: None,
             carrier: Watching::new(alloc, carrier),
         }
@@ -292,6 +306,28 @@ impl<C: Carrier + Drop> Lane<C> {
         self.work.state.change_count()
     }
 
+    // ---- what searches see
+
+    /// Shows all changes that its events gave so far. The only error is want of memory; nothing is lost then, and the lane
+    /// is as it was but for what is shown.
+    pub fn settle(&mut self) -> Result<(), NoMemory>
+        ensures { self.new ≡ self.old }
+    {
+        self.work.settle()
+    }
+
+    /// Its view, where all changes of its events are shown: right behind a settling.
+    pub fn shown(&self) -> Option<&LaneView>
+        ensures view { IfSome result (λ view. view.now ≡ view_in self.now) }
+        ensures counted { IfSome result (λ view. (view.now).generation ≡ length (changes_of self.now.journal)) }
+    {
+        let view = self.work.state.shown()?.view();
+        if view.generation() == u64::MAX {
+            return None;
+        }
+        Some(view)
+    }
+
     /// The entry that was written with a stamp.
     pub fn entry(&self, stamp: Stamp) -> Option<&Entry>
         ensures { option_copied result ≡ entry_at stamp self.now.journal }
@@ -321,20 +357,24 @@ impl<C: Carrier + Drop> Lane<C> {
     }
 }
 
-/// The lane of a number with its carrier, where the first state was published and heard by all distributors.
+/// The lane of a number with its carrier, where the first state was published and heard by all distributors. Its shelf
+/// is over the types of the setting.
 pub fn open_lane<C: Carriers>(
     alloc: Global,
     lane: u8,
     setting: &Setting,
+    shelf: PlainShelf,
     carriers: &mut C,
 ) -> Result<Lane<C::One>, NoMemory>
     requires setting { IsSetting setting.now }
     requires lane { lane < 2 ^ setting.now.bits }
+    requires unused { IsUnused shelf }
+    requires types { (shelf.opening).types ≡ setting.now.schema }
     ensures new { IfOk result (IsServing setting.now (C.plans carriers.old lane) lane []) }
     ensures same { (other : ℕ) → C.plans carriers.new other ≡ C.plans carriers.old other }
 {
     let carrier = carriers.make(alloc, lane)?;
-    let mut made = Lane::new(alloc, lane, setting.bits, setting.rules, carrier);
+    let mut made = Lane::new(alloc, lane, setting.bits, setting.rules, carrier, shelf);
     made.room()?;
     made.announce(&setting.initial, NodeSet::none());
     // that its journal is legal is known once it is read

@@ -3,6 +3,7 @@ ghost use Rattle.lane_lives.specs.LaneValues.{closed_by, new_value};
 ghost use Rattle.lane_core.specs.Advancing.{IsOutcome};
 ghost use Rattle.lane_core.specs.Works.{IsWork, OfValues, IsToClosePhase, IsToClose, IsEndedBy, value_of, SameValue};
 ghost use Rattle.lane_states.specs.LaneStates.{StaysCarried, journal_of, IsCarriedBy, HasRoom, IsSetUp};
+ghost use Rattle.lane_states.specs.Told.{IsUnused};
 ghost use Rattle.carriers.specs.declared.fate.Fate.{Fate};
 ghost use Rattle.cluster_states.specs.Publishing.{publish_fault};
 ghost use Rattle.lane_journals.specs.Places.{told};
@@ -29,6 +30,7 @@ use messages::{Outcome, SharedOperation};
 use node_sets::NodeSet;
 use op_machine::OpMachine;
 use operation_keeping::laws::operations_end;
+use shelves::PlainShelf;
 use stamps::{Stamp, StampPlaces};
 use std::alloc::Global;
 use std::collections::BTreeMap;
@@ -168,16 +170,17 @@ pub struct Job {
 
 impl Work {
     /// A lane in which nothing happened.
-    pub fn new(alloc: Global, lane: Bucket, rules: Rules) -> Work
-        requires { IsSetUp lane rules }
+    pub fn new(alloc: Global, lane: Bucket, rules: Rules, shelf: PlainShelf) -> Work
+        requires set_up { IsSetUp lane rules }
+        requires unused { IsUnused shelf }
         ensures keeps { IsWork result }
         ensures carried { IsCarriedBy result.state [] }
         ensures value { (given planned : List Fate) (takes : Bool) → value_of result given planned takes
-            ≡ new_value lane rules given planned takes }
+            ≡ new_value lane rules (shelf.opening).types given planned takes }
     {
         late_messages_wait();
         Work {
-            state: LaneState::new(alloc, lane, rules),
+            state: LaneState::new(alloc, lane, rules, shelf),
             drawn: BTreeMap::new(alloc),
             places: StampPlaces::none(alloc),
             has_room: false,
@@ -198,9 +201,20 @@ impl Work {
         }
         self.need_part(31)?;
         self.state.journal.events.reserve(33 + self.state.spare)?;
+        self.state.journal.kept.reserve(1)?;
         self.state.spare += 33;
         self.has_room = true;
         Ok(())
+    }
+
+    /// Shows all changes of the lane's view that its events gave.
+    pub fn settle(&mut self) -> Result<(), NoMemory>
+        requires keeps { IsWork self.old }
+        ensures keeps { IsWork self.new }
+        ensures carried { StaysCarried self.old.state self.new.state }
+        ensures same { SameValue self.old self.new }
+    {
+        self.state.settle()
     }
 
     /// Publishes a state, for which room was made.

@@ -47,14 +47,15 @@ pub heard_first : (s : ClusterState) (d : ℕ) → d < 32 → IsSome (held d (hi
 heard_first s d h = ap is_some (held_told 0 s [] d h (has_none d))
 
 -- a lane that was made, for which room was made, and where the first state was announced to all
-pub opened_serves : (s : Setting) (planned carried : List Fate) (takes_plans : Bool) (lane deaf : ℕ) (made roomed v : LaneValue) → carried ≡ planned → made ≡ new_value (bucket_in s lane) s.rules [] carried takes_plans
+pub opened_serves : (s : Setting) (planned carried : List Fate) (takes_plans : Bool) (lane deaf : ℕ) (made roomed v : LaneValue) → carried ≡ planned → made ≡ new_value (bucket_in s lane) s.rules s.schema [] carried takes_plans
     → roomed ≡ record made { has_room = true } → ((n : ℕ) → has_node deaf n ≡ false) → v ≡ record roomed { journal = announced deaf s.initial roomed.journal; has_room = false } → IsLaneValue v → IsServing s planned lane [] v
 opened_serves s planned carried takes_plans lane deaf made roomed v same new room none is holds =
-    let first : v ≡ record (new_value (bucket_in s lane) s.rules [] carried takes_plans) { journal = announced deaf s.initial [] } =
+    let first : v ≡ record (new_value (bucket_in s lane) s.rules s.schema [] carried takes_plans) { journal = announced deaf s.initial [] } =
     is ∙ (λ i. record (room i) { journal = announced deaf s.initial (room i).journal; has_room = false }) ∙ (λ i. record (new i) { journal = announced deaf s.initial (new i).journal; has_room = false }) in
     record {
       lane_is = ap (λ (x : LaneValue). x.lane) first;
       rules_are = ap (λ (x : LaneValue). x.rules) first;
+      types_are = ap (λ (x : LaneValue). x.types) first;
       planned_are = ap (λ (x : LaneValue). x.planned) first ∙ same;
       idle = ap (λ (x : LaneValue). x.under_way) first;
       rising = tt;

@@ -1,10 +1,11 @@
--- What a lane is to its callers: its bucket and its rules, its journal, the fates that its carrier gave and planned,
--- and the operation under way; and what its calls make of that.
+-- What a lane is to its callers: its bucket and its rules, the types of its documents, its journal, the fates that its
+-- carrier gave and planned, and the operation under way; and what its calls make of that.
 use Rattle.std.specs.Prelude.{◌≡◌, ◌⊎◌, ℕ, ◌+◌, ◌<◌, Bool, true, false, IsSome, List, [], ◌∷◌, Option, None, Some, refl, if◌then◌else◌}
 use Rattle.std.specs.Coded.{Coded, code_by, coded×, coded_ℕ, coded_bool, coded_list, coded_option}
 use Rattle.bucket_ids.specs.Buckets.{Low}
 use Rattle.stamps.specs.declared.stamp.Stamp.{Stamp}
 use Rattle.cluster_states.specs.declared.cluster_state.ClusterState.{ClusterState}
+use Rattle.doc_types.specs.SchemaCodes.{Types, types_code}
 use Rattle.ideal_nodes.specs.Placement.{IsOwner}
 use Rattle.carriers.specs.declared.fate.Fate.{Fate}
 use Rattle.carriers.specs.contracts.fate.Fate as fates
@@ -37,6 +38,7 @@ use Rattle.lane_lives.specs.declared.answers.Begin.TheVariants as begin
 pub record LaneValue : Type 0 where
   pub lane : Low
   pub rules : Rules
+  pub types : Types
   -- the newest event at its head
   pub journal : List LaneEvent
   -- the fates that the carrier gave, in order, and those that were planned
@@ -48,27 +50,28 @@ pub record LaneValue : Type 0 where
   pub under_way : Option UnderWay
 
 abbrev pub Parts : Type 0
-Parts = (Low × Rules) × ((List LaneEvent × (List Fate × List Fate)) × ((Bool × Bool) × Option UnderWay))
+Parts = (Low × (Rules × Types)) × ((List LaneEvent × (List Fate × List Fate)) × ((Bool × Bool) × Option UnderWay))
 
 abbrev pub low_code : Coded Low
 low_code = code_by (ℕ × ℕ) (coded× coded_ℕ coded_ℕ) (λ b. (b.bits, b.low)) (λ p. record { bits = p.0; low = p.1 }) (λ _. refl)
 
 abbrev pub parts_code : Coded Parts
-parts_code = coded× (coded× low_code rules.the_row.coded)
+parts_code = coded× (coded× low_code (coded× rules.the_row.coded types_code))
     (coded× (coded× (coded_list events.the_row.coded) (coded× (coded_list fates.the_row.coded) (coded_list fates.the_row.coded)))
     (coded× (coded× coded_bool coded_bool) (coded_option under.the_row.coded)))
 
 abbrev pub lane_code : Coded LaneValue
 lane_code = code_by Parts parts_code
-    (λ v. ((v.lane, v.rules), ((v.journal, (v.given, v.planned)), ((v.takes_plans, v.has_room), v.under_way))))
-    (λ p. record { lane = p.0.0; rules = p.0.1; journal = p.1.0.0; given = p.1.0.1.0; planned = p.1.0.1.1; takes_plans = p.1.1.0.0; has_room = p.1.1.0.1; under_way = p.1.1.1 })
+    (λ v. ((v.lane, (v.rules, v.types)), ((v.journal, (v.given, v.planned)), ((v.takes_plans, v.has_room), v.under_way))))
+    (λ p. record { lane = p.0.0; rules = p.0.1.0; types = p.0.1.1; journal = p.1.0.0; given = p.1.0.1.0; planned = p.1.0.1.1; takes_plans = p.1.1.0.0; has_room = p.1.1.0.1; under_way = p.1.1.1 })
     (λ _. refl)
 
 -- nothing happened in the lane
-abbrev pub new_value : Low → Rules → List Fate → List Fate → Bool → LaneValue
-new_value lane rules given planned takes_plans = record {
+abbrev pub new_value : Low → Rules → Types → List Fate → List Fate → Bool → LaneValue
+new_value lane rules types given planned takes_plans = record {
   lane = lane;
   rules = rules;
+  types = types;
   journal = [];
   given = given;
   planned = planned;

@@ -15,6 +15,7 @@ bucket_in s lane = lane_bucket s.bits lane
 pub record IsServing (s : Setting) (planned : List Fate) (lane : ℕ) (deeds : List Deed) (v : LaneValue) : Type 0 where
   pub lane_is : v.lane ≡ bucket_in s lane
   pub rules_are : v.rules ≡ s.rules
+  pub types_are : v.types ≡ s.schema
   pub planned_are : v.planned ≡ planned
   pub idle : v.under_way ≡ None
   pub rising : AreRising (lines_of deeds)

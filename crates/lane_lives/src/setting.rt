@@ -1,8 +1,9 @@
 use cluster_states::ClusterState;
 use distributor_part::Rules;
+use doc_types::Schema;
 
 /// What a session is set to.
-#[derive(Clone, Copy, PartialEq, Eq)]
+#[derive(Drop)]
 pub struct Setting {
     /// How many low bits of a key tell the lanes apart, 1 to 6.
     pub bits: u8,
@@ -10,4 +11,6 @@ pub struct Setting {
     pub rules: Rules,
     /// The cluster state that is published first.
     pub initial: ClusterState,
+    /// Which types of documents it has.
+    pub schema: Schema,
 }

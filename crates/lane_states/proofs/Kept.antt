@@ -20,9 +20,10 @@ use Rattle.lane_keeping.specs.NodeKeeping.{NodeKeeps}
 use Rattle.lane_keeping.specs.LaneKeeping.{node_in, Keeps}
 use Rattle.lane_changes.specs.Changes.{TellsNothing}
 use Rattle.lane_states.specs.Accepting.{AreAccepted}
-use Rattle.lane_states.specs.LaneStates.{change_count, IsComing, AreStopped, IsKeptBy}
+use Rattle.lane_states.specs.LaneStates.{IsComing, AreStopped, IsKeptBy}
 use Rattle.lane_states.proofs.Accepting.{accepted-stays}
-use Rattle.lane_states.proofs.Counts.{no-stop, count-quiet}
+use Rattle.lane_states.specs.Told.{Tells, IsTold}
+use Rattle.lane_states.proofs.Counts.{no-stop, told-quiet}
 use Rattle.lane_states.proofs.Stops.{stops-on}
 
 pub each-more : {P Q : Late → Type 0} (late : List Late) → ((l : Late) → P l → Q l) → Each P late → Each Q late
@@ -53,35 +54,35 @@ length-kept l (m ∷ late) = by_test (nat_le m.due l.due) (length-kept l late)
     by_test true more = omega (arith, more)
     by_test false more = omega arith
 
-module _ {lane : Low} {rules : Rules} {J : List LaneEvent} {newest : Option ClusterState} {last : ℕ} {nodes : List Node} {parts : List Part} {late : List Late} {stops told : ℕ} (k : IsKeptBy lane rules J newest last nodes parts late stops told) where
+module _ {lane : Low} {rules : Rules} {J : List LaneEvent} {newest : Option ClusterState} {last : ℕ} {nodes : List Node} {parts : List Part} {late : List Late} {stops : ℕ} {t : Tells} (k : IsKeptBy lane rules J newest last nodes parts late stops t) where
   -- the journal is the same
-  pub kept_still : {nodes2 : List Node} {parts2 : List Part} → length nodes ≤ length nodes2 → Keeps lane rules J newest last nodes2 parts2 → AreAccepted lane rules J parts2 → IsKeptBy lane rules J newest last nodes2 parts2 late stops told
+  pub kept_still : {nodes2 : List Node} {parts2 : List Part} → length nodes ≤ length nodes2 → Keeps lane rules J newest last nodes2 parts2 → AreAccepted lane rules J parts2 → IsKeptBy lane rules J newest last nodes2 parts2 late stops t
   kept_still {nodes2} more keeps accepted = record { small = k.small; keeps = keeps; coming = still-coming J nodes nodes2 late more k.coming; counted = k.counted; stops_are = k.stops_are; accepted = accepted; told_is = k.told_is }
 
   -- one event more, which sends nothing and gives no change
-  pub kept_more : {e : LaneEvent} {newest2 : Option ClusterState} {parts2 : List Part} → Keeps lane rules (e ∷ J) newest2 last nodes parts2 → TellsNothing e → AreAccepted lane rules J parts2 → IsKeptBy lane rules (e ∷ J) newest2 last nodes parts2 late stops told
-  kept_more {e} {newest2} {parts2} keeps nothing accepted = record { small = k.small; keeps = keeps; coming = coming-stays J e nodes late k.coming; counted = (let le = k.counted in omega arith); stops_are = stops-on J e stops (no-stop e nothing) k.stops_are; accepted = accepted-stays lane rules J e parts2 accepted; told_is = k.told_is ∙ count-quiet J e nothing }
+  pub kept_more : {e : LaneEvent} {newest2 : Option ClusterState} {parts2 : List Part} → Keeps lane rules (e ∷ J) newest2 last nodes parts2 → TellsNothing e → AreAccepted lane rules J parts2 → IsKeptBy lane rules (e ∷ J) newest2 last nodes parts2 late stops t
+  kept_more {e} {newest2} {parts2} keeps nothing accepted = record { small = k.small; keeps = keeps; coming = coming-stays J e nodes late k.coming; counted = (let le = k.counted in omega arith); stops_are = stops-on J e stops (no-stop e nothing) k.stops_are; accepted = accepted-stays lane rules J e parts2 accepted; told_is = told-quiet J e t nothing k.told_is }
 
   -- a node took a message
-  pub kept_taken : {n : ℕ} {r : NotedReply} {nodes2 : List Node} {told2 : ℕ} → length nodes ≤ length nodes2 → Keeps lane rules (Delivered n r ∷ J) newest last nodes2 parts → told2 ≡ change_count (Delivered n r ∷ J)
-      → IsKeptBy lane rules (Delivered n r ∷ J) newest last nodes2 parts late stops told2
+  pub kept_taken : {n : ℕ} {r : NotedReply} {nodes2 : List Node} {t2 : Tells} → length nodes ≤ length nodes2 → Keeps lane rules (Delivered n r ∷ J) newest last nodes2 parts → IsTold (Delivered n r ∷ J) t2
+      → IsKeptBy lane rules (Delivered n r ∷ J) newest last nodes2 parts late stops t2
   kept_taken {n} {r} {nodes2} more keeps told_is = record { small = k.small; keeps = keeps; coming = coming-stays J (Delivered n r) nodes2 late (still-coming J nodes nodes2 late more k.coming); counted = (let le = k.counted in omega arith); stops_are = k.stops_are; accepted = accepted-stays lane rules J (Delivered n r) parts k.accepted; told_is = told_is }
 
   -- a message is sent
-  pub kept_sent : {n v d to : ℕ} {body : NotedBody} → Keeps lane rules (Sent n v d to body ∷ J) newest (last + 1) nodes parts → IsKeptBy lane rules (Sent n v d to body ∷ J) newest (last + 1) nodes parts late stops told
-  kept_sent {n} {v} {d} {to} {body} keeps = record { small = k.small; keeps = keeps; coming = coming-stays J (Sent n v d to body) nodes late k.coming; counted = (let le = k.counted in omega arith); stops_are = k.stops_are; accepted = accepted-stays lane rules J (Sent n v d to body) parts k.accepted; told_is = k.told_is ∙ count-quiet J (Sent n v d to body) tt }
+  pub kept_sent : {n v d to : ℕ} {body : NotedBody} → Keeps lane rules (Sent n v d to body ∷ J) newest (last + 1) nodes parts → IsKeptBy lane rules (Sent n v d to body ∷ J) newest (last + 1) nodes parts late stops t
+  kept_sent {n} {v} {d} {to} {body} keeps = record { small = k.small; keeps = keeps; coming = coming-stays J (Sent n v d to body) nodes late k.coming; counted = (let le = k.counted in omega arith); stops_are = k.stops_are; accepted = accepted-stays lane rules J (Sent n v d to body) parts k.accepted; told_is = told-quiet J (Sent n v d to body) t tt k.told_is }
 
   -- a node stopped or started
-  pub kept_stop : {e : LaneEvent} {stops2 told2 : ℕ} → Keeps lane rules (e ∷ J) newest last nodes parts → AreStopped (λ n. stopped n (history (e ∷ J))) stops2 → told2 ≡ change_count (e ∷ J)
-      → IsKeptBy lane rules (e ∷ J) newest last nodes parts late stops2 told2
+  pub kept_stop : {e : LaneEvent} {stops2 : ℕ} {t2 : Tells} → Keeps lane rules (e ∷ J) newest last nodes parts → AreStopped (λ n. stopped n (history (e ∷ J))) stops2 → IsTold (e ∷ J) t2
+      → IsKeptBy lane rules (e ∷ J) newest last nodes parts late stops2 t2
   kept_stop {e} keeps now told_is = record { small = k.small; keeps = keeps; coming = coming-stays J e nodes late k.coming; counted = (let le = k.counted in omega arith); stops_are = now; accepted = accepted-stays lane rules J e parts k.accepted; told_is = told_is }
 
   -- with one more late message
-  pub kept_late : (l : Late) → IsInFlight J l.number l.message → l.message.receiver < length nodes → IsKeptBy lane rules J newest last nodes parts (kept l late) stops told
+  pub kept_late : (l : Late) → IsInFlight J l.number l.message → l.message.receiver < length nodes → IsKeptBy lane rules J newest last nodes parts (kept l late) stops t
   kept_late l flight there = record { small = k.small; keeps = k.keeps; coming = each-kept (IsComing J nodes) l late (record { flight = flight; there = there }) k.coming; counted = k.counted; stops_are = k.stops_are; accepted = k.accepted; told_is = k.told_is }
 
   -- without the first late message
-  pub kept_first : {l : Late} {rest : List Late} → late ≡ l ∷ rest → IsKeptBy lane rules J newest last nodes parts rest stops told
+  pub kept_first : {l : Late} {rest : List Late} → late ≡ l ∷ rest → IsKeptBy lane rules J newest last nodes parts rest stops t
   kept_first {l} {rest} is = record { small = k.small; keeps = k.keeps; coming = (subst (λ (x : List Late). Each (IsComing J nodes) x) is k.coming).1; counted = k.counted; stops_are = k.stops_are; accepted = k.accepted; told_is = k.told_is }
 
   -- a node that isn't among the stopped ones runs

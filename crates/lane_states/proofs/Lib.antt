@@ -16,4 +16,5 @@ mod Dues
 mod KnownOwners
 mod Nobodies
 mod Owners
+mod Shelving
 mod Stops

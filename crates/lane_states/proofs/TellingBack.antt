@@ -20,7 +20,7 @@ use Rattle.lane_keeping.specs.Laws.{IsNoAsk}
 use Rattle.lane_keeping.proofs.Parts.{part-own, part-others}
 use Rattle.lane_states.specs.declared.lane_state.LaneState.{LaneState}
 use Rattle.lane_states.specs.Accepting.{AreAccepted}
-use Rattle.lane_states.specs.LaneStates.{journal_of, IsKeptBy, IsKept, IsKeptWith, IsKeptWithSome, StaysKept, part_of}
+use Rattle.lane_states.specs.LaneStates.{journal_of, IsKeptBy, IsKept, IsKeptWith, IsKeptWithSome, StaysKept, part_of, tells_of}
 use Rattle.lane_states.specs.Exchanging.{IsAskOf, IsAskerTold, AreTold, IsKeptBack}
 use Rattle.lane_states.proofs.Accepting.{accepted-stays, accepted-but, accepted-told}
 use Rattle.lane_states.proofs.Kept.{kept_more}
@@ -82,7 +82,7 @@ module _ (x b : LaneState) (number : ℕ) (m : Message) (r : Reply) (parts : Lis
   pub kept-told : AreAccepted x.lane x.rules (journal_of x) x.parts.items → AreTold x m r parts
       → (IsNoAsk m.body → Keeps x.lane x.rules (Returned number ∷ K) x.newest x.last b.nodes.items x.parts.items)
       → (IsAskerTold x m r parts → Keeps x.lane x.rules (Returned number ∷ K) x.newest x.last b.nodes.items parts)
-      → IsKeptBy b.lane b.rules (Returned number ∷ journal_of b) b.newest b.last b.nodes.items parts b.late.late b.stopped b.journal.told
+      → IsKeptBy b.lane b.rules (Returned number ∷ journal_of b) b.newest b.last b.nodes.items parts b.late.late b.stopped (tells_of b)
   kept-told accepted (inl other) answered returned = kept_more kept
       (keeps-at (subst (λ (ps : List Part). Keeps x.lane x.rules (Returned number ∷ K) x.newest x.last b.nodes.items ps) (sym other.1) (answered other.0))) tt
       (accepted-at-told (subst (λ (ps : List Part). AreAccepted x.lane x.rules (journal_of x) ps) (sym other.1) accepted))

@@ -1,5 +1,5 @@
 -- The fields of a lane, and what its calls say of them.
-use Rattle.std.specs.Prelude.{◌≡◌, ◌≤◌, ◌<◌, ◌+◌, ◌^◌, min, ℕ, Bool, false, List, [], ◌∷◌, ◌++◌, length, Option, None, vec_len, vec_capacity}
+use Rattle.std.specs.Prelude.{◌≡◌, ◌≤◌, ◌<◌, ◌+◌, ◌^◌, ℕ, Bool, false, List, [], ◌∷◌, ◌++◌, length, Option, None, vec_len, vec_capacity}
 use Rattle.bucket_ids.specs.Buckets.{Low}
 use Rattle.node_sets.specs.Members.{has_node}
 use Rattle.cluster_states.specs.declared.cluster_state.ClusterState.{ClusterState}
@@ -22,7 +22,7 @@ use Rattle.lane_carriage.specs.Carriage.{IsDealt}
 use Rattle.lane_carriage.specs.Waits.{kept_by}
 use Rattle.lane_states.specs.Accepting.{AreAccepted}
 use Rattle.lane_carriage.specs.Carrying.{met_at, DeliversSome, AreCarried}
-use Rattle.lane_changes.specs.Changes.{changes_of}
+use Rattle.lane_states.specs.Told.{Log, Tells, IsTold}
 use Rattle.lane_states.specs.declared.lane_state.LaneState.{LaneState}
 use Rattle.lane_keeping.specs.LaneKeeping.{node_in, part_in, Keeps}
 use Rattle.lane_keeping.specs.Asking.{IsAsking}
@@ -40,10 +40,6 @@ pub record IsSetUp (lane : Low) (rules : Rules) : Type 0 where
 abbrev pub journal_of : LaneState → List LaneEvent
 journal_of c = past c.journal.events.items
 
--- how many changes of its view the events give; at 2^64 - 1 so many or more
-abbrev pub change_count : List LaneEvent → ℕ
-change_count J = min (length (changes_of J)) 18446744073709551615
-
 -- a late message is on its way to a node that is there
 pub record IsComing (J : List LaneEvent) (nodes : List Node) (l : Late) : Type 0 where
   pub flight : IsInFlight J l.number l.message
@@ -55,19 +51,26 @@ AreStopped is_stopped stops = (n : ℕ) → is_stopped n ≡ has_node stops n
 
 -- the lane's bucket is one of a lane, nodes and parts are what the journal says, late messages are on their way, each
 -- message has an event, so that the next number finds room where the journal has some, it is known who is stopped, rows
--- that are said to have been accepted were, and the changes are counted
-pub record IsKeptBy (lane : Low) (rules : Rules) (J : List LaneEvent) (newest : Option ClusterState) (last : ℕ) (nodes : List Node) (parts : List Part) (late : List Late) (stops told : ℕ) : Type 0 where
+-- that are said to have been accepted were, and the changes are counted and kept
+pub record IsKeptBy (lane : Low) (rules : Rules) (J : List LaneEvent) (newest : Option ClusterState) (last : ℕ) (nodes : List Node) (parts : List Part) (late : List Late) (stops : ℕ) (t : Tells) : Type 0 where
   pub small : lane.bits ≤ 6
   pub keeps : Keeps lane rules J newest last nodes parts
   pub coming : Each (IsComing J nodes) late
   pub counted : last ≤ length J
   pub stops_are : AreStopped (λ n. stopped n (history J)) stops
   pub accepted : AreAccepted lane rules J parts
-  pub told_is : told ≡ change_count J
+  pub told_is : IsTold J t
+
+-- what it keeps of the changes of its view
+abbrev pub log_of : LaneState → Log
+log_of c = record { told = c.journal.told; lost = c.journal.lost; kept = c.journal.kept.items }
+
+abbrev pub tells_of : LaneState → Tells
+tells_of c = record { log = log_of c; shelf = c.shelf }
 
 -- with these parts in the place of its own, and with its own
 abbrev pub IsKeptWith : List Part → LaneState → Type 0
-IsKeptWith parts c = IsKeptBy c.lane c.rules (journal_of c) c.newest c.last c.nodes.items parts c.late.late c.stopped c.journal.told
+IsKeptWith parts c = IsKeptBy c.lane c.rules (journal_of c) c.newest c.last c.nodes.items parts c.late.late c.stopped (tells_of c)
 
 abbrev pub IsKept : LaneState → Type 0
 IsKept c = IsKeptWith c.parts.items c

@@ -79,21 +79,23 @@ impl LaneState {
         events_are_kept();
         nodes_hold();
         nodes_tell_changes();
-        let taken = self.nodes[usize::from(message.receiver)].take_at(key, message);
-        let told = taken.changes.len();
-        let Taken { reply, noted, .. } = taken;
+        let Taken {
+            reply,
+            noted,
+            changes,
+        } = self.nodes[usize::from(message.receiver)].take_at(key, message);
         self.journal.push_telling(
             LaneEvent::Delivered {
                 number,
                 reply: noted,
             },
-            told,
+            changes,
         );
         reply
     }
 
     /// Makes room for a message to a node: for its own events and those of the late messages that may fall due
-    /// with it, for its node, and for one more late message.
+    /// with it, for what these change of the view, for its node, and for one more late message.
     pub(crate) fn room_for_message(&mut self, node: u8) -> Result<(), NoMemory>
         requires keeps { IsKept self.old }
         requires spare { HasRoom 0 self.old }
@@ -110,6 +112,9 @@ impl LaneState {
     {
         let events = self.late.len().saturating_add(4).saturating_add(self.spare);
         self.journal.events.reserve(events)?;
+        self.journal
+            .kept
+            .reserve(self.late.len().saturating_add(2))?;
         self.late.room()?;
         make_nodes(self.alloc, &mut self.nodes, node)
     }

@@ -1,15 +1,22 @@
-ghost use Rattle.std.specs.Prelude.{◌≡◌, ◌≤◌, ◌+◌, ◌∷◌, min, vec_len, vec_capacity};
+ghost use Rattle.std.specs.Prelude.{◌≡◌, ◌≤◌, ◌+◌, ◌∷◌, ◌++◌, false, min, length, vec_len, vec_capacity};
 ghost use Rattle.lane_journals.specs.KeptJournals.{past};
+ghost use Rattle.lane_states.specs.Told.{all_kept};
 
 use lane_journals::LaneEvent;
+use service_layer::ChangeList;
+use std::collections::VecDeque;
 
-/// The events of a lane, and how many changes of its view they give.
+/// The events of a lane, and which changes of its view they give.
 #[derive(Drop)]
 pub struct EventLog {
     /// The oldest first.
     pub events: Vec<LaneEvent>,
-    /// At 2^64 - 1 so many or more.
+    /// How many changes; at 2^64 - 1 so many or more.
     pub told: u64,
+    /// Those that no shelf took yet, the oldest first; of each event one list, which isn't empty.
+    pub kept: VecDeque<ChangeList>,
+    /// Whether some of them found no place. A place is made for them before there are any.
+    pub lost: bool,
 }
 
 /// Appends an event for which there is room.
@@ -26,15 +33,34 @@ pub fn push_within(events: &mut Vec<LaneEvent>, event: LaneEvent)
 }
 
 impl EventLog {
-    /// Appends an event that gives so many changes, and for which there is room.
-    pub(crate) fn push_telling(&mut self, event: LaneEvent, count: usize)
+    /// Appends an event that gives these changes, and for which there is room.
+    pub(crate) fn push_telling(&mut self, event: LaneEvent, changes: ChangeList)
         requires { vec_len self.old.events + 1 ≤ vec_capacity self.old.events }
         ensures past { past self.new.events.items ≡ event ∷ past self.old.events.items }
-        ensures told { self.new.told ≡ min (self.old.told + count) 18446744073709551615 }
+        ensures told { self.new.told ≡ min (self.old.told + length changes) 18446744073709551615 }
+        ensures kept { self.new.lost ≡ false → (self.old.lost ≡ false)
+            × (all_kept self.new.kept.items ≡ all_kept self.old.kept.items ++ changes) }
         ensures len { vec_len self.new.events ≡ vec_len self.old.events + 1 }
         ensures capacity { vec_capacity self.old.events ≤ vec_capacity self.new.events }
     {
         push_within(&mut self.events, event);
-        self.told = self.told.saturating_add(count as u64);
+        self.told = self.told.saturating_add(changes.len() as u64);
+        self.keep(changes);
+    }
+
+    /// Keeps changes behind the others.
+    #[tactic(auto, using(crate::proofs::Shelving::kept_push))]
+    fn keep(&mut self, changes: ChangeList)
+        ensures kept { self.new.lost ≡ false → (self.old.lost ≡ false)
+            × (all_kept self.new.kept.items ≡ all_kept self.old.kept.items ++ changes) }
+        ensures after { self.new ≡ record self.old { kept = self.new.kept; lost = self.new.lost } }
+    {
+        if changes.len() == 0 {
+            return;
+        }
+        match self.kept.push_back(changes) {
+            Ok(()) => {}
+            Err(_) => self.lost = true,
+        }
     }
 }

@@ -6,7 +6,8 @@ ghost use Rattle.lane_journals.specs.declared.event.LaneEvent.TheVariants as eve
 ghost use Rattle.lane_keeping.specs.LaneKeeping.{setting_of};
 ghost use Rattle.lane_keeping.specs.Laws.{IsQuietEvent};
 ghost use Rattle.lane_keeping.specs.Tidings.{IsNoStop};
-ghost use Rattle.lane_states.specs.LaneStates.{journal_of, IsKept, change_count};
+ghost use Rattle.lane_states.specs.LaneStates.{journal_of, IsKept};
+ghost use Rattle.lane_states.specs.Told.{IsUnused, change_count};
 
 use crate::event_log::{EventLog, push_within};
 use bucket_ids::Bucket;
@@ -18,12 +19,14 @@ use lane_keeping::laws::{events_are_kept, lanes_begin, states_are_kept};
 use messages::LateList;
 use node_sets::NodeSet;
 use service_layer::NodePart;
+use shelves::PlainShelf;
 use std::alloc::Global;
+use std::collections::VecDeque;
 use value_lists::NoMemory;
 
 /// A lane's journal, and what it says: how many changes of its view its events give, the state that was published
-/// last, the number of the last message, the nodes and the distributors' parts, and which nodes are stopped. A node
-/// or a part is made when it is first needed.
+/// last, the number of the last message, the nodes and the distributors' parts, which nodes are stopped, and who is
+/// shown the changes. A node or a part is made when it is first needed.
 #[derive(Drop)]
 pub struct LaneState {
     pub lane: Bucket,
@@ -38,13 +41,16 @@ pub struct LaneState {
     pub late: LateList,
     /// For so many events there is room, whatever else the lane does.
     pub spare: usize,
+    /// Who is shown the changes of its view.
+    pub shelf: PlainShelf,
     pub alloc: Global,
 }
 
 impl LaneState {
     /// A lane in which nothing happened. A lane's bucket has at most 6 bits.
-    pub fn new(alloc: Global, lane: Bucket, rules: Rules) -> LaneState
+    pub fn new(alloc: Global, lane: Bucket, rules: Rules, shelf: PlainShelf) -> LaneState
         requires small { lane.bits ≤ 6 }
+        requires unused { IsUnused shelf }
         ensures keeps { IsKept result }
         ensures journal { journal_of result ≡ [] }
         ensures lane { result.lane ≡ lane }
@@ -54,6 +60,7 @@ impl LaneState {
         ensures parts { result.parts.items ≡ [] }
         ensures late { result.late.late ≡ [] }
         ensures spare { result.spare ≡ 0 }
+        ensures shelf { result.shelf ≡ shelf }
     {
         lanes_begin();
         LaneState {
@@ -62,6 +69,8 @@ impl LaneState {
             journal: EventLog {
                 events: Vec::new(alloc),
                 told: 0,
+                kept: VecDeque::new(alloc),
+                lost: false,
             },
             newest: None,
             last: 0,
@@ -70,6 +79,7 @@ impl LaneState {
             parts: Vec::new(alloc),
             late: LateList::new(alloc),
             spare: 0,
+            shelf,
             alloc,
         }
     }
@@ -83,6 +93,7 @@ impl LaneState {
         ensures room { OnOk result (vec_len self.new.journal.events + 1 ≤ vec_capacity self.new.journal.events) }
     {
         self.journal.events.reserve(1)?;
+        self.journal.kept.reserve(1)?;
         Ok(())
     }
 

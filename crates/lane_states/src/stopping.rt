@@ -11,6 +11,8 @@ use crate::lane_state::LaneState;
 use carriers::Fate;
 use lane_journals::LaneEvent;
 use lane_keeping::laws::events_are_kept;
+use service_layer::LaterChanges;
+use view_changes::LaneChange;
 
 /// What becomes of a message by its fate, where its receiver is stopped or isn't.
 fn met(stopped: bool, fate: Fate) -> Fate
@@ -77,7 +79,9 @@ impl LaneState {
     {
         events_are_kept();
         self.stopped = self.stopped.with(node);
-        self.journal.push_telling(LaneEvent::Stopped { node }, 1);
+        let change = LaterChanges::none(self.alloc).behind(LaneChange::Stop { node });
+        self.journal
+            .push_telling(LaneEvent::Stopped { node }, change);
     }
 
     /// Notes that a node starts, where it is stopped.
@@ -111,6 +115,8 @@ impl LaneState {
     {
         events_are_kept();
         self.stopped = self.stopped.without(node);
-        self.journal.push_telling(LaneEvent::Started { node }, 1);
+        let change = LaterChanges::none(self.alloc).behind(LaneChange::Start { node });
+        self.journal
+            .push_telling(LaneEvent::Started { node }, change);
     }
 }

@@ -29,7 +29,8 @@ use Rattle.row_keeping.specs.Deciding.{IsDeciding, HasDelete, IsDeleteOver}
 use Rattle.distributor_part.proofs.PartLaws.{row_at}
 use Rattle.round_keeping.proofs.Waiting.{answered-stays}
 use Rattle.lane_states.specs.declared.lane_state.LaneState.{LaneState}
-use Rattle.lane_states.specs.LaneStates.{journal_of, part_of, IsKept, IsKeptBy, HasRoom, IsResting}
+use Rattle.lane_states.specs.LaneStates.{journal_of, part_of, IsKept, IsKeptBy, HasRoom, IsResting, log_of}
+use Rattle.lane_states.specs.Told.{Log}
 use Rattle.lane_carriage.specs.Carrying.{AreCarried}
 use Rattle.round_keeping.specs.RoundRuns.{NoneRuns}
 use Rattle.lane_states.specs.Accepting.{IsPartAccepted, AreAccepted}
@@ -122,10 +123,10 @@ module _ (c e : LaneState) (o : Owner) (after : e ≡ record c { journal = e.jou
     pub still-known : StaysKnown c e o
     still-known note k = subst (λ (K : List LaneEvent). KnowsNote K o.state note) (sym same) k
 
-    pub still-passes : e.journal.told ≡ c.journal.told → (given : List Fate) → HasRoom 0 e → Keeps c.lane c.rules J c.newest c.last c.nodes.items e.parts.items → AreAccepted c.lane c.rules J e.parts.items → (rows : Rows) → IsOpened (part_of e d) o.state rows
+    pub still-passes : log_of e ≡ log_of c → (given : List Fate) → HasRoom 0 e → Keeps c.lane c.rules J c.newest c.last c.nodes.items e.parts.items → AreAccepted c.lane c.rules J e.parts.items → (rows : Rows) → IsOpened (part_of e d) o.state rows
         → IsResting (part_of e d) → IsPassing c o given → IsPassing e o given
     still-passes told given room keeps accepted rows opened resting h = subst (λ (z : LaneState). IsPassing z o given) (sym after) (record {
-      keeps = subst₂ (λ (K : List LaneEvent) (n : ℕ). IsKeptBy c.lane c.rules K c.newest c.last c.nodes.items e.parts.items c.late.late c.stopped n) (sym same) (sym told) (kept_still h.keeps (omega arith) keeps accepted);
+      keeps = subst₂ (λ (K : List LaneEvent) (l : Log). IsKeptBy c.lane c.rules K c.newest c.last c.nodes.items e.parts.items c.late.late c.stopped (record { log = l; shelf = c.shelf })) (sym same) (sym told) (kept_still h.keeps (omega arith) keeps accepted);
       spare = of_after (HasRoom 0) room;
       carried = subst (λ (K : List LaneEvent). AreCarried given K c.last c.late.late) (sym same) h.carried;
       there = subst (λ (n : ℕ). d < n) (sym len) h.there;
@@ -149,11 +150,11 @@ module _ (c e : LaneState) (o : Owner) (after : e ≡ record c { journal = e.jou
     pub decided-known : StaysKnown c e o
     decided-known note k = subst (λ (K : List LaneEvent). KnowsNote K o.state note) (sym grows) (known-on J d v x o.state note of_rows k)
 
-    pub decided-passes : e.journal.told ≡ c.journal.told → OfUpkeep (λ J K. (w : ℕ) (b : Low) → Idle w b (history J) → Idle w b (history K)) → (given : List Fate) → HasRoom 0 e
+    pub decided-passes : log_of e ≡ log_of c → OfUpkeep (λ J K. (w : ℕ) (b : Low) → Idle w b (history J) → Idle w b (history K)) → (given : List Fate) → HasRoom 0 e
         → IsKeptNext c.lane c.rules J c.newest c.last c.nodes.items e.parts.items (Decided d v x) → AreAccepted c.lane c.rules J e.parts.items → (rows : Rows) → IsOpened (part_of e d) o.state rows
         → IsResting (part_of e d) → IsPassing c o given → IsPassing e o given
     decided-passes told idles given room next accepted rows opened resting h = subst (λ (z : LaneState). IsPassing z o given) (sym after) (record {
-      keeps = subst₂ (λ (K : List LaneEvent) (n : ℕ). IsKeptBy c.lane c.rules K c.newest c.last c.nodes.items e.parts.items c.late.late c.stopped n) (sym grows) (sym told) (kept_more h.keeps next.keeps tt accepted);
+      keeps = subst₂ (λ (K : List LaneEvent) (l : Log). IsKeptBy c.lane c.rules K c.newest c.last c.nodes.items e.parts.items c.late.late c.stopped (record { log = l; shelf = c.shelf })) (sym grows) (sym told) (kept_more h.keeps next.keeps tt accepted);
       spare = of_after (HasRoom 0) room;
       carried = subst (λ (K : List LaneEvent). AreCarried given K c.last c.late.late) (sym grows) (carried-decided given J c.last c.late.late d v x h.carried);
       there = subst (λ (n : ℕ). d < n) (sym len) h.there;
@@ -170,7 +171,7 @@ module _ (c e : LaneState) (o : Owner) (after : e ≡ record c { journal = e.jou
 -- the lane where there is room is another only in that
 pub record Writes (c r e : LaneState) (o : Owner) (p q : Part) : Type 0 where
   pub same : r.journal.events.items ≡ c.journal.events.items
-  pub told : e.journal.told ≡ c.journal.told
+  pub told : log_of e ≡ log_of c
   pub roomy : r ≡ record c { journal = r.journal }
   pub here : o.distributor < length r.parts.items
   pub read : p ≡ get_or r.parts.items o.distributor p
@@ -263,7 +264,7 @@ module _ (c e : LaneState) (o : Owner) (after : e ≡ record c { journal = e.jou
   pub same-on : PassesOn c e o
   same-on = still-on c e o after len same others-same
 
-  pub same-passes : e.journal.told ≡ c.journal.told → (given : List Fate) → HasRoom 0 e → IsPassing c o given → IsPassing e o given
+  pub same-passes : log_of e ≡ log_of c → (given : List Fate) → HasRoom 0 e → IsPassing c o given → IsPassing e o given
   same-passes told given room h = still-passes c e o after len same others-same told given room
       (subst (λ (xs : List Part). Keeps c.lane c.rules (journal_of c) c.newest c.last c.nodes.items xs) (sym items) (h.keeps).keeps)
       (subst (λ (xs : List Part). AreAccepted c.lane c.rules (journal_of c) xs) (sym items) (h.keeps).accepted) h.rows
@@ -276,7 +277,7 @@ module _ (c r : LaneState) (o : Owner) (same : r.journal.events.items ≡ c.jour
   pub roomy-on : PassesOn c r o
   roomy-on = same-on c r o roomy-after (ap (λ (z : LaneState). vec_len z.parts) roomy) (ap past same) (ap (λ (z : LaneState). z.parts.items) roomy)
 
-  pub roomy-passes : r.journal.told ≡ c.journal.told → (given : List Fate) → HasRoom 0 r → IsPassing c o given → IsPassing r o given
+  pub roomy-passes : log_of r ≡ log_of c → (given : List Fate) → HasRoom 0 r → IsPassing c o given → IsPassing r o given
   roomy-passes = same-passes c r o roomy-after (ap (λ (z : LaneState). vec_len z.parts) roomy) (ap past same) (ap (λ (z : LaneState). z.parts.items) roomy)
 
 -- a row that may be joined has more than one bit
@@ -303,7 +304,7 @@ delete-ends c now o bucket node law x (delete, same_bucket, same_node, (at, row,
     law delete y (record { at = at; row = row; found = ap (λ z. slice_get (rows_of z) at) (sym y.opened) ∙ found; deleting = deleting }) over)
 
 -- a part that is as it was, written at its place
-module _ (c r : LaneState) (o : Owner) (p q : Part) (i : ℕ) (same : r.journal.events.items ≡ c.journal.events.items) (told : r.journal.told ≡ c.journal.told) (roomy : r ≡ record c { journal = r.journal }) (at_own : i ≡ o.distributor)
+module _ (c r : LaneState) (o : Owner) (p q : Part) (i : ℕ) (same : r.journal.events.items ≡ c.journal.events.items) (told : log_of r ≡ log_of c) (roomy : r ≡ record c { journal = r.journal }) (at_own : i ≡ o.distributor)
     (here : i < length r.parts.items) (read : p ≡ get_or r.parts.items i p) (still : q ≡ p) where
   abbrev then_same : LaneState
   then_same = record r { parts = with_item r.parts i q }

@@ -5,7 +5,7 @@ ghost use Rattle.distributor_part.specs.Upkeep.{CanJoinAt};
 ghost use Rattle.lane_journals.specs.Meanings.{history};
 ghost use Rattle.lane_journals.specs.declared.event.LaneEvent.TheVariants.{Decided};
 ghost use Rattle.lane_states.specs.Accepting.{HasAccepted};
-ghost use Rattle.lane_states.specs.LaneStates.{journal_of, part_of, IsKept, HasRoom};
+ghost use Rattle.lane_states.specs.LaneStates.{journal_of, log_of, part_of, IsKept, HasRoom};
 ghost use Rattle.row_keeping.specs.Deciding.{MayActivate, MayDelete};
 ghost use Rattle.lane_upkeep.specs.Deciding.{DecidesNothing, DidSplit, DidJoin, DidActivate, DidAccept, DidBeginDelete, DidEndDelete, HasEnded};
 ghost use Rattle.lane_upkeep.specs.Noted.{StaysKnown};
@@ -30,7 +30,7 @@ fn room_for_decision(lane: &mut LaneState) -> Result<(), NoMemory>
     requires spare { HasRoom 0 lane.old }
     ensures spare { HasRoom 0 lane.new }
     ensures same { lane.new.journal.events.items ≡ lane.old.journal.events.items }
-    ensures told { lane.new.journal.told ≡ lane.old.journal.told }
+    ensures told { log_of lane.new ≡ log_of lane.old }
     ensures after { lane.new ≡ record lane.old { journal = lane.new.journal } }
     ensures room { OnOk result (HasRoom 1 lane.new) }
 {

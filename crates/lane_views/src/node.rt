@@ -42,7 +42,7 @@ impl Model for SeenNode {
 }
 
 impl SeenNode {
-    /// A node of which nothing was heard. The only error is want of memory.
+    /// A node of which nothing was heard.
     pub fn new(alloc: Global, schema: &SharedSchema) -> Result<SeenNode, NoMemory>
         ensures { IfOk result (λ n. n ≡ record { types = schema.now; node = new_node }) }
     {
@@ -131,7 +131,7 @@ impl SeenNode {
         Ok(())
     }
 
-    /// A bucket is a region, with these entries; inside a region nothing changes. The only error is want of memory.
+    /// A bucket is a region, with these entries; inside a region nothing changes.
     pub fn activate(
         &mut self,
         alloc: Global,

@@ -19,7 +19,7 @@ use std::alloc::Global;
 use value_lists::NoMemory;
 use view_changes::LaneChange;
 
-/// So many nodes of which nothing was heard. The only error is want of memory.
+/// So many nodes of which nothing was heard.
 pub fn new_nodes(alloc: Global, schema: &SharedSchema, many: u8) -> Result<Vec<SeenNode>, NoMemory>
     ensures { IfOk result (λ nodes. nodes.items ≡ alike many (record { types = schema.now; node = new_node })) }
 {
@@ -40,7 +40,7 @@ fn stop_at(nodes: &mut [SeenNode], node: u8, stopped: bool)
     }
 }
 
-/// A node takes a version. The only error is want of memory.
+/// A node takes a version.
 fn adopt_at(
     alloc: Global,
     schema: &SharedSchema,
@@ -59,7 +59,7 @@ fn adopt_at(
     Ok(())
 }
 
-/// A node kept an entry. The only error is want of memory.
+/// A node kept an entry.
 fn take_at(
     alloc: Global,
     nodes: &mut [SeenNode],
@@ -121,7 +121,7 @@ fn activate_at(
     Ok(())
 }
 
-/// A change comes. The only error is want of memory.
+/// A change comes.
 pub fn change_nodes(
     alloc: Global,
     schema: &SharedSchema,

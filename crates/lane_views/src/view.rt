@@ -41,7 +41,7 @@ impl Model for LaneView {
 }
 
 impl LaneView {
-    /// A lane of which nothing was heard. The only error is want of memory.
+    /// A lane of which nothing was heard.
     pub fn new(alloc: Global, schema: &SharedSchema) -> Result<LaneView, NoMemory>
         ensures { IfOk result (λ v. v ≡ opening schema.now) }
     {
@@ -90,7 +90,7 @@ impl LaneView {
         rows_at(&self.nodes, node)
     }
 
-    /// The local ids of a node's documents, rising. No node above 31 has one. Takes no memory.
+    /// The local ids of a node's documents, rising. No node above 31 has one.
     pub fn locals(&self, node: u8) -> &[u32]
         ensures ids { result.now ≡ places_where is_any (rows_of node self.now) }
         ensures rising { IsRising result.now }
@@ -101,7 +101,7 @@ impl LaneView {
         }
     }
 
-    /// The key of a document, where a node has one with this local id. Takes no memory.
+    /// The key of a document, where a node has one with this local id.
     pub fn key(&self, node: u8, local: u32) -> Option<u64>
         ensures { result ≡ option_map (λ d. key_of d.id) (row_at (rows_of node self.now) local) }
     {
@@ -116,7 +116,7 @@ impl LaneView {
         self.rows(node)?.document(local)
     }
 
-    /// The value of a field there, from its column. Takes no memory.
+    /// The value of a field there, from its column.
     pub fn value(&self, node: u8, local: u32, field: &str) -> Option<&FieldValue>
         ensures { option_copied result ≡ value_at (rows_of node self.now) local field.now }
     {

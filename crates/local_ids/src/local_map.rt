@@ -27,7 +27,7 @@ impl<T: Drop> Model for LocalMap<T> {
     ghost view = { λ m. map_from 0 m.places.items };
 }
 
-/// Makes places up to one, if there are fewer. The only error is want of memory.
+/// Makes places up to one, if there are fewer.
 fn reach<T: Drop>(places: &mut Vec<Option<T>>, at: usize) -> Result<(), NoMemory>
     ensures there { OnOk result (at < length places.new.items) }
     ensures same { (n : ℕ) → map_from n places.new.items ≡ map_from n places.old.items }
@@ -90,7 +90,7 @@ impl<T: Drop> LocalMap<T> {
         }
     }
 
-    /// Gives an id a value. The only error is want of memory.
+    /// Gives an id a value.
     pub fn set(&mut self, local: u32, value: T) -> Result<(), NoMemory>
         ensures ok { OnOk result (self.new ≡ fin.insert self.old local value) }
         ensures err { OnErr result (self.new ≡ self.old) }
@@ -101,7 +101,7 @@ impl<T: Drop> LocalMap<T> {
         Ok(())
     }
 
-    /// Takes the value of an id away, if it has one; takes no memory.
+    /// Takes the value of an id away, if it has one.
     pub fn clear(&mut self, local: u32)
         ensures { self.new ≡ fin.remove self.old local }
     {
@@ -111,7 +111,7 @@ impl<T: Drop> LocalMap<T> {
         }
     }
 
-    /// Gives an id without a value that of a greater one, if that has one; takes no memory.
+    /// Gives an id without a value that of a greater one, if that has one.
     pub fn move_down(&mut self, from: u32, to: u32)
         requires below { to < from }
         requires free { fin.get self.old to ≡ None }

@@ -15,15 +15,22 @@ fn kind_of(change: &LaneChange) -> &'static str {
     }
 }
 
+/// The change that is taken off first, if there is one.
+fn first_of(changes: ChangeList) -> &'static str {
+    match changes.split_first() {
+        Some((first, _)) => kind_of(&first),
+        None => "",
+    }
+}
+
 /// All changes by their places, and behind a bar the one that is taken off first.
 pub fn told(alloc: Global, changes: ChangeList) -> Option<String> {
     let mut text = String::new(alloc);
+    let mut good = true;
     for index in 0..changes.len() {
-        text.push_str(kind_of(changes.at(index))).ok()?;
+        good &= text.push_str(kind_of(changes.at(index))).is_ok();
     }
-    text.push_str("| ").ok()?;
-    if let Some((first, _)) = changes.split_first() {
-        text.push_str(kind_of(&first)).ok()?;
-    }
-    Some(text)
+    good &= text.push_str("| ").is_ok();
+    good &= text.push_str(first_of(changes)).is_ok();
+    if good { Some(text) } else { None }
 }

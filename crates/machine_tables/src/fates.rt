@@ -1,7 +1,7 @@
 //! The fates that carriers give, and the order in which late messages are taken.
 
 use crate::table::shown;
-use crate::words::word;
+use crate::texts::number;
 use carriers::{Carrier, Carriers, Fate, PerfectCarriers, PlanCarriers};
 use messages::{Body, LateList, Origin};
 use std::alloc::Global;
@@ -65,19 +65,19 @@ impl Late {
 
     /// The number of the message that is taken behind another one.
     fn take(&mut self, alloc: Global, now: &str) -> Option<String> {
-        match self.list.take_due(now.parse::<u64>().ok()?) {
+        match self.list.take_due(number(now, 0)?) {
             Some(late) => shown(alloc, &late.number),
             None => String::from_str(alloc, "nothing").ok(),
         }
     }
 
     /// What comes of a line: one of two carriers, three late messages, or the one that is taken behind a message.
-    pub fn say(&mut self, alloc: Global, verb: &str, rest: &[&str]) -> Option<String> {
+    pub fn say(&mut self, alloc: Global, verb: &str, rest: &str) -> Option<String> {
         match verb {
             "planned" => planned(alloc),
             "perfect" => perfect(alloc),
             "begin" => self.begin(alloc),
-            "behind" => self.take(alloc, word(rest, 0)),
+            "behind" => self.take(alloc, rest),
             _ => None,
         }
     }

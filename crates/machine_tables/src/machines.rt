@@ -8,7 +8,6 @@ use crate::parts::Parts;
 use crate::rounds::Rounds;
 use crate::{calls, notes, rows, runs, spans};
 use std::alloc::Global;
-use value_lists::NoMemory;
 
 /// The machines that lines speak to. Each stays as it is from line to line, until one says `begin` or `clear`.
 #[derive(Drop)]
@@ -23,21 +22,20 @@ pub struct Machines {
 
 impl Machines {
     /// The machines before any line.
-    pub fn new(alloc: Global) -> Result<Machines, NoMemory> {
-        let marks = Marks::new(alloc)?;
-        Ok(Machines {
+    pub fn new(alloc: Global) -> Machines {
+        Machines {
             maps: Maps::new(alloc),
-            marks,
+            marks: Marks::new(),
             node: Node::new(alloc),
             rounds: Rounds::new(alloc),
             parts: Parts::new(alloc),
             late: Late::new(alloc),
-        })
+        }
     }
 
     /// Does what a line of a table says, and tells what comes of it; none where it has no such words, where what they
     /// say can't be done, or where memory is wanted.
-    pub fn say(&mut self, alloc: Global, table: &str, verb: &str, rest: &[&str]) -> Option<String> {
+    pub fn say(&mut self, alloc: Global, table: &str, verb: &str, rest: &str) -> Option<String> {
         match table {
             "maps" => self.maps.say(alloc, verb, rest),
             "rows" => rows::say(alloc, verb, rest),

@@ -22,15 +22,15 @@ mod rows;
 mod runs;
 mod spans;
 mod table;
+mod texts;
 mod versions;
 mod words;
 
 use crate::machines::Machines;
 use crate::table::hold;
-use anyhow::Result;
 use std::alloc::Global;
-use std::env;
 use std::process::ExitCode;
+use std::{env, io};
 
 /// The tables, which are the files of `data/`.
 const NAMES: &[&str] = &[
@@ -49,12 +49,18 @@ const NAMES: &[&str] = &[
 ];
 
 /// Holds all tables; true where a line is wrong.
-fn hold_all(rt: &HostRuntime, machines: &mut Machines) -> Result<bool> {
+fn hold_all(rt: &HostRuntime, machines: &mut Machines) -> io::Result<bool> {
     let mut wrong = false;
     for name in NAMES {
         wrong |= hold(rt, machines, name)?;
     }
     Ok(wrong)
+}
+
+/// The same with machines before any line.
+fn hold_anew(rt: &HostRuntime) -> io::Result<bool> {
+    let mut machines = Machines::new(rt.alloc());
+    hold_all(rt, &mut machines)
 }
 
 /// Does the work that three words behind the program's name say, and tells how much was done.
@@ -71,21 +77,20 @@ fn work(alloc: Global, words: &[String]) -> Option<u64> {
 }
 
 /// Does the work of a bench.
-fn bench(rt: &HostRuntime, words: &[String]) -> Result<()> {
+fn bench(rt: &HostRuntime, words: &[String]) -> io::Result<()> {
     match work(rt.alloc(), words) {
-        Some(done) => println!(rt; "{done} done")?,
-        None => println!(rt; "no such work")?,
+        Some(done) => println!(rt; "{done} done"),
+        None => println!(rt; "no such work"),
     }
-    Ok(())
 }
 
-fn main(rt: HostRuntime) -> Result<ExitCode> {
+fn main(rt: HostRuntime) -> io::Result<ExitCode> {
     let words: Vec<String> = env::args(&rt)?.collect(rt.alloc())?;
-    if words.len() > 1 {
+    let wrong = if words.len() > 1 {
         bench(&rt, &words)?;
-        return Ok(ExitCode::SUCCESS);
-    }
-    let mut machines = Machines::new(rt.alloc())?;
-    let wrong = hold_all(&rt, &mut machines)?;
+        false
+    } else {
+        hold_anew(&rt)?
+    };
     Ok(ExitCode::from(u8::from(wrong)))
 }

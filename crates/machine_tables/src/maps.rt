@@ -1,8 +1,9 @@
 //! Two entry maps that lines change and ask.
 
 use crate::table::{done, shown};
-use crate::versions::read_entry;
-use crate::words::{read_bucket, word};
+use crate::texts::{short, word};
+use crate::versions::{put, read_entry};
+use crate::words::read_bucket;
 use document_ids::DocId;
 use documents::{Entry, SharedEntry};
 use entry_maps::EntryMap;
@@ -26,78 +27,72 @@ fn told(alloc: Global, entry: Option<&Entry>) -> Option<String> {
     }
 }
 
-/// Whether a map takes an entry.
-fn put(alloc: Global, map: &mut EntryMap, word: &str) -> Option<String> {
-    shown(alloc, &map.put(read_entry(alloc, word)?).ok()?)
-}
-
-/// The same beside the entry's key.
-fn put_at(alloc: Global, map: &mut EntryMap, word: &str) -> Option<String> {
+/// Whether a map takes an entry, which may be put beside its key.
+fn take(alloc: Global, map: &mut EntryMap, verb: &str, word: &str) -> Option<String> {
     let entry = read_entry(alloc, word)?;
     let key = key_of(&entry.id);
-    shown(
-        alloc,
-        &map.put_at(key, SharedEntry::new(alloc, entry).ok()?).ok()?,
-    )
+    let taken = match verb {
+        "put" => map.put(entry).ok()?,
+        _ => map.put_at(key, SharedEntry::new(alloc, entry).ok()?).ok()?,
+    };
+    shown(alloc, &taken)
 }
 
-/// What a map has of a document.
-fn get(alloc: Global, map: &EntryMap, id: &str) -> Option<String> {
-    told(alloc, map.get(&DocId::parse(alloc, id).ok()?))
-}
-
-/// The same where it is asked for beside its key.
-fn get_at(alloc: Global, map: &EntryMap, id: &str) -> Option<String> {
+/// What a map has of a document, which may be asked for beside its key.
+fn get(alloc: Global, map: &EntryMap, verb: &str, id: &str) -> Option<String> {
     let id = DocId::parse(alloc, id).ok()?;
-    told(alloc, map.get_at(key_of(&id), &id))
+    match verb {
+        "get" => told(alloc, map.get(&id)),
+        _ => told(alloc, map.get_at(key_of(&id), &id)),
+    }
 }
 
-/// The stamps of a map.
-fn stamps(alloc: Global, map: &EntryMap) -> Option<String> {
-    shown(alloc, &map.stamps().ok()?)
+/// The map of one entry.
+fn alone(alloc: Global, word: &str) -> Option<EntryMap> {
+    match SharedEntry::new(alloc, read_entry(alloc, word)?) {
+        Ok(entry) => Some(EntryMap::of_one(alloc, entry)),
+        Err(_) => None,
+    }
 }
 
-/// Makes of a map that of one entry.
-fn alone(alloc: Global, map: &mut EntryMap, word: &str) -> Option<()> {
-    let entry = SharedEntry::new(alloc, read_entry(alloc, word)?).ok()?;
-    *map = EntryMap::of_one(alloc, entry);
-    Some(())
+/// Puts a map in another one's place, if there is one.
+fn set(map: &mut EntryMap, other: Option<EntryMap>) -> bool {
+    match other {
+        Some(other) => {
+            *map = other;
+            true
+        }
+        None => false,
+    }
 }
 
-/// Makes of a map the part of another one.
-fn within(map: &mut EntryMap, other: &EntryMap, bucket: &str) -> Option<()> {
-    *map = other.within(read_bucket(bucket)?).ok()?;
-    Some(())
-}
-
-/// Makes of a map another one.
-fn copy(alloc: Global, map: &mut EntryMap, other: &EntryMap) -> Option<()> {
-    *map = other.copy(alloc).ok()?;
-    Some(())
-}
-
-/// Drops the entries of a bucket.
-fn remove(map: &mut EntryMap, bucket: &str) -> Option<()> {
-    map.remove_within(read_bucket(bucket)?);
+/// Makes of a map the part of another one, or drops that part.
+fn cut(one: &mut EntryMap, two: &mut EntryMap, verb: &str, bucket: &str) -> Option<()> {
+    let bucket = read_bucket(bucket)?;
+    match verb {
+        "within" => *two = one.within(bucket).ok()?,
+        _ => one.remove_within(bucket),
+    }
     Some(())
 }
 
 /// Puts the document of a number.
-fn put_numbered(alloc: Global, map: &mut EntryMap, number: u64, version: &str) -> Option<()> {
-    let word = format!(in alloc; "id:ns:music:n=7:d{number}@{version}").ok()?;
-    map.put(read_entry(alloc, &word)?).ok()?;
-    Some(())
+fn put_numbered(alloc: Global, map: &mut EntryMap, number: u64, version: &str) -> bool {
+    match format!(in alloc; "id:ns:music:n=7:d{number}@{version}") {
+        Ok(word) => put(alloc, map, &word),
+        Err(_) => false,
+    }
 }
 
 /// Puts so many documents, whose numbers go on by steps.
-fn put_many(alloc: Global, map: &mut EntryMap, words: &[&str]) -> Option<()> {
-    let step = word(words, 0).parse::<u32>().ok()?;
-    let many = word(words, 1).parse::<u32>().ok()?;
+fn put_many(alloc: Global, map: &mut EntryMap, words: &str) -> Option<()> {
+    let (step, many) = (short(words, 0)?, short(words, 1)?);
+    let mut good = true;
     for place in 0..many {
         let number = u64::from(place) * u64::from(step);
-        put_numbered(alloc, map, number, word(words, 2))?;
+        good &= put_numbered(alloc, map, number, word(words, 2));
     }
-    Some(())
+    if good { Some(()) } else { None }
 }
 
 /// The counts of entries and documents of two maps.
@@ -113,36 +108,20 @@ fn counts(alloc: Global, one: &EntryMap, two: &EntryMap) -> Option<String> {
     )
 }
 
-/// Makes a map empty.
-fn clear(alloc: Global, map: &mut EntryMap) -> Option<()> {
-    *map = EntryMap::new(alloc);
-    Some(())
-}
-
-/// Exchanges two maps.
-fn swap(one: &mut EntryMap, two: &mut EntryMap) -> Option<()> {
-    mem::swap(one, two);
-    Some(())
-}
-
 /// What changes the maps.
-fn change(
-    alloc: Global,
-    one: &mut EntryMap,
-    two: &mut EntryMap,
-    verb: &str,
-    rest: &[&str],
-) -> Option<()> {
+fn change(alloc: Global, one: &mut EntryMap, two: &mut EntryMap, verb: &str, rest: &str) -> bool {
     match verb {
-        "clear" => clear(alloc, one),
-        "swap" => swap(one, two),
-        "copy" => copy(alloc, two, one),
-        "alone" => alone(alloc, one, word(rest, 0)),
-        "merge" => one.merge(two).ok(),
-        "within" => within(two, one, word(rest, 0)),
-        "remove" => remove(one, word(rest, 0)),
-        "many" => put_many(alloc, one, rest),
-        _ => None,
+        "clear" => set(one, Some(EntryMap::new(alloc))),
+        "swap" => {
+            mem::swap(one, two);
+            true
+        }
+        "copy" => set(two, one.copy(alloc).ok()),
+        "alone" => set(one, alone(alloc, rest)),
+        "merge" => one.merge(two).is_ok(),
+        "within" | "remove" => cut(one, two, verb, rest).is_some(),
+        "many" => put_many(alloc, one, rest).is_some(),
+        _ => false,
     }
 }
 
@@ -155,14 +134,12 @@ impl Maps {
     }
 
     /// What comes of a line.
-    pub fn say(&mut self, alloc: Global, verb: &str, rest: &[&str]) -> Option<String> {
+    pub fn say(&mut self, alloc: Global, verb: &str, rest: &str) -> Option<String> {
         let (one, two) = (&mut self.one, &mut self.two);
         match verb {
-            "put" => put(alloc, one, word(rest, 0)),
-            "put_at" => put_at(alloc, one, word(rest, 0)),
-            "get" => get(alloc, one, word(rest, 0)),
-            "get_at" => get_at(alloc, one, word(rest, 0)),
-            "stamps" => stamps(alloc, one),
+            "put" | "put_at" => take(alloc, one, verb, rest),
+            "get" | "get_at" => get(alloc, one, verb, rest),
+            "stamps" => shown(alloc, &one.stamps().ok()?),
             "counts" => counts(alloc, one, two),
             verb => done(alloc, change(alloc, one, two, verb, rest)),
         }

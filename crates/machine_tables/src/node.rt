@@ -4,6 +4,7 @@ ghost use Rattle.service_layer.specs.Takes.{IsInside};
 
 use crate::changes::told;
 use crate::table::{done, shown};
+use crate::texts::{halves, short};
 use crate::words::read_body;
 use messages::{Body, Message};
 use service_layer::{NodePart, Taken};
@@ -40,26 +41,40 @@ impl Node {
     }
 
     /// Begins with another node.
-    fn begin(&mut self, alloc: Global) -> Option<()> {
+    fn begin(&mut self, alloc: Global) -> bool {
         self.node = NodePart::new(alloc);
-        Some(())
+        true
     }
 
     /// What the node makes of a message of a version.
-    fn tell(&mut self, alloc: Global, version: &str, words: &[&str]) -> Option<Taken> {
-        let version = version.parse::<u32>().ok()?;
-        let (verb, rest) = words.split_first()?;
-        take(&mut self.node, version, read_body(alloc, verb, rest)?)
+    fn tell(&mut self, alloc: Global, version: &str, words: &str) -> Option<Taken> {
+        let version = short(version, 0)?;
+        let (verb, rest) = halves(words);
+        match read_body(alloc, verb, rest) {
+            Some(body) => take(&mut self.node, version, body),
+            None => None,
+        }
+    }
+
+    /// The reply to a message of a version, as a journal keeps it.
+    fn noted(&mut self, alloc: Global, version: &str, words: &str) -> Option<String> {
+        match self.tell(alloc, version, words) {
+            Some(taken) => shown(alloc, &taken.noted),
+            None => None,
+        }
     }
 
     /// The changes that the node tells of a message of a version.
-    fn changes(&mut self, alloc: Global, words: &[&str]) -> Option<String> {
-        let (version, words) = words.split_first()?;
-        told(alloc, self.tell(alloc, version, words)?.changes)
+    fn changes(&mut self, alloc: Global, words: &str) -> Option<String> {
+        let (version, words) = halves(words);
+        match self.tell(alloc, version, words) {
+            Some(taken) => told(alloc, taken.changes),
+            None => None,
+        }
     }
 
     /// What comes of a line: a version and a message, `changes` before these, or a question about the node itself.
-    pub fn say(&mut self, alloc: Global, verb: &str, rest: &[&str]) -> Option<String> {
+    pub fn say(&mut self, alloc: Global, verb: &str, rest: &str) -> Option<String> {
         match verb {
             "begin" => done(alloc, self.begin(alloc)),
             "changes" => self.changes(alloc, rest),
@@ -67,7 +82,7 @@ impl Node {
             "serial" => shown(alloc, &self.node.last_serial()),
             "version" => shown(alloc, &self.node.version()),
             "regions" => shown(alloc, &self.node.regions()),
-            version => shown(alloc, &self.tell(alloc, version, rest)?.noted),
+            version => self.noted(alloc, version, rest),
         }
     }
 }

@@ -10,7 +10,7 @@ use document_ids::DocId;
 use documents::{Document, Entry, SharedEntry};
 use entry_maps::EntryMap;
 use messages::{Body, Reply};
-use service_layer::{NodePart, Taken};
+use service_layer::NodePart;
 use stamps::Stamp;
 use std::alloc::Global;
 use value_lists::TryCopy;
@@ -20,63 +20,97 @@ fn id_of(alloc: Global, number: u32) -> Option<DocId> {
     DocId::parse(alloc, &format!(in alloc; "id:ns:music::{number}").ok()?).ok()
 }
 
+/// The message that stores a document.
+fn store_of(alloc: Global, count: u64, id: DocId, document: Document) -> Option<Body>
+    ensures { IfSome result IsInside }
+{
+    let entry = Entry {
+        stamp: Stamp { version: 1, count },
+        id,
+        body: Some(document),
+    };
+    match SharedEntry::new(alloc, entry) {
+        Ok(entry) => Some(Body::Store { entry }),
+        Err(_) => None,
+    }
+}
+
 /// The message that stores a numbered document.
-fn store_of(alloc: Global, number: u32) -> Option<Body>
+fn store_numbered(alloc: Global, number: u32) -> Option<Body>
     ensures { IfSome result IsInside }
 {
     let id = id_of(alloc, number)?;
-    let body = Some(Document::empty(alloc, id.copy(alloc).ok()?));
-    let stamp = Stamp {
-        version: 1,
-        count: u64::from(number),
-    };
-    let entry = SharedEntry::new(alloc, Entry { stamp, id, body }).ok()?;
-    Some(Body::Store { entry })
+    match id.copy(alloc) {
+        Ok(copy) => store_of(alloc, u64::from(number), id, Document::empty(alloc, copy)),
+        Err(_) => None,
+    }
 }
 
 /// The message that asks for a numbered document.
 fn find_of(alloc: Global, number: u32) -> Option<Body>
     ensures { IfSome result IsInside }
 {
-    let only = Some(id_of(alloc, number)?);
-    let bucket = Bucket::new(58, 0);
-    Some(Body::Read { bucket, only })
+    match id_of(alloc, number) {
+        Some(id) => Some(Body::Read {
+            bucket: Bucket::new(58, 0),
+            only: Some(id),
+        }),
+        None => None,
+    }
+}
+
+/// Whether a node takes a message, if there is one.
+fn takes(node: &mut NodePart, body: Option<Body>) -> bool
+    requires { IfSome body IsInside }
+{
+    match body {
+        Some(body) => take(node, 1, body).is_some(),
+        None => false,
+    }
 }
 
 /// Applies to a bucket those of some entries that lie in it.
-fn apply_part(node: &mut NodePart, bucket: Bucket, entries: &EntryMap) -> Option<()> {
+fn applies(node: &mut NodePart, bucket: Bucket, entries: &EntryMap) -> bool {
     match entries_in(entries, bucket) {
-        Ok(entries) => {
-            take(node, 1, Body::Apply { bucket, entries })?;
-            Some(())
-        }
-        Err(_) => None,
+        Ok(entries) => takes(node, Some(Body::Apply { bucket, entries })),
+        Err(_) => false,
     }
 }
 
 /// A node that holds all keys in two buckets.
 fn whole(alloc: Global) -> Option<NodePart> {
     let mut node = NodePart::new(alloc);
-    for low in 0..2 {
-        apply_part(&mut node, Bucket::new(1, low), &EntryMap::new(alloc))?;
+    let none = EntryMap::new(alloc);
+    if applies(&mut node, Bucket::new(1, 0), &none)
+        && applies(&mut node, Bucket::new(1, 1), &none)
+    {
+        Some(node)
+    } else {
+        None
     }
-    Some(node)
+}
+
+/// So many, if all were done.
+fn counted(count: u64, done: bool) -> Option<u64> {
+    if done { Some(count) } else { None }
 }
 
 /// Stores so many documents.
 fn store_all(alloc: Global, node: &mut NodePart, count: u32) -> Option<u64> {
+    let mut done = true;
     for number in 0..count {
-        take(node, 1, store_of(alloc, number)?)?;
+        done &= takes(node, store_numbered(alloc, number));
     }
-    Some(u64::from(count))
+    counted(u64::from(count), done)
 }
 
 /// Reads each of so many documents alone.
 fn get_all(alloc: Global, node: &mut NodePart, count: u32) -> Option<u64> {
+    let mut done = true;
     for number in 0..count {
-        take(node, 1, find_of(alloc, number)?)?;
+        done &= takes(node, find_of(alloc, number));
     }
-    Some(u64::from(count))
+    counted(u64::from(count), done)
 }
 
 /// How many bits the buckets have in which there are some ten documents.
@@ -97,18 +131,26 @@ fn tell_all(node: &mut NodePart, verb: &str, bits: u8) -> Option<u64>
     requires few { bits < 16 }
 {
     let parts = 1u64 << bits;
+    let mut done = true;
     for low in 0..parts {
-        take(node, 1, change_of(verb, Bucket::new(bits, low))?)?;
+        done &= takes(node, change_of(verb, Bucket::new(bits, low)));
     }
-    Some(parts)
+    counted(parts, done)
+}
+
+/// Applies to a bucket what a reply shows of it.
+fn applies_reply(node: &mut NodePart, bucket: Bucket, reply: &Reply) -> bool {
+    match reply {
+        Reply::Answer { pieces: _, entries } => applies(node, bucket, entries),
+        _ => false,
+    }
 }
 
 /// Applies to a bucket what the node shows of it.
-fn apply_shown(node: &mut NodePart, bucket: Bucket) -> Option<()> {
-    let Taken { reply, .. } = take(node, 1, Body::Read { bucket, only: None })?;
-    match &reply {
-        Reply::Answer { pieces: _, entries } => apply_part(node, bucket, entries),
-        _ => None,
+fn applies_shown(node: &mut NodePart, bucket: Bucket) -> bool {
+    match take(node, 1, Body::Read { bucket, only: None }) {
+        Some(taken) => applies_reply(node, bucket, &taken.reply),
+        None => false,
     }
 }
 
@@ -118,29 +160,42 @@ fn apply_all(node: &mut NodePart, bits: u8) -> Option<u64>
     requires few { bits < 16 }
 {
     let parts = 1u64 << bits;
+    let mut done = true;
     for low in 0..parts {
-        apply_shown(node, Bucket::new(bits, low))?;
+        done &= applies_shown(node, Bucket::new(bits, low));
     }
-    Some(parts)
+    counted(parts, done)
+}
+
+/// Splits the buckets down to those of so many bits, and then does a kind of work with these.
+fn work_on_parts(node: &mut NodePart, kind: &str, bits: u8) -> Option<u64>
+    requires some { 2 ≤ bits }
+    requires few { bits < 16 }
+{
+    let split = tell_all(node, "split", bits)?;
+    match kind {
+        "splits" => Some(split),
+        "joins" => tell_all(node, "join", bits - 1),
+        "reads" => tell_all(node, "read", bits),
+        "applies" => apply_all(node, bits),
+        _ => None,
+    }
+}
+
+/// Stores so many documents, and then does a kind of work with these.
+fn work_on(alloc: Global, node: &mut NodePart, kind: &str, count: u32) -> Option<u64> {
+    let stored = store_all(alloc, node, count)?;
+    match kind {
+        "stores" => Some(stored),
+        "gets" => get_all(alloc, node, count),
+        kind => work_on_parts(node, kind, bits_of(count)),
+    }
 }
 
 /// Does a kind of work with so many entries, and says how many messages of it were taken.
 pub fn work(alloc: Global, kind: &str, count: u32) -> Option<u64> {
-    let mut node = whole(alloc)?;
-    let bits = bits_of(count);
-    let stored = store_all(alloc, &mut node, count)?;
-    if kind == "stores" {
-        return Some(stored);
-    }
-    if kind == "gets" {
-        return get_all(alloc, &mut node, count);
-    }
-    let split = tell_all(&mut node, "split", bits)?;
-    match kind {
-        "splits" => Some(split),
-        "joins" => tell_all(&mut node, "join", bits - 1),
-        "reads" => tell_all(&mut node, "read", bits),
-        "applies" => apply_all(&mut node, bits),
-        _ => None,
+    match whole(alloc) {
+        Some(mut node) => work_on(alloc, &mut node, kind, count),
+        None => None,
     }
 }

@@ -1,7 +1,8 @@
 //! One distributor's part in lane 0 of 16, whose distributor is 0.
 
 use crate::table::{done, shown};
-use crate::words::{read_arrived, read_bucket, read_node, read_place, read_set, word};
+use crate::texts::{halves, number, small, word};
+use crate::words::{read_arrived, read_bucket, read_node, read_place, read_set};
 use bucket_ids::Bucket;
 use cluster_states::ClusterState;
 use distributor_part::{DistributorPart, Rules, Stage};
@@ -29,11 +30,12 @@ fn new_part(alloc: Global, redundancy: u8, acks: u8) -> DistributorPart {
     DistributorPart::new(alloc, 0, Bucket::new(4, 0), rules)
 }
 
-/// The part that has heard a state of two nodes.
-fn read_part(alloc: Global, redundancy: &str, acks: &str) -> Option<DistributorPart> {
-    let (redundancy, acks) = (redundancy.parse::<u8>().ok()?, acks.parse::<u8>().ok()?);
+/// The part that has heard a state of two nodes, by its redundancy and a number of acknowledgements.
+fn read_part(alloc: Global, words: &str) -> Option<DistributorPart> {
+    let (redundancy, acks) = (small(words, 0)?, small(words, 1)?);
+    let state = ClusterState::parse("version:7 distributor:1 storage:2").ok()?;
     let mut part = new_part(alloc, redundancy, acks);
-    part.hear(&ClusterState::parse("version:7 distributor:1 storage:2").ok()?);
+    part.hear(&state);
     Some(part)
 }
 
@@ -54,8 +56,8 @@ fn told(alloc: Global, step: &Step) -> Option<String> {
 }
 
 /// The next step for a key.
-fn next(alloc: Global, part: &mut DistributorPart, key: &str) -> Option<String> {
-    let key = key.parse::<u64>().ok()?;
+fn next(alloc: Global, part: &mut DistributorPart, words: &str) -> Option<String> {
+    let key = number(words, 0)?;
     let state = part.state()?;
     if owner(part.lane(), &state) != Some(part.number()) || part.awaited().is_some() {
         return None;
@@ -66,14 +68,20 @@ fn next(alloc: Global, part: &mut DistributorPart, key: &str) -> Option<String> 
     if let Stage::Running { .. } = &part.stage() {
         return None;
     }
-    told(alloc, &part.next_step(alloc, Job::Prepare { key }).ok()?)
+    match part.next_step(alloc, Job::Prepare { key }) {
+        Ok(step) => told(alloc, &step),
+        Err(_) => None,
+    }
 }
 
 /// Tells the reply that is awaited, or that none came.
-fn reply(alloc: Global, part: &mut DistributorPart, words: &[&str]) -> Option<()> {
-    let (verb, rest) = words.split_first()?;
-    let reply = read_arrived(alloc, verb, rest)?;
-    part.answer(alloc, part.awaited()?, reply.as_ref()).ok()
+fn reply(alloc: Global, part: &mut DistributorPart, words: &str) -> Option<()> {
+    let (verb, rest) = halves(words);
+    let awaited = part.awaited()?;
+    match read_arrived(alloc, verb, rest) {
+        Some(reply) => part.answer(alloc, awaited, reply.as_ref()).ok(),
+        None => None,
+    }
 }
 
 /// Tells that a round is over; node 1 answered its Read.
@@ -95,29 +103,17 @@ fn over(
 }
 
 /// Tells that a round found an empty union, which these nodes took.
-fn whole(alloc: Global, part: &mut DistributorPart, nodes: &str) -> Option<()> {
-    let union = EntryMap::new(alloc);
-    over(alloc, part, read_set(nodes)?, Some(&union))
+fn whole(alloc: Global, part: &mut DistributorPart, words: &str) -> Option<()> {
+    let nodes = read_set(words, 0)?;
+    over(alloc, part, nodes, Some(&EntryMap::new(alloc)))
 }
 
 /// Tells that an operation on key 0 was acknowledged.
-fn closed(part: &mut DistributorPart, answered: &str) -> Option<()> {
+fn closed(part: &mut DistributorPart, words: &str) -> Option<()> {
     if !part.is_opened() || !part.lane().contains(0) {
         return None;
     }
-    part.closed(0, read_set(answered)?);
-    Some(())
-}
-
-/// Tells that the job is given up.
-fn give_up(part: &mut DistributorPart) -> Option<()> {
-    part.give_up();
-    Some(())
-}
-
-/// Tells another state.
-fn hear(part: &mut DistributorPart) -> Option<()> {
-    part.hear(&ClusterState::default());
+    part.closed(0, read_set(words, 0)?);
     Some(())
 }
 
@@ -130,8 +126,8 @@ fn found(alloc: Global, part: &DistributorPart) -> Option<String> {
 }
 
 /// To whom a round of the row of a place goes.
-fn round(alloc: Global, part: &mut DistributorPart, at: &str) -> Option<String> {
-    let at = read_place(at, part.rows().len())?;
+fn round(alloc: Global, part: &mut DistributorPart, words: &str) -> Option<String> {
+    let at = read_place(words, part.rows().len())?;
     let Stage::Before = &part.stage() else {
         return None;
     };
@@ -140,8 +136,8 @@ fn round(alloc: Global, part: &mut DistributorPart, at: &str) -> Option<String> 
 }
 
 /// Which nodes are targets, which is to be active and which are to be ready.
-fn asked(alloc: Global, part: &DistributorPart, at: &str) -> Option<String> {
-    let at = read_place(at, part.rows().len())?;
+fn asked(alloc: Global, part: &DistributorPart, words: &str) -> Option<String> {
+    let at = read_place(words, part.rows().len())?;
     let _state = part.state()?;
     shown(
         alloc,
@@ -153,59 +149,74 @@ fn asked(alloc: Global, part: &DistributorPart, at: &str) -> Option<String> {
     )
 }
 
-/// Splits the row of a place, where no round is under way.
-fn split(part: &mut DistributorPart, at: &str) -> Option<()> {
-    let at = read_place(at, part.rows().len())?;
+/// Splits the row of a place or joins it with its sibling, where no round is under way.
+fn reshape(part: &mut DistributorPart, verb: &str, words: &str) -> Option<()> {
+    let at = read_place(words, part.rows().len())?;
     let Stage::Before = &part.stage() else {
         return None;
     };
-    if part.rows()[at].bucket.bits() >= 58 {
-        return None;
+    match verb {
+        "split" if part.rows()[at].bucket.bits() < 58 => part.split_row(at).ok()?,
+        "join" if part.can_join(at) => part.join_rows(at),
+        _ => return None,
     }
-    part.split_row(at).ok()
+    Some(())
 }
 
-/// Joins the row of a place with its sibling, where no round is under way.
-fn join(part: &mut DistributorPart, at: &str) -> Option<()> {
-    let at = read_place(at, part.rows().len())?;
-    let Stage::Before = &part.stage() else {
-        return None;
-    };
-    if !part.can_join(at) {
-        return None;
+/// A node becomes the active one of the row of a place, which accepts, or is to delete its piece of serial 9.
+fn keep(part: &mut DistributorPart, verb: &str, words: &str) -> Option<()> {
+    let at = read_place(word(words, 0), part.rows().len())?;
+    match verb {
+        "activate" => part.activate(at, read_node(word(words, 1))?),
+        "accept" => part.accept(at),
+        "delete" => part.delete_from(at, read_node(word(words, 1))?, 9),
+        _ => return None,
     }
-    part.join_rows(at);
-    Some(())
-}
-
-/// A node becomes the active one of the row of a place.
-fn activate(part: &mut DistributorPart, at: &str, node: &str) -> Option<()> {
-    let at = read_place(at, part.rows().len())?;
-    part.activate(at, read_node(node)?);
-    Some(())
-}
-
-/// The active node of the row of a place accepts.
-fn accept(part: &mut DistributorPart, at: &str) -> Option<()> {
-    let at = read_place(at, part.rows().len())?;
-    part.accept(at);
-    Some(())
-}
-
-/// A node of the row of a place is to delete its piece of serial 9.
-fn delete(part: &mut DistributorPart, at: &str, node: &str) -> Option<()> {
-    let at = read_place(at, part.rows().len())?;
-    part.delete_from(at, read_node(node)?, 9);
     Some(())
 }
 
 /// A node's Delete is over.
-fn delete_over(part: &mut DistributorPart, bucket: &str, node: &str) -> Option<()> {
+fn delete_over(part: &mut DistributorPart, words: &str) -> Option<()> {
     if !part.is_opened() {
         return None;
     }
-    part.delete_over(read_bucket(bucket)?, read_node(node)?);
+    part.delete_over(read_bucket(word(words, 0))?, read_node(word(words, 1))?);
     Some(())
+}
+
+/// Begins with another part.
+fn begin(alloc: Global, part: &mut DistributorPart, words: &str) -> bool {
+    match read_part(alloc, words) {
+        Some(other) => {
+            *part = other;
+            true
+        }
+        None => false,
+    }
+}
+
+/// What happens in a line's operation or an opening, or what upkeep does to a row, and says nothing.
+fn change(alloc: Global, part: &mut DistributorPart, verb: &str, rest: &str) -> bool {
+    match verb {
+        "begin" => return begin(alloc, part, rest),
+        "give_up" => part.give_up(),
+        "hear" => part.hear(&ClusterState::default()),
+        "reply" => return reply(alloc, part, rest).is_some(),
+        "whole" => return whole(alloc, part, rest).is_some(),
+        "partial" => return over(alloc, part, NodeSet::none(), None).is_some(),
+        verb => return keep_rows(part, verb, rest).is_some(),
+    }
+    true
+}
+
+/// What is done to rows.
+fn keep_rows(part: &mut DistributorPart, verb: &str, rest: &str) -> Option<()> {
+    match verb {
+        "closed" => closed(part, rest),
+        "split" | "join" => reshape(part, verb, rest),
+        "over" => delete_over(part, rest),
+        verb => keep(part, verb, rest),
+    }
 }
 
 impl Parts {
@@ -215,50 +226,16 @@ impl Parts {
         }
     }
 
-    /// Begins with another part.
-    fn begin(&mut self, alloc: Global, redundancy: &str, acks: &str) -> Option<()> {
-        self.part = read_part(alloc, redundancy, acks)?;
-        Some(())
-    }
-
-    /// What happens in a line's operation or an opening, and says nothing.
-    fn change(&mut self, alloc: Global, verb: &str, rest: &[&str]) -> Option<()> {
-        let part = &mut self.part;
-        match verb {
-            "reply" => reply(alloc, part, rest),
-            "whole" => whole(alloc, part, word(rest, 0)),
-            "partial" => over(alloc, part, NodeSet::none(), None),
-            "closed" => closed(part, word(rest, 0)),
-            "give_up" => give_up(part),
-            "hear" => hear(part),
-            verb => self.keep(verb, word(rest, 0), word(rest, 1)),
-        }
-    }
-
-    /// What upkeep does to the row of a place.
-    fn keep(&mut self, verb: &str, at: &str, node: &str) -> Option<()> {
-        let part = &mut self.part;
-        match verb {
-            "split" => split(part, at),
-            "join" => join(part, at),
-            "activate" => activate(part, at, node),
-            "accept" => accept(part, at),
-            "delete" => delete(part, at, node),
-            "over" => delete_over(part, at, node),
-            _ => None,
-        }
-    }
-
     /// What comes of a line.
-    pub fn say(&mut self, alloc: Global, verb: &str, rest: &[&str]) -> Option<String> {
+    pub fn say(&mut self, alloc: Global, verb: &str, rest: &str) -> Option<String> {
+        let part = &mut self.part;
         match verb {
-            "begin" => done(alloc, self.begin(alloc, word(rest, 0), word(rest, 1))),
-            "next" => next(alloc, &mut self.part, word(rest, 0)),
-            "found" => found(alloc, &self.part),
-            "round" => round(alloc, &mut self.part, word(rest, 0)),
-            "asked" => asked(alloc, &self.part, word(rest, 0)),
-            "rows" => shown(alloc, &self.part.rows()),
-            verb => done(alloc, self.change(alloc, verb, rest)),
+            "next" => next(alloc, part, rest),
+            "found" => found(alloc, part),
+            "round" => round(alloc, part, rest),
+            "asked" => asked(alloc, part, rest),
+            "rows" => shown(alloc, &part.rows()),
+            verb => done(alloc, change(alloc, part, verb, rest)),
         }
     }
 }

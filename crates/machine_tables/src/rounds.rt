@@ -1,7 +1,7 @@
 //! One round, whose messages are sent and answered one after the other.
 
 use crate::table::{done, shown};
-use crate::words::{read_arrived, read_set, word};
+use crate::words::{read_arrived, read_set};
 use bucket_ids::Bucket;
 use merge_rounds::Round;
 use messages::{Message, Origin, Reply};
@@ -29,25 +29,32 @@ fn told(alloc: Global, message: &Message) -> Option<String> {
     shown(alloc, &(message.receiver, message.body.noted(alloc).ok()?))
 }
 
-/// Tells a round the reply to the message that it sent.
-fn tell(alloc: Global, round: &mut Round, node: u8, reply: Option<Reply>) -> Option<()> {
+/// Tells a round the reply to the message that it sent, and says whom that asked and what.
+fn tell(
+    alloc: Global,
+    round: &mut Round,
+    message: &Message,
+    reply: Option<&Reply>,
+) -> Option<String> {
+    let node = message.receiver;
     if node >= 32 || round.awaited() != Some(node) {
         return None;
     }
-    round.answer(alloc, node, reply.as_ref()).ok()
+    match round.answer(alloc, node, reply) {
+        Ok(()) => told(alloc, message),
+        Err(_) => None,
+    }
 }
 
 /// Sends the next message and tells its reply, and says whom it asked and what.
-fn step(alloc: Global, round: &mut Round, reply: Option<Reply>) -> Option<String> {
+fn step(alloc: Global, round: &mut Round, reply: Option<&Reply>) -> Option<String> {
     if round.awaited().is_some() {
         return None;
     }
-    match round.send(alloc).ok()? {
-        Some(message) => {
-            tell(alloc, round, message.receiver, reply)?;
-            told(alloc, &message)
-        }
-        None => String::from_str(alloc, "end").ok(),
+    match round.send(alloc) {
+        Ok(Some(message)) => tell(alloc, round, &message, reply),
+        Ok(None) => String::from_str(alloc, "end").ok(),
+        Err(_) => None,
     }
 }
 
@@ -75,21 +82,24 @@ impl Rounds {
     }
 
     /// Begins with another round.
-    fn begin(&mut self, alloc: Global, readers: &str, receivers: &str) -> Option<()> {
-        self.round = new_round(alloc, read_set(readers)?, read_set(receivers)?);
+    fn begin(&mut self, alloc: Global, words: &str) -> Option<()> {
+        let (readers, receivers) = (read_set(words, 0)?, read_set(words, 1)?);
+        self.round = new_round(alloc, readers, receivers);
         Some(())
     }
 
     /// What the round sends that gets a reply.
-    fn reply(&mut self, alloc: Global, verb: &str, rest: &[&str]) -> Option<String> {
-        let reply = read_arrived(alloc, verb, rest)?;
-        step(alloc, &mut self.round, reply)
+    fn reply(&mut self, alloc: Global, verb: &str, rest: &str) -> Option<String> {
+        match read_arrived(alloc, verb, rest) {
+            Some(reply) => step(alloc, &mut self.round, reply.as_ref()),
+            None => None,
+        }
     }
 
     /// What comes of a line.
-    pub fn say(&mut self, alloc: Global, verb: &str, rest: &[&str]) -> Option<String> {
+    pub fn say(&mut self, alloc: Global, verb: &str, rest: &str) -> Option<String> {
         match verb {
-            "begin" => done(alloc, self.begin(alloc, word(rest, 0), word(rest, 1))),
+            "begin" => done(alloc, self.begin(alloc, rest).is_some()),
             "found" => found(alloc, &mut self.round),
             verb => self.reply(alloc, verb, rest),
         }

@@ -27,13 +27,20 @@ fn split_each(db: &mut BucketDb, count: u32) -> Option<()>
     Some(())
 }
 
-/// The rows of answers that name each of these rows.
-fn answered(alloc: Global, lane: Bucket, db: &BucketDb) -> Option<BucketDb> {
+/// Puts in the place of rows those of answers that name each of them.
+fn answers(alloc: Global, db: &mut BucketDb, lane: Bucket) -> Option<()> {
     let mut answers = Vec::new(alloc);
+    let mut good = true;
     for row in db.rows() {
-        answers.push(row.bucket).ok()?;
+        good &= answers.push(row.bucket).is_ok();
     }
-    BucketDb::of_answers(alloc, lane, &answers).ok()
+    match BucketDb::of_answers(alloc, lane, &answers) {
+        Ok(answered) if good => {
+            *db = answered;
+            Some(())
+        }
+        _ => None,
+    }
 }
 
 /// Joins, of the rows of the most bits, the one of the least number.
@@ -68,21 +75,32 @@ fn find_all(db: &BucketDb, lane: Bucket, count: u32) -> Option<()>
     Some(())
 }
 
+/// Does a kind of work on rows.
+fn work_on(alloc: Global, db: &mut BucketDb, lane: Bucket, kind: &str, count: u32) -> Option<()>
+    requires { db.old.lane ≡ lane }
+{
+    split_each(db, count.saturating_sub(1))?;
+    match kind {
+        "rows" => Some(()),
+        "answers" => answers(alloc, db, lane),
+        "keys" => find_all(db, lane, count),
+        "splits" => split_each(db, count),
+        "joins" => {
+            split_each(db, count)?;
+            join_each(db, count)
+        }
+        _ => None,
+    }
+}
+
 /// Does a kind of work on so many rows, and says how many there are then.
 pub fn work(alloc: Global, kind: &str, count: u32) -> Option<u64> {
     let lane = Bucket::new(1, 0);
-    let mut db = BucketDb::of_answers(alloc, lane, &[]).ok()?;
-    split_each(&mut db, count.saturating_sub(1))?;
-    match kind {
-        "rows" => {}
-        "answers" => db = answered(alloc, lane, &db)?,
-        "keys" => find_all(&db, lane, count)?,
-        "splits" => split_each(&mut db, count)?,
-        "joins" => {
-            split_each(&mut db, count)?;
-            join_each(&mut db, count)?;
+    match BucketDb::of_answers(alloc, lane, &[]) {
+        Ok(mut db) => {
+            work_on(alloc, &mut db, lane, kind, count)?;
+            Some(db.rows().len() as u64)
         }
-        _ => return None,
+        Err(_) => None,
     }
-    Some(db.rows().len() as u64)
 }

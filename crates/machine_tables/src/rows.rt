@@ -5,22 +5,36 @@ use bucket_db::{BucketDb, Row};
 use std::alloc::Global;
 
 /// The rows of a lane by the answers of nodes.
-pub fn rows_of(alloc: Global, lane: &str, answers: &[&str]) -> Option<BucketDb> {
-    let answers = read_buckets(alloc, answers)?;
-    BucketDb::of_answers(alloc, read_bucket(lane)?, &answers).ok()
+pub fn rows_of(alloc: Global, lane: &str, answers: &str) -> Option<BucketDb> {
+    let lane = read_bucket(lane)?;
+    match read_buckets(alloc, answers) {
+        Some(answers) => BucketDb::of_answers(alloc, lane, &answers).ok(),
+        None => None,
+    }
+}
+
+/// Appends the bucket of a row with a blank behind it; whether there is memory for it.
+fn push_name(alloc: Global, text: &mut String, row: &Row) -> bool {
+    match row.bucket.print(alloc) {
+        Ok(name) => text.push_str(&name).is_ok() && text.push(' ').is_ok(),
+        Err(_) => false,
+    }
 }
 
 /// The buckets of rows, a blank behind each.
 fn names(alloc: Global, rows: &[Row]) -> Option<String> {
     let mut text = String::new(alloc);
+    let mut good = true;
     for row in rows {
-        text.push_str(&row.bucket.print(alloc).ok()?).ok()?;
-        text.push(' ').ok()?;
+        good &= push_name(alloc, &mut text, row);
     }
-    Some(text)
+    if good { Some(text) } else { None }
 }
 
 /// The rows of a lane by the buckets that nodes name.
-pub fn say(alloc: Global, lane: &str, answers: &[&str]) -> Option<String> {
-    names(alloc, rows_of(alloc, lane, answers)?.rows())
+pub fn say(alloc: Global, lane: &str, answers: &str) -> Option<String> {
+    match rows_of(alloc, lane, answers) {
+        Some(db) => names(alloc, db.rows()),
+        None => None,
+    }
 }

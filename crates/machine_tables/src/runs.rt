@@ -4,18 +4,17 @@ ghost use Rattle.std.specs.Prelude.{◌≡◌, ◌≤◌, IfSome, is_some, not};
 ghost use Rattle.node_sets.specs.Members.{size_of};
 ghost use Rattle.op_machine.specs.Plans.{IsMember, IsOwn, is_get};
 
-use crate::table::shown;
-use crate::versions::{read_document, read_update, read_version};
-use crate::words::{read_arrived, read_node, word};
+use crate::texts::word;
+use crate::versions::{read_document, read_update, read_version, schema};
+use crate::words::{read_arrived, read_node};
 use bucket_ids::Bucket;
 use doc_selection::Selection;
-use doc_types::DEFAULT_SCHEMA;
 use doc_updates::Update;
 use document_ids::DocId;
-use documents::Entry;
+use documents::{Document, Entry};
 use entry_maps::EntryMap;
 use global_ids::key_of;
-use json_documents::{fields_json, schema_from_json};
+use json_documents::fields_json;
 use messages::{Body, Message, OpKind, Operation, Origin, Reply, SharedOperation};
 use node_sets::NodeSet;
 use op_machine::OpMachine;
@@ -35,21 +34,20 @@ fn document_id(alloc: Global) -> Option<DocId> {
     DocId::parse(alloc, "id:ns:music::a").ok()
 }
 
-/// A text in which `~` stands for 40,000 letters.
-fn with_letters(alloc: Global, word: &str) -> Option<String> {
-    word.replace(alloc, "~", &"x".repeat(alloc, 40_000).ok()?)
-        .ok()
+/// A text in which a letter stands for so many texts.
+fn with(alloc: Global, word: &str, letter: &str, text: &str, count: usize) -> Option<String> {
+    match text.repeat(alloc, count) {
+        Ok(many) => word.replace(alloc, letter, &many).ok(),
+        Err(_) => None,
+    }
 }
 
-/// A text in which `%` stands for 255 texts, each with a comma behind it.
-fn with_texts(alloc: Global, word: &str) -> Option<String> {
-    word.replace(alloc, "%", &"\"i\",".repeat(alloc, 255).ok()?)
-        .ok()
-}
-
-/// An update in which `~` stands for so many letters.
+/// An update in which `~` stands for 40,000 letters.
 fn read_wide_update(alloc: Global, id: &DocId, fields: &str) -> Option<Update> {
-    read_update(alloc, id, &with_letters(alloc, fields)?)
+    match with(alloc, fields, "~", "x", 40_000) {
+        Some(fields) => read_update(alloc, id, &fields),
+        None => None,
+    }
 }
 
 /// What an operation does, where its document has this id.
@@ -70,23 +68,27 @@ fn read_condition(alloc: Global, word: &str) -> Option<Option<Selection>> {
     if word == "-" {
         return Some(None);
     }
-    let schema = schema_from_json(alloc, DEFAULT_SCHEMA).ok()?;
-    Some(Some(Selection::parse(alloc, word, &schema).ok()?))
+    match Selection::parse(alloc, word, &schema(alloc)?) {
+        Ok(condition) => Some(Some(condition)),
+        Err(_) => None,
+    }
 }
 
-/// The operation that words say: what it does, its fields, `create`, its condition.
-fn read_operation(alloc: Global, words: &[&str]) -> Option<Operation>
+/// The operation that the words behind the first bar say: what it does, its fields, `create`, its condition.
+fn read_operation(alloc: Global, words: &str) -> Option<Operation>
     ensures { IfSome result (λ operation. IsOwn operation.id operation.kind) }
 {
     let id = document_id(alloc)?;
-    let condition = read_condition(alloc, word(words, 3))?;
-    let kind = read_kind(alloc, &id, word(words, 0), word(words, 1))?;
-    Some(Operation {
-        id,
-        kind,
-        condition,
-        create: word(words, 2) == "create",
-    })
+    let kind = read_kind(alloc, &id, word(words, 3), word(words, 4))?;
+    match read_condition(alloc, word(words, 6)) {
+        Some(condition) => Some(Operation {
+            id,
+            kind,
+            condition,
+            create: word(words, 5) == "create",
+        }),
+        None => None,
+    }
 }
 
 /// The stamp that an operation has drawn.
@@ -118,11 +120,9 @@ fn read_active(word: &str, nodes: NodeSet) -> Option<Option<u8>>
     if word == "-" {
         return Some(None);
     }
-    let node = read_node(word)?;
-    if nodes.has(node) {
-        Some(Some(node))
-    } else {
-        None
+    match read_node(word) {
+        Some(node) if nodes.has(node) => Some(Some(node)),
+        _ => None,
     }
 }
 
@@ -131,93 +131,126 @@ fn read_acks(word: &str, nodes: NodeSet) -> Option<u8>
     ensures some { IfSome result (λ acks. 1 ≤ acks) }
     ensures enough { IfSome result (λ acks. acks ≤ size_of nodes) }
 {
-    let acks = word.parse::<u8>().ok()?;
-    if acks < 1 || acks > nodes.len() {
-        None
-    } else {
-        Some(acks)
-    }
-}
-
-/// The machine of an operation, by the recipients, how many have to answer, and the active node.
-fn read_machine(alloc: Global, words: &[&str], operation: Operation) -> Option<OpMachine>
-    requires { IsOwn operation.id operation.kind }
-{
-    let recipients = read_nodes(word(words, 0))?;
-    let acks = read_acks(word(words, 1), recipients)?;
-    let active = read_active(word(words, 2), recipients)?;
-    let stamp = drawn(&operation.kind);
-    let operation = SharedOperation::new(alloc, operation).ok()?;
-    Some(OpMachine::new(ORIGIN, operation, stamp, recipients, active, acks))
-}
-
-/// The answer that shows one version of the document.
-fn showing(alloc: Global, word: &str) -> Option<Reply> {
-    let mut entries = EntryMap::new(alloc);
-    let word = with_texts(alloc, word)?;
-    entries
-        .put(read_version(alloc, document_id(alloc)?, &word)?)
-        .ok()?;
-    Some(Reply::Answer {
-        pieces: PieceList::of(Vec::new(alloc)),
-        entries,
-    })
-}
-
-/// The reply that a word says: that a version of the document is shown, `ok` that none is, or another one.
-fn read_answer(alloc: Global, word: &str) -> Option<Option<Reply>> {
-    if word.contains('/') {
-        return Some(Some(showing(alloc, word)?));
-    }
-    match word {
-        "ok" => read_arrived(alloc, "answer", &["-"]),
-        "newer" => read_arrived(alloc, "newer", &["3"]),
-        word => read_arrived(alloc, word, &[]),
-    }
-}
-
-/// The fields of an entry in JSON, or a `-` where it is a remove.
-fn fields_of(alloc: Global, entry: &Entry) -> Option<String> {
-    match &entry.body {
-        None => String::from_str(alloc, "-").ok(),
-        Some(document) => fields_json(alloc, document).ok()?.to_string(alloc).ok(),
-    }
-}
-
-/// A Store: `s`, the receiver, and the version that it carries.
-fn store_told(alloc: Global, node: u8, entry: &Entry) -> Option<String> {
-    let (stamp, fields) = (entry.stamp, fields_of(alloc, entry)?);
-    format!(in alloc; "s{node} {}:{}/{fields} ", stamp.version, stamp.count).ok()
-}
-
-/// A Read of the document: `r` and the receiver.
-fn read_told(alloc: Global, node: u8, bucket: Bucket, id: &DocId) -> Option<String> {
-    if bucket.bits() != 58 || bucket.low() != key_of(id) || id.text() != "id:ns:music::a" {
-        return None;
-    }
-    format!(in alloc; "r{node} ").ok()
-}
-
-/// A Read or a Store.
-fn told(alloc: Global, message: &Message) -> Option<String> {
-    let node = message.receiver;
-    match &message.body {
-        Body::Read { bucket, only } => read_told(alloc, node, *bucket, only.as_ref()?),
-        Body::Store { entry } => store_told(alloc, node, entry.entry()),
+    match word.parse::<u8>() {
+        Ok(acks) if acks >= 1 && acks <= nodes.len() => Some(acks),
         _ => None,
     }
 }
 
+/// The machine of an operation, by the recipients, how many have to answer, and the active node.
+fn read_machine(alloc: Global, recipients: &str, words: &str) -> Option<OpMachine> {
+    let recipients = read_nodes(recipients)?;
+    let acks = read_acks(word(words, 0), recipients)?;
+    let active = read_active(word(words, 1), recipients)?;
+    let operation = read_operation(alloc, words)?;
+    let stamp = drawn(&operation.kind);
+    match SharedOperation::new(alloc, operation) {
+        Ok(operation) => Some(OpMachine::new(ORIGIN, operation, stamp, recipients, active, acks)),
+        Err(_) => None,
+    }
+}
+
+/// A map of the version of the document that a word says, in which `%` stands for 255 texts, each with a comma behind it.
+fn map_of(alloc: Global, word: &str) -> Option<EntryMap> {
+    let word = with(alloc, word, "%", "\"i\",", 255)?;
+    match read_version(alloc, document_id(alloc)?, &word) {
+        Some(entry) => one_of(alloc, entry),
+        None => None,
+    }
+}
+
+/// The map of an entry.
+fn one_of(alloc: Global, entry: Entry) -> Option<EntryMap> {
+    let mut entries = EntryMap::new(alloc);
+    if entries.put(entry).is_ok() {
+        Some(entries)
+    } else {
+        None
+    }
+}
+
+/// The answer that shows one version of the document.
+fn showing(alloc: Global, word: &str) -> Option<Option<Reply>> {
+    match map_of(alloc, word) {
+        Some(entries) => Some(Some(Reply::Answer {
+            pieces: PieceList::of(Vec::new(alloc)),
+            entries,
+        })),
+        None => None,
+    }
+}
+
+/// The reply that a word says: that a version of the document is shown, `ok` that none is, or another one.
+fn read_answer(alloc: Global, word: &str) -> Option<Option<Reply>> {
+    match word {
+        "ok" => read_arrived(alloc, "answer", "-"),
+        "newer" => read_arrived(alloc, "newer", "3"),
+        word if word.contains('/') => showing(alloc, word),
+        word => read_arrived(alloc, word, ""),
+    }
+}
+
+/// The fields of a document in JSON.
+fn json_of(alloc: Global, document: &Document) -> Option<String> {
+    match fields_json(alloc, document) {
+        Ok(fields) => fields.to_string(alloc).ok(),
+        Err(_) => None,
+    }
+}
+
+/// Appends the fields of an entry in JSON, or a `-` where it is a remove.
+fn push_fields(alloc: Global, log: &mut String, entry: &Entry) -> bool {
+    match &entry.body {
+        Some(document) => match json_of(alloc, document) {
+            Some(fields) => log.push_str(&fields).is_ok(),
+            None => false,
+        },
+        None => log.push('-').is_ok(),
+    }
+}
+
+/// Appends a Store: `s`, the receiver, and the version that it carries.
+fn push_store(alloc: Global, log: &mut String, node: u8, entry: &Entry) -> bool {
+    let (version, count) = (entry.stamp.version, entry.stamp.count);
+    let mut good = write!(log, "s{node} {version}:{count}/").is_ok();
+    good &= push_fields(alloc, log, entry);
+    good & log.push(' ').is_ok()
+}
+
+/// Whether a Read is that of the document.
+fn is_read(bucket: Bucket, id: &DocId) -> bool {
+    bucket.bits() == 58 && bucket.low() == key_of(id) && id.text() == "id:ns:music::a"
+}
+
+/// Appends a Read, as `r` and the receiver, or a Store; whether it is one of these.
+fn push_told(alloc: Global, log: &mut String, message: &Message) -> bool {
+    let node = message.receiver;
+    match &message.body {
+        Body::Read {
+            bucket,
+            only: Some(id),
+        } => is_read(*bucket, id) && write!(log, "r{node} ").is_ok(),
+        Body::Store { entry } => push_store(alloc, log, node, entry.entry()),
+        _ => false,
+    }
+}
+
+/// Whether there is no outcome yet.
+fn goes_on(alloc: Global, machine: &mut OpMachine) -> bool {
+    matches!(machine.outcome(alloc), Ok(None))
+}
+
 /// The next message, before which there is no outcome and whose reply is told.
-fn sent(alloc: Global, machine: &mut OpMachine, reply: Option<Reply>) -> Option<Message> {
-    if machine.outcome(alloc).ok()?.is_some() {
+fn sent(alloc: Global, machine: &mut OpMachine, reply: Option<&Reply>) -> Option<Message> {
+    if !goes_on(alloc, machine) {
         return None;
     }
     let message = machine.send(alloc).ok()??;
-    machine
-        .answer(alloc, message.receiver, reply.as_ref())
-        .ok()?;
-    Some(message)
+    if machine.answer(alloc, message.receiver, reply).is_ok() {
+        Some(message)
+    } else {
+        None
+    }
 }
 
 /// Whether a message is of the machine's origin.
@@ -227,52 +260,69 @@ fn is_own(message: &Message) -> bool {
         && message.sender == ORIGIN.sender
 }
 
-/// What is sent that gets a reply.
-fn step(alloc: Global, machine: &mut OpMachine, word: &str) -> Option<String> {
-    let reply = read_answer(alloc, word)?;
-    let message = sent(alloc, machine, reply)?;
-    if is_own(&message) {
-        told(alloc, &message)
+/// Appends what is sent that gets a reply; whether it is something.
+fn push_sent(
+    alloc: Global,
+    log: &mut String,
+    machine: &mut OpMachine,
+    reply: Option<&Reply>,
+) -> bool {
+    match sent(alloc, machine, reply) {
+        Some(message) => is_own(&message) && push_told(alloc, log, &message),
+        None => false,
+    }
+}
+
+/// The same of the reply that a word says.
+fn step(alloc: Global, log: &mut String, machine: &mut OpMachine, word: &str) -> bool {
+    match read_answer(alloc, word) {
+        Some(reply) => push_sent(alloc, log, machine, reply.as_ref()),
+        None => false,
+    }
+}
+
+/// Whether no message is left to send.
+fn is_over(alloc: Global, machine: &mut OpMachine) -> bool {
+    matches!(machine.send(alloc), Ok(None))
+}
+
+/// Appends how the operation ends, behind its last message.
+fn push_ending(alloc: Global, log: &mut String, machine: &mut OpMachine) -> bool {
+    if !is_over(alloc, machine) {
+        return false;
+    }
+    match machine.outcome(alloc) {
+        Ok(Some(outcome)) => write!(log, "{outcome:?}").is_ok(),
+        _ => false,
+    }
+}
+
+/// Appends what is sent where the words behind the second bar are the replies, and how it ends.
+fn run(alloc: Global, log: &mut String, machine: &mut OpMachine, words: &str) -> bool {
+    let mut good = true;
+    for word in words.split_ascii_whitespace().skip(8) {
+        good &= step(alloc, log, machine, word);
+    }
+    good & push_ending(alloc, log, machine)
+}
+
+/// What is sent, and how it ends.
+fn run_told(alloc: Global, machine: &mut OpMachine, words: &str) -> Option<String> {
+    let mut log = String::new(alloc);
+    if run(alloc, &mut log, machine, words) {
+        Some(log)
     } else {
         None
     }
 }
 
-/// How the operation ends, behind its last message.
-fn ending(alloc: Global, machine: &mut OpMachine) -> Option<String> {
-    if machine.send(alloc).ok()?.is_some() {
-        return None;
-    }
-    shown(alloc, &machine.outcome(alloc).ok()??)
-}
-
-/// What is sent where these are the replies, and how it ends.
-fn run(alloc: Global, machine: &mut OpMachine, replies: &[&str]) -> Option<String> {
-    let mut log = String::new(alloc);
-    for word in replies {
-        log.push_str(&step(alloc, machine, word)?).ok()?;
-    }
-    log.push_str(&ending(alloc, machine)?).ok()?;
-    Some(log)
-}
-
 /// What an operation sends and how it ends, by who takes part, a bar, the operation, a bar, and the replies.
-pub fn say(alloc: Global, recipients: &str, rest: &[&str]) -> Option<String> {
-    let [
-        acks,
-        active,
-        "|",
-        verb,
-        fields,
-        create,
-        condition,
-        "|",
-        replies @ ..,
-    ] = rest
-    else {
+pub fn say(alloc: Global, recipients: &str, words: &str) -> Option<String> {
+    if word(words, 2) != "|" || word(words, 7) != "|" {
         return None;
-    };
-    let operation = read_operation(alloc, &[verb, fields, create, condition])?;
-    let mut machine = read_machine(alloc, &[recipients, acks, active], operation)?;
-    run(alloc, &mut machine, replies)
+    }
+    match read_machine(alloc, recipients, words) {
+        Some(mut machine) => run_told(alloc, &mut machine, words),
+        None => None,
+    }
 }

@@ -1,54 +1,11 @@
 //! What an upkeep comes to by the events that it adds.
 
 use crate::table::shown;
+use crate::texts::{number, small};
 use lane_journals::LaneEvent;
 use messages::{NotedBody, NotedReply};
 use std::alloc::Global;
 use upkeep_spans::scan::{cause, seen_behind};
-
-/// Message `2>1`: the second, to node 1.
-fn read_sent(word: &str) -> Option<LaneEvent> {
-    let (number, node) = word.split_once('>')?;
-    Some(LaneEvent::Sent {
-        number: number.parse::<u64>().ok()?,
-        version: 1,
-        sender: 0,
-        receiver: node.parse::<u8>().ok()?,
-        body: NotedBody::Ask,
-    })
-}
-
-/// Its delivery.
-fn read_delivered(word: &str) -> Option<LaneEvent> {
-    let number = word.parse::<u64>().ok()?;
-    Some(LaneEvent::Delivered {
-        number,
-        reply: NotedReply::NoBucket,
-    })
-}
-
-/// Its return.
-fn read_returned(word: &str) -> Option<LaneEvent> {
-    let number = word.parse::<u64>().ok()?;
-    Some(LaneEvent::Returned { number })
-}
-
-/// A node that stops.
-fn read_stopped(word: &str) -> Option<LaneEvent> {
-    let node = word.parse::<u8>().ok()?;
-    Some(LaneEvent::Stopped { node })
-}
-
-/// The event that a letter says with the rest of the word.
-fn read_event(word: &str) -> Option<LaneEvent> {
-    match word.split_at_checked(1)? {
-        ("s", rest) => read_sent(rest),
-        ("d", rest) => read_delivered(rest),
-        ("r", rest) => read_returned(rest),
-        ("x", rest) => read_stopped(rest),
-        _ => None,
-    }
-}
 
 /// The number of the last message among events, or 0.
 fn last_of(events: &[LaneEvent]) -> u64 {
@@ -70,15 +27,44 @@ struct Span {
 }
 
 impl Span {
+    /// Takes the event that a letter says with the rest of a word: `2>1` sends the second message to node 1, and a number is
+    /// its delivery, its return, or a node that stops.
+    fn take_event(&mut self, letter: &str, rest: &str) -> Option<()> {
+        let (sent, receiver) = rest.split_once('>').unwrap_or((rest, "0"));
+        let (number, node) = (number(sent, 0)?, small(receiver, 0)?);
+        let event = match letter {
+            "s" => LaneEvent::Sent {
+                number,
+                version: 1,
+                sender: 0,
+                receiver: node,
+                body: NotedBody::Ask,
+            },
+            "d" => LaneEvent::Delivered {
+                number,
+                reply: NotedReply::NoBucket,
+            },
+            "r" => LaneEvent::Returned { number },
+            "x" => LaneEvent::Stopped {
+                node: small(rest, 0)?,
+            },
+            _ => return None,
+        };
+        self.events.push(event).ok()
+    }
+
     /// Takes a word: a bar, behind which the events before the span or the span begin, a number or an event.
-    fn take(&mut self, word: &str) -> Option<()> {
+    fn take(&mut self, word: &str) -> bool {
         if word == "|" {
             self.from = self.events.len();
-            return Some(());
+            return true;
         }
         match word.parse::<u64>() {
-            Ok(number) => self.at_once.push(number).ok(),
-            Err(_) => self.events.push(read_event(word)?).ok(),
+            Ok(number) => self.at_once.push(number).is_ok(),
+            Err(_) => {
+                let (letter, rest) = word.split_at_checked(1).unwrap_or(("", ""));
+                self.take_event(letter, rest).is_some()
+            }
         }
     }
 
@@ -98,15 +84,15 @@ impl Span {
 
 /// What an upkeep comes to by the messages that come late right behind their own sending, a bar, the events before the
 /// span, a bar, and the span.
-pub fn say(alloc: Global, first: &str, rest: &[&str]) -> Option<String> {
+pub fn say(alloc: Global, first: &str, rest: &str) -> Option<String> {
     let mut span = Span {
         at_once: Vec::new(alloc),
         events: Vec::new(alloc),
         from: 0,
     };
-    span.take(first)?;
-    for word in rest {
-        span.take(word)?;
+    let mut good = span.take(first);
+    for word in rest.split_ascii_whitespace() {
+        good &= span.take(word);
     }
-    span.cause(alloc)
+    if good { span.cause(alloc) } else { None }
 }

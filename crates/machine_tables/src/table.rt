@@ -1,10 +1,10 @@
 //! The lines of a table, and what stands right of their equals sign.
 
 use crate::machines::Machines;
-use anyhow::Result;
+use crate::texts::halves;
 use std::alloc::Global;
 use std::fmt::Debug;
-use std::fs;
+use std::{fs, io};
 
 /// A value as `{:?}` prints it.
 pub fn shown<T: Debug>(alloc: Global, value: &T) -> Option<String> {
@@ -12,23 +12,26 @@ pub fn shown<T: Debug>(alloc: Global, value: &T) -> Option<String> {
 }
 
 /// The answer where there is nothing to tell, if it was done.
-pub fn done(alloc: Global, change: Option<()>) -> Option<String> {
-    change?;
-    String::from_str(alloc, "done").ok()
-}
-
-/// How many lines of a table came as they are written there, and how many didn't.
-#[derive(Drop)]
-struct Counts {
-    right: u64,
-    wrong: u64,
+pub fn done(alloc: Global, is_done: bool) -> Option<String> {
+    if is_done {
+        String::from_str(alloc, "done").ok()
+    } else {
+        None
+    }
 }
 
 /// What comes of the words left of the equals sign.
 fn answer(alloc: Global, machines: &mut Machines, table: &str, said: &str) -> Option<String> {
-    let words: Vec<&str> = said.split_ascii_whitespace().collect(alloc).ok()?;
-    let (verb, rest) = words.split_first()?;
+    let (verb, rest) = halves(said);
     machines.say(alloc, table, verb, rest)
+}
+
+/// Whether an answer is what is wanted.
+fn is_wanted(came: &Option<String>, wanted: &str) -> bool {
+    match came {
+        Some(came) => came.trim_end() == wanted,
+        None => false,
+    }
 }
 
 /// Says a line, and prints it where something else comes of it.
@@ -36,31 +39,49 @@ fn judge(
     rt: &HostRuntime,
     machines: &mut Machines,
     table: &str,
-    line: &str,
-    counts: &mut Counts,
-) -> Result<()> {
-    let Some((said, wanted)) = line.split_once(" = ") else {
-        return Ok(());
-    };
+    said: &str,
+    wanted: &str,
+) -> io::Result<bool> {
     let came = answer(rt.alloc(), machines, table, said);
-    if came.as_deref().map(str::trim_end) == Some(wanted) {
-        counts.right = counts.right.saturating_add(1);
-        return Ok(());
+    if is_wanted(&came, wanted) {
+        return Ok(true);
     }
-    counts.wrong = counts.wrong.saturating_add(1);
-    println!(rt; "DIFFERS {line}\ncame {came:?}")?;
-    Ok(())
+    println!(rt; "DIFFERS {said} = {wanted}\ncame {came:?}")?;
+    Ok(false)
 }
 
-/// Says all lines of a table but its comments; true where one of them is wrong.
-pub fn hold(rt: &HostRuntime, machines: &mut Machines, table: &str) -> Result<bool> {
+/// Says all lines of a table but its comments, and how many of them are right; true where one of them is wrong.
+pub fn hold(rt: &HostRuntime, machines: &mut Machines, table: &str) -> io::Result<bool> {
     let text = fs::read_to_string(rt, table)?;
-    let mut counts = Counts { right: 0, wrong: 0 };
+    hold_lines(rt, machines, table, &text)
+}
+
+fn hold_lines(
+    rt: &HostRuntime,
+    machines: &mut Machines,
+    table: &str,
+    text: &str,
+) -> io::Result<bool> {
+    let mut right = 0u64;
+    let mut wrong = false;
     for line in text.lines() {
-        if !line.starts_with('#') {
-            judge(rt, machines, table, line, &mut counts)?;
+        if let Some((said, wanted)) = case_of(line) {
+            if judge(rt, machines, table, said, wanted)? {
+                right = right.wrapping_add(1);
+            } else {
+                wrong = true;
+            }
         }
     }
-    println!(rt; "{table}: {} lines are right", counts.right)?;
-    Ok(counts.wrong > 0)
+    println!(rt; "{table}: {right} lines are right")?;
+    Ok(wrong)
+}
+
+/// What a line says and what it wants, if it is no comment.
+fn case_of(line: &str) -> Option<(&str, &str)> {
+    if line.starts_with('#') {
+        None
+    } else {
+        line.split_once(" = ")
+    }
 }

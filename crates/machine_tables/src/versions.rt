@@ -3,7 +3,8 @@
 
 ghost use Rattle.std.specs.Prelude.{◌≡◌, IfSome};
 
-use doc_types::DEFAULT_SCHEMA;
+use crate::texts::{number, short};
+use doc_types::{DEFAULT_SCHEMA, Schema};
 use doc_updates::Update;
 use document_ids::DocId;
 use documents::{Document, Entry};
@@ -14,59 +15,107 @@ use stamps::Stamp;
 use std::alloc::Global;
 use value_lists::TryCopy;
 
+/// The schema of all documents.
+pub fn schema(alloc: Global) -> Option<Schema> {
+    schema_from_json(alloc, DEFAULT_SCHEMA).ok()
+}
+
+/// The document of an id with these fields.
+fn document_of(alloc: Global, id: &DocId, fields: &Value, schema: &Schema) -> Option<Document>
+    ensures { IfSome result (λ document. document.id ≡ id.now) }
+{
+    if fields.is_object() {
+        document_from_json(alloc, id.copy(alloc).ok()?, fields, schema).ok()
+    } else {
+        None
+    }
+}
+
 /// The document of an id with fields in JSON.
 pub fn read_document(alloc: Global, id: &DocId, word: &str) -> Option<Document>
     ensures { IfSome result (λ document. document.id ≡ id.now) }
 {
-    let fields = Value::from_str(alloc, word).ok()?;
-    if !fields.is_object() {
-        return None;
+    let schema = schema(alloc)?;
+    match Value::from_str(alloc, word) {
+        Ok(fields) => document_of(alloc, id, &fields, &schema),
+        Err(_) => None,
     }
-    let schema = schema_from_json(alloc, DEFAULT_SCHEMA).ok()?;
-    document_from_json(alloc, id.copy(alloc).ok()?, &fields, &schema).ok()
+}
+
+/// The update of the document of an id that these fields say.
+fn update_of(alloc: Global, id: &DocId, fields: &Value, schema: &Schema) -> Option<Update> {
+    if fields.is_object() {
+        update_from_json(alloc, id, fields, schema).ok()
+    } else {
+        None
+    }
 }
 
 /// An update in JSON of the document of an id.
 pub fn read_update(alloc: Global, id: &DocId, word: &str) -> Option<Update> {
-    let fields = Value::from_str(alloc, word).ok()?;
-    if !fields.is_object() {
-        return None;
+    let schema = schema(alloc)?;
+    match Value::from_str(alloc, word) {
+        Ok(fields) => update_of(alloc, id, &fields, &schema),
+        Err(_) => None,
     }
-    let schema = schema_from_json(alloc, DEFAULT_SCHEMA).ok()?;
-    update_from_json(alloc, id, &fields, &schema).ok()
 }
 
 /// A stamp.
 fn read_stamp(word: &str) -> Option<Stamp> {
     let (version, count) = word.split_once(':')?;
     Some(Stamp {
-        version: version.parse::<u32>().ok()?,
-        count: count.parse::<u64>().ok()?,
+        version: short(version, 0)?,
+        count: number(count, 0)?,
     })
+}
+
+/// The entry of a document with these fields.
+fn entry_of(alloc: Global, stamp: Stamp, id: DocId, fields: &str) -> Option<Entry> {
+    let body = read_document(alloc, &id, fields);
+    if body.is_some() {
+        Some(Entry { stamp, id, body })
+    } else {
+        None
+    }
 }
 
 /// The entry of a document, of which a word says the stamp and the body.
 pub fn read_version(alloc: Global, id: DocId, word: &str) -> Option<Entry> {
-    let (stamp, fields) = word.split_once('/')?;
-    let stamp = read_stamp(stamp)?;
-    let body = match fields {
-        "-" => None,
-        fields => Some(read_document(alloc, &id, fields)?),
-    };
-    Some(Entry { stamp, id, body })
+    let (stamp, fields) = word.split_once('/').unwrap_or(("", ""));
+    match read_stamp(stamp) {
+        None => None,
+        Some(stamp) if fields == "-" => Some(Entry {
+            stamp,
+            id,
+            body: None,
+        }),
+        Some(stamp) => entry_of(alloc, stamp, id, fields),
+    }
 }
 
 /// An entry.
 pub fn read_entry(alloc: Global, word: &str) -> Option<Entry> {
     let (id, version) = word.split_once('@')?;
-    read_version(alloc, DocId::parse(alloc, id).ok()?, version)
+    match DocId::parse(alloc, id) {
+        Ok(id) => read_version(alloc, id, version),
+        Err(_) => None,
+    }
+}
+
+/// Puts an entry; whether a word says one.
+pub fn put(alloc: Global, entries: &mut EntryMap, word: &str) -> bool {
+    match read_entry(alloc, word) {
+        Some(entry) => entries.put(entry).is_ok(),
+        None => false,
+    }
 }
 
 /// Entries.
-pub fn read_entries(alloc: Global, words: &[&str]) -> Option<EntryMap> {
+pub fn read_entries(alloc: Global, words: &str) -> Option<EntryMap> {
     let mut entries = EntryMap::new(alloc);
-    for word in words {
-        entries.put(read_entry(alloc, word)?).ok()?;
+    let mut good = true;
+    for word in words.split_ascii_whitespace() {
+        good &= put(alloc, &mut entries, word);
     }
-    Some(entries)
+    if good { Some(entries) } else { None }
 }

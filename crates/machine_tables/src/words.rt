@@ -5,6 +5,7 @@ ghost use Rattle.std.specs.Prelude.{◌<◌, IfOk, IfSome};
 ghost use Rattle.service_layer.specs.Takes.{IsInside};
 ghost use Rattle.replica_store.specs.Replicas.{LieIn};
 
+use crate::texts::{halves, number, short};
 use crate::versions::{read_entries, read_entry};
 use bucket_ids::Bucket;
 use document_ids::DocId;
@@ -16,11 +17,6 @@ use pieces::{Piece, PieceList};
 use std::alloc::Global;
 use value_lists::NoMemory;
 
-/// The word of a place, or none at all where there are fewer.
-pub fn word<'a>(words: &[&'a str], at: usize) -> &'a str {
-    if at < words.len() { words[at] } else { "" }
-}
-
 /// A bucket's number.
 pub fn read_bucket(word: &str) -> Option<Bucket> {
     Bucket::parse(word).ok()
@@ -30,54 +26,66 @@ pub fn read_bucket(word: &str) -> Option<Bucket> {
 pub fn read_place(word: &str, count: usize) -> Option<usize>
     ensures { IfSome result (λ at. at < count) }
 {
-    let at = word.parse::<usize>().ok()?;
-    if at < count { Some(at) } else { None }
+    match word.parse::<usize>() {
+        Ok(at) if at < count => Some(at),
+        _ => None,
+    }
 }
 
 /// A node.
 pub fn read_node(word: &str) -> Option<u8>
     ensures { IfSome result (λ node. node < 32) }
 {
-    let node = word.parse::<u8>().ok()?;
-    if node < 32 { Some(node) } else { None }
+    match word.parse::<u8>() {
+        Ok(node) if node < 32 => Some(node),
+        _ => None,
+    }
 }
 
 /// The set of these bits.
-pub fn read_set(word: &str) -> Option<NodeSet> {
-    Some(NodeSet::of(word.parse::<u32>().ok()?))
+pub fn read_set(words: &str, at: usize) -> Option<NodeSet> {
+    Some(NodeSet::of(short(words, at)?))
+}
+
+/// Appends a bucket; whether a word says one.
+fn push_bucket(buckets: &mut Vec<Bucket>, word: &str) -> bool {
+    match Bucket::parse(word) {
+        Ok(bucket) => buckets.push(bucket).is_ok(),
+        Err(_) => false,
+    }
 }
 
 /// Buckets.
-pub fn read_buckets(alloc: Global, words: &[&str]) -> Option<Vec<Bucket>> {
+pub fn read_buckets(alloc: Global, words: &str) -> Option<Vec<Bucket>> {
     let mut buckets = Vec::new(alloc);
-    for word in words {
-        buckets.push(Bucket::parse(word).ok()?).ok()?;
+    let mut good = true;
+    for word in words.split_ascii_whitespace() {
+        good &= push_bucket(&mut buckets, word);
     }
-    Some(buckets)
+    if good { Some(buckets) } else { None }
 }
 
 /// The body that stores an entry.
 fn read_store(alloc: Global, word: &str) -> Option<Body>
     ensures { IfSome result IsInside }
 {
-    let entry = SharedEntry::new(alloc, read_entry(alloc, word)?).ok()?;
-    Some(Body::Store { entry })
+    match SharedEntry::new(alloc, read_entry(alloc, word)?) {
+        Ok(entry) => Some(Body::Store { entry }),
+        Err(_) => None,
+    }
 }
 
 /// The body that asks for a document.
 fn read_find(alloc: Global, bucket: Bucket, id: &str) -> Option<Body>
     ensures { IfSome result IsInside }
 {
-    let only = Some(DocId::parse(alloc, id).ok()?);
-    Some(Body::Read { bucket, only })
-}
-
-/// The body that deletes a piece.
-fn read_delete(bucket: Bucket, serial: &str) -> Option<Body>
-    ensures { IfSome result IsInside }
-{
-    let serial = serial.parse::<u64>().ok()?;
-    Some(Body::Delete { bucket, serial })
+    match DocId::parse(alloc, id) {
+        Ok(id) => Some(Body::Read {
+            bucket,
+            only: Some(id),
+        }),
+        Err(_) => None,
+    }
 }
 
 /// Those of some entries whose keys lie in a bucket.
@@ -88,7 +96,7 @@ pub fn entries_in(entries: &EntryMap, bucket: Bucket) -> Result<EntryMap, NoMemo
 }
 
 /// The body that applies entries to a bucket.
-fn read_apply(alloc: Global, bucket: Bucket, words: &[&str]) -> Option<Body>
+fn read_apply(alloc: Global, bucket: Bucket, words: &str) -> Option<Body>
     ensures { IfSome result IsInside }
 {
     let all = read_entries(alloc, words)?;
@@ -113,28 +121,29 @@ pub fn change_of(verb: &str, bucket: Bucket) -> Option<Body>
 }
 
 /// A body that names a bucket first.
-fn read_change(alloc: Global, verb: &str, bucket: Bucket, rest: &[&str]) -> Option<Body>
+fn read_change(alloc: Global, verb: &str, bucket: Bucket, rest: &str) -> Option<Body>
     ensures { IfSome result IsInside }
 {
     match verb {
-        "find" => read_find(alloc, bucket, word(rest, 0)),
+        "find" => read_find(alloc, bucket, rest),
         "apply" => read_apply(alloc, bucket, rest),
-        "delete" => read_delete(bucket, word(rest, 0)),
+        "delete" => Some(Body::Delete {
+            bucket,
+            serial: number(rest, 0)?,
+        }),
         verb => change_of(verb, bucket),
     }
 }
 
 /// The body that words say.
-pub fn read_body(alloc: Global, verb: &str, rest: &[&str]) -> Option<Body>
+pub fn read_body(alloc: Global, verb: &str, rest: &str) -> Option<Body>
     ensures { IfSome result IsInside }
 {
+    let (bucket, behind) = halves(rest);
     match verb {
         "ask" => Some(Body::Ask),
-        "store" => read_store(alloc, word(rest, 0)),
-        verb => {
-            let (bucket, rest) = rest.split_first()?;
-            read_change(alloc, verb, read_bucket(bucket)?, rest)
-        }
+        "store" => read_store(alloc, rest),
+        verb => read_change(alloc, verb, read_bucket(bucket)?, behind),
     }
 }
 
@@ -142,40 +151,44 @@ pub fn read_body(alloc: Global, verb: &str, rest: &[&str]) -> Option<Body>
 fn read_piece(word: &str) -> Option<Piece> {
     let (bucket, serial) = word.split_once('.')?;
     Some(Piece {
-        bucket: Bucket::parse(bucket).ok()?,
-        serial: serial.trim_end_matches('!').parse::<u64>().ok()?,
+        bucket: read_bucket(bucket)?,
+        serial: number(serial.trim_end_matches('!'), 0)?,
         ready: serial.ends_with('!'),
     })
 }
 
-/// The piece that a word says, or none where it is a `-`.
+/// The list of the piece that a word says, or the empty one where it is a `-`.
 fn read_pieces(alloc: Global, word: &str) -> Option<PieceList> {
     let mut pieces = Vec::new(alloc);
-    if word != "-" {
-        pieces.push(read_piece(word)?).ok()?;
+    let good = word == "-"
+        || match read_piece(word) {
+            Some(piece) => pieces.push(piece).is_ok(),
+            None => false,
+        };
+    if good {
+        Some(PieceList::of(pieces))
+    } else {
+        None
     }
-    Some(PieceList::of(pieces))
 }
 
 /// The answer that shows a piece and entries.
-fn read_answer(alloc: Global, words: &[&str]) -> Option<Reply> {
-    let (piece, entries) = words.split_first()?;
+fn read_answer(alloc: Global, words: &str) -> Option<Reply> {
+    let (piece, entries) = halves(words);
     let pieces = read_pieces(alloc, piece)?;
-    let entries = read_entries(alloc, entries)?;
-    Some(Reply::Answer { pieces, entries })
-}
-
-/// The refusal by a greater version.
-fn read_newer(word: &str) -> Option<Reply> {
-    let version = word.parse::<u32>().ok()?;
-    Some(Reply::Newer { version })
+    match read_entries(alloc, entries) {
+        Some(entries) => Some(Reply::Answer { pieces, entries }),
+        None => None,
+    }
 }
 
 /// The reply that words say.
-pub fn read_reply(alloc: Global, verb: &str, rest: &[&str]) -> Option<Reply> {
+pub fn read_reply(alloc: Global, verb: &str, rest: &str) -> Option<Reply> {
     match verb {
         "answer" => read_answer(alloc, rest),
-        "newer" => read_newer(word(rest, 0)),
+        "newer" => Some(Reply::Newer {
+            version: short(rest, 0)?,
+        }),
         "nobucket" => Some(Reply::NoBucket),
         "differs" => Some(Reply::Differs),
         "nomemory" => Some(Reply::NoMemory),
@@ -184,9 +197,12 @@ pub fn read_reply(alloc: Global, verb: &str, rest: &[&str]) -> Option<Reply> {
 }
 
 /// The same where `lost` says that none came.
-pub fn read_arrived(alloc: Global, verb: &str, rest: &[&str]) -> Option<Option<Reply>> {
+pub fn read_arrived(alloc: Global, verb: &str, rest: &str) -> Option<Option<Reply>> {
     if verb == "lost" {
         return Some(None);
     }
-    Some(Some(read_reply(alloc, verb, rest)?))
+    match read_reply(alloc, verb, rest) {
+        Some(reply) => Some(Some(reply)),
+        None => None,
+    }
 }

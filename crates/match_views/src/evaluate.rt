@@ -11,7 +11,7 @@ use std::alloc::Global;
 use value_lists::NoMemory;
 use view_changes::Lists;
 
-/// The local ids of a node's documents of a type of which an expression is true. The only error is want of memory.
+/// The local ids of a node's documents of a type of which an expression is true.
 pub fn evaluate<L: Lists>(
     alloc: Global,
     lists: &L,

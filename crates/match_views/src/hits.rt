@@ -41,7 +41,7 @@ impl Model for Hits {
 }
 
 impl Hits {
-    /// The hits; takes no memory.
+    /// The hits.
     pub fn items(&self) -> &[Hit]
         ensures { result.now ≡ self.now }
     {
@@ -49,7 +49,7 @@ impl Hits {
     }
 }
 
-/// The hits of one node. The only error is want of memory.
+/// The hits of one node.
 fn push_all(hits: &mut Vec<Hit>, node: u8, locals: &[u32]) -> Result<(), NoMemory>
     ensures items { OnOk result (hits.new.items ≡ hits.old.items ++ map (λ local. record { node = node; local = local }) locals.now) }
     ensures low { OnOk result (AllByRecursion (λ hit. hit.local < 4294967296) hits.old.items
@@ -66,7 +66,7 @@ fn push_all(hits: &mut Vec<Hit>, node: u8, locals: &[u32]) -> Result<(), NoMemor
 
 /// Of which documents of nodes that serve at a version a query is true, by rising lists: no document and no value is read.
 /// Takes for each such node the lengths of the lists that the query names. They are at most 2^37, since each of 32 nodes has
-/// 2^32 local ids. The only error is want of memory.
+/// 2^32 local ids.
 pub fn matches<L: Lists>(
     alloc: Global,
     query: &Query,

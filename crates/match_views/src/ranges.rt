@@ -13,7 +13,7 @@ use std::alloc::Global;
 use value_lists::NoMemory;
 use view_changes::Lists;
 
-/// The local ids of all lists of numbers, joined in pairs. The only error is want of memory.
+/// The local ids of all lists of numbers, joined in pairs.
 fn united(alloc: Global, parts: &[(i64, &[u32])]) -> Result<Vec<u32>, NoMemory>
     ensures { (name field : List ℕ) (rows : Rows) → AreLists name field rows (map (λ p. (p.0, p.1.now)) parts.now)
         → IfOk result (λ ids. ids.items
@@ -55,7 +55,7 @@ fn bounds(rel: Rel, number: i64) -> (i64, i64)
     }
 }
 
-/// A number with its documents more, where it stands so to a number. The only error is want of memory.
+/// A number with its documents more, where it stands so to a number.
 fn push_so<'a>(
     parts: &mut Vec<(i64, &'a [u32])>,
     rel: Rel,
@@ -74,7 +74,6 @@ fn push_so<'a>(
 }
 
 /// The numbers that stand so to a number and that a node's documents of a type have in a field, each with its documents.
-/// The only error is want of memory.
 fn numbers_so<'a, L: Lists>(
     alloc: Global,
     lists: &'a L,

@@ -4,7 +4,7 @@ ghost use Rattle.match_views.specs.Merging.{joined, cut, lacking};
 use std::alloc::Global;
 use value_lists::NoMemory;
 
-/// The numbers of both rising lists. The only error is want of memory.
+/// The numbers of both rising lists.
 pub fn join(alloc: Global, xs: &[u32], ys: &[u32]) -> Result<Vec<u32>, NoMemory>
     ensures { IfOk result (λ all. all.items ≡ joined xs.now ys.now) }
 {
@@ -30,7 +30,7 @@ pub fn join(alloc: Global, xs: &[u32], ys: &[u32]) -> Result<Vec<u32>, NoMemory>
     Ok(all)
 }
 
-/// The numbers that both rising lists have. The only error is want of memory.
+/// The numbers that both rising lists have.
 pub fn cut(alloc: Global, xs: &[u32], ys: &[u32]) -> Result<Vec<u32>, NoMemory>
     ensures { IfOk result (λ both. both.items ≡ cut xs.now ys.now) }
 {
@@ -52,7 +52,7 @@ pub fn cut(alloc: Global, xs: &[u32], ys: &[u32]) -> Result<Vec<u32>, NoMemory>
     Ok(both)
 }
 
-/// The numbers of the first rising list that the second lacks. The only error is want of memory.
+/// The numbers of the first rising list that the second lacks.
 pub fn lack(alloc: Global, xs: &[u32], ys: &[u32]) -> Result<Vec<u32>, NoMemory>
     ensures { IfOk result (λ rest. rest.items ≡ lacking xs.now ys.now) }
 {

@@ -35,7 +35,7 @@ fn rarest<L: Lists>(
 }
 
 /// The local ids of a node's documents of a type that have each of some tokens in a field, of which there is one. Takes
-/// the lengths of the tokens' lists. The only error is want of memory.
+/// the lengths of the tokens' lists.
 pub fn containing<L: Lists>(
     alloc: Global,
     lists: &L,

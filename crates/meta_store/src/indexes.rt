@@ -29,7 +29,7 @@ pub fn least_free(locals: &[u32]) -> u32
     low as u32
 }
 
-/// A document has a local id. The only error is want of memory.
+/// A document has a local id.
 fn put_id(
     alloc: Global,
     by_id: &mut BTreeMap<String, u32>,

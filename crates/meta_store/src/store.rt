@@ -105,7 +105,7 @@ impl MetaStore {
     }
 
     /// The local id of a document: the one that it has, else the least that is free. Takes the logarithm of the
-    /// documents, and the move of the ids above the new one by four bytes each. The only error is want of memory.
+    /// documents, and the move of the ids above the new one by four bytes each.
     pub fn assign(&mut self, alloc: Global, id: &DocId, key: u64) -> Result<u32, NoMemory>
         requires { fin.len self.old < 2 ^ 32 - 1 }
 
@@ -132,7 +132,7 @@ impl MetaStore {
         )
     }
 
-    /// Gives a document that is new a local id that is free. Takes what `assign` takes. The only error is want of memory.
+    /// Gives a document that is new a local id that is free. Takes what `assign` takes.
     pub fn place(&mut self, alloc: Global, local: u32, id: &DocId, key: u64) -> Result<(), NoMemory>
         requires new { IsNew self.old id.now }
         requires free { fin.get self.old local ≡ None }
@@ -150,7 +150,7 @@ impl MetaStore {
         )
     }
 
-    /// The local id of a document, which no other document has; takes no memory.
+    /// The local id of a document, which no other document has.
     pub fn local(&self, id: &DocId) -> Option<u32>
         ensures { (n : ℕ) → (result ≡ Some n) ↔ Has self.now n id.now }
     {
@@ -192,7 +192,7 @@ impl MetaStore {
         self.locals.len()
     }
 
-    /// A local id is free; takes no memory.
+    /// A local id is free.
     pub fn free(&mut self, local: u32)
         ensures { self.new ≡ fin.remove self.old local }
     {

@@ -95,7 +95,7 @@ fn clear_unfit(schema: &Schema, type_name: &str, document: &mut Document, field:
     }
 }
 
-/// The document without the values that aren't of their kinds. The only error is want of memory.
+/// The document without the values that aren't of their kinds.
 fn fitted_document(
     alloc: Global,
     schema: &Schema,

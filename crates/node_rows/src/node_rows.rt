@@ -79,7 +79,7 @@ impl Model for NodeRows {
 const MOST: usize = 4_294_967_295;
 
 impl NodeRows {
-    /// No documents, of a schema that is shared. The only error is want of memory.
+    /// No documents, of a schema that is shared.
     pub fn new(alloc: Global, schema: &SharedSchema) -> Result<NodeRows, NoMemory>
         ensures { IfOk result (λ r. r ≡ record { types = schema.now; rows = [] }) }
     {
@@ -91,7 +91,7 @@ impl NodeRows {
         })
     }
 
-    /// The document of a place goes. Takes no memory.
+    /// The document of a place goes.
     fn clear(&mut self, local: u32)
         requires { local < length self.old.rows }
         ensures { self.new ≡ with_rows (set_at local None self.old.rows) self.old }
@@ -104,7 +104,7 @@ impl NodeRows {
         }
     }
 
-    /// The document of an id goes, where there is one. Takes no memory.
+    /// The document of an id goes, where there is one.
     fn leave(&mut self, id: &DocId)
         ensures { self.new ≡ with_rows (without id.now self.old.rows) self.old }
     {
@@ -113,7 +113,7 @@ impl NodeRows {
         }
     }
 
-    /// A new document comes to the least free place, if one is below 2^32 - 1. The only error is want of memory.
+    /// A new document comes to the least free place, if one is below 2^32 - 1.
     fn enter(&mut self, alloc: Global, key: u64, entry: SharedEntry) -> Result<(), NoMemory>
         requires own { IfSome entry.body (λ d. IsProper self.old.types d × (key ≡ key_of d.id) × (has_row d.id self.old.rows ≡ false)) }
         ensures ok { OnOk result (self.new ≡ with_rows (by_body put_new entry.body self.old.rows) self.old) }
@@ -136,7 +136,7 @@ impl NodeRows {
     }
 
     /// Another document comes to the place of one of the same id: it enters the indexes behind the last place and moves
-    /// down once that has left, which takes no memory. The only error is want of memory.
+    /// down once that has left, which takes no memory.
     fn replace(&mut self, alloc: Global, local: u32, entry: SharedEntry) -> Result<(), NoMemory>
         requires own { IfSome entry.body (λ d. IsProper self.old.types d × (option_map (λ c. c.id) (row_at self.old.rows local) ≡ Some d.id)) }
         ensures ok { OnOk result (self.new ≡ with_rows (by_body (λ d rows. set_at local (Some d) rows) entry.body self.old.rows) self.old) }
@@ -157,7 +157,7 @@ impl NodeRows {
         Ok(())
     }
 
-    /// A document comes to its place. The only error is want of memory.
+    /// A document comes to its place.
     fn put(&mut self, alloc: Global, key: u64, entry: SharedEntry) -> Result<(), NoMemory>
         requires own { IfSome entry.body (λ d. IsProper self.old.types d × (key ≡ key_of d.id) × (d.id ≡ entry.id)) }
         ensures ok { OnOk result (self.new ≡ with_rows (by_body with_document entry.body self.old.rows) self.old) }
@@ -171,7 +171,7 @@ impl NodeRows {
 
     /// A node keeps an entry: its document comes to its place, or goes. The key is that of its id. Takes the size of the
     /// document before and of this one, for each of their words and numbers a logarithm, and the move of the ids above in
-    /// their lists; a document that goes takes no memory. The only error is want of memory.
+    /// their lists; a document that goes takes no memory.
     pub fn take(&mut self, alloc: Global, key: u64, entry: &SharedEntry) -> Result<(), NoMemory>
         requires { key ≡ key_of entry.now.id }
         ensures ok { OnOk result (self.new ≡ with_rows (taken_into self.old.types self.old.rows entry.now) self.old) }
@@ -186,7 +186,7 @@ impl NodeRows {
         }
     }
 
-    /// No places behind so many, which are free. Takes no memory.
+    /// No places behind so many, which are free.
     fn cut(&mut self, count: usize)
         requires { (k : ℕ) → count ≤ k → row_at self.old.rows k ≡ None }
         ensures { self.new ≡ with_rows (take count self.old.rows) self.old }
@@ -205,7 +205,7 @@ impl NodeRows {
     }
 
     /// A node keeps some entries of documents that it lacked, in their order, or none of them. Takes for each what `take`
-    /// takes, and a digest of its id. The only error is want of memory.
+    /// takes, and a digest of its id.
     pub fn take_all(&mut self, alloc: Global, entries: &[SharedEntry]) -> Result<(), NoMemory>
         requires new { AreNew self.old.rows entries.now }
         ensures ok { OnOk result (self.new ≡ with_rows (all_taken self.old.types entries.now self.old.rows) self.old) }
@@ -234,7 +234,7 @@ impl NodeRows {
         }
     }
 
-    /// The document of a place goes, if its key lies in a bucket. Takes no memory.
+    /// The document of a place goes, if its key lies in a bucket.
     fn clear_in(&mut self, local: u32, bucket: Bucket)
         requires { local < length self.old.rows }
         ensures { self.new ≡ with_rows (set_at local (kept_in bucket (row_at self.old.rows local)) self.old.rows) self.old }
@@ -244,7 +244,7 @@ impl NodeRows {
         }
     }
 
-    /// The documents of a bucket go from so many places. Takes no memory.
+    /// The documents of a bucket go from so many places.
     fn drop_below(&mut self, count: u32, bucket: Bucket)
         requires { count ≡ length self.old.rows }
         ensures { self.new ≡ with_rows (without_in bucket self.old.rows) self.old }
@@ -262,7 +262,7 @@ impl NodeRows {
         self.drop_below(self.len() as u32, bucket);
     }
 
-    /// One more place, which is free. The only error is want of memory.
+    /// One more place, which is free.
     fn append_free(&mut self) -> Result<(), NoMemory>
         requires { length self.old.rows < 4294967295 }
         ensures { OnOk result (self.new ≡ with_rows (set_at (length self.old.rows) None self.old.rows) self.old) }
@@ -271,7 +271,7 @@ impl NodeRows {
         Ok(())
     }
 
-    /// One more place, with the document of an entry. The only error is want of memory.
+    /// One more place, with the document of an entry.
     fn append(&mut self, alloc: Global, key: u64, entry: SharedEntry) -> Result<(), NoMemory>
         requires few { length self.old.rows < 4294967295 }
         requires own { IfSome entry.body (λ d. IsProper self.old.types d × (key ≡ key_of d.id) × (has_row d.id self.old.rows ≡ false)) }
@@ -291,7 +291,7 @@ impl NodeRows {
         Ok(())
     }
 
-    /// One more place, with a copy of another. The only error is want of memory.
+    /// One more place, with a copy of another.
     fn append_copy(
         &mut self,
         alloc: Global,
@@ -308,7 +308,7 @@ impl NodeRows {
         }
     }
 
-    /// The next place of other rows. The only error is want of memory.
+    /// The next place of other rows.
     fn append_from(&mut self, alloc: Global, other: &NodeRows, local: u32) -> Result<(), NoMemory>
         requires some { local < length other.now.rows }
         requires same { self.old ≡ with_rows (take local other.now.rows) other.now }

@@ -24,7 +24,7 @@ impl Model for SharedSchema {
 }
 
 impl SharedSchema {
-    /// The schema, to be shared. The only error is want of memory.
+    /// The schema, to be shared.
     pub fn new(alloc: Global, schema: Schema) -> Result<SharedSchema, NoMemory>
         ensures { IfOk result (λ shared. shared ≡ schema) }
     {

@@ -18,7 +18,7 @@ use value_lists::NoMemory;
 use view_changes::LaneChange;
 use view_changes::laws::{deeds_are_shown, deeds_find_room, views_keep};
 
-/// The version of the node of a number is told. The only error is want of memory.
+/// The version of the node of a number is told.
 fn tell_version(
     alloc: Global,
     view: &mut LaneView,
@@ -39,7 +39,7 @@ fn tell_version(
     Ok(())
 }
 
-/// The regions of the node of a number are told, the newest last, with their entries. The only error is want of memory.
+/// The regions of the node of a number are told, the newest last, with their entries.
 fn tell_regions(
     alloc: Global,
     view: &mut LaneView,
@@ -66,7 +66,7 @@ fn tell_regions(
     Ok(())
 }
 
-/// What the node of a number keeps is told; one past the list's end took no message. The only error is want of memory.
+/// What the node of a number keeps is told; one past the list's end took no message.
 fn tell_node(
     alloc: Global,
     view: &mut LaneView,
@@ -82,7 +82,7 @@ fn tell_node(
     tell_regions(alloc, view, number, node)
 }
 
-/// Whether the node of a number is stopped is told. The only error is want of memory.
+/// Whether the node of a number is stopped is told.
 fn tell_stop(
     alloc: Global,
     view: &mut LaneView,
@@ -97,7 +97,7 @@ fn tell_stop(
     Ok(())
 }
 
-/// The view after all nodes below 32 were told, and which of them are stopped. The only error is want of memory.
+/// The view after all nodes below 32 were told, and which of them are stopped.
 fn told(
     alloc: Global,
     schema: &SharedSchema,
@@ -117,7 +117,7 @@ fn told(
 
 /// The view of a lane whose journal says of each node below 32 what it is, and which ones are stopped; a node past the
 /// list's end took no message. It is a view that shows what is read off the journal, and its regions lie in the lane.
-/// Entries are shared with the nodes. Costs a look at each entry that lies in a region. The only error is want of memory.
+/// Entries are shared with the nodes. Costs a look at each entry that lies in a region.
 pub fn view_of_nodes(
     alloc: Global,
     schema: &SharedSchema,

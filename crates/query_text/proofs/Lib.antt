@@ -2,3 +2,4 @@ mod TermReading
 mod QueryReading
 mod QueryRuns
 mod Reading
+mod Spelled

@@ -22,6 +22,7 @@
 
 mod conditioned;
 pub mod expr;
+pub mod laws;
 pub mod parsed;
 mod parts;
 pub mod query;

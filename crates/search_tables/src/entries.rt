@@ -13,24 +13,36 @@ use stamps::Stamp;
 use std::alloc::Global;
 use value_lists::TryCopy;
 
-/// A field of the schema.
-fn field_of(alloc: Global, name: &str, kind: FieldType) -> Option<FieldOf> {
-    Some(FieldOf {
-        name: String::from_str(alloc, name).ok()?,
-        kind,
-    })
+/// Appends a field; whether there is memory for it.
+fn push_field(alloc: Global, fields: &mut Vec<FieldOf>, name: &str, kind: FieldType) -> bool {
+    match String::from_str(alloc, name) {
+        Ok(name) => fields.push(FieldOf { name, kind }).is_ok(),
+        Err(_) => false,
+    }
 }
 
-/// A type of the schema.
-fn type_of(alloc: Global, name: &str, kinds: &[(&str, FieldType)]) -> Option<TypeOf> {
-    let mut fields = Vec::new(alloc);
-    for (field, kind) in kinds {
-        fields.push(field_of(alloc, field, *kind)?).ok()?;
+/// Appends fields; whether there is memory for them.
+fn push_fields(alloc: Global, fields: &mut Vec<FieldOf>, kinds: &[(&str, FieldType)]) -> bool {
+    let mut good = true;
+    for (name, kind) in kinds {
+        good &= push_field(alloc, fields, name, *kind);
     }
-    Some(TypeOf {
-        name: String::from_str(alloc, name).ok()?,
-        fields,
-    })
+    good
+}
+
+/// Appends a type; whether there is memory for it.
+fn push_type(
+    alloc: Global,
+    types: &mut Vec<TypeOf>,
+    name: &str,
+    kinds: &[(&str, FieldType)],
+) -> bool {
+    let mut fields = Vec::new(alloc);
+    let good = push_fields(alloc, &mut fields, kinds);
+    match String::from_str(alloc, name) {
+        Ok(name) => types.push(TypeOf { name, fields }).is_ok() && good,
+        Err(_) => false,
+    }
 }
 
 /// The fields of `music`, and those of `book`.
@@ -50,20 +62,60 @@ const BOOK: &[(&str, FieldType)] = &[
 /// The schema of all documents.
 pub fn schema(alloc: Global) -> Option<SharedSchema> {
     let mut types = Vec::new(alloc);
-    types.push(type_of(alloc, "music", MUSIC)?).ok()?;
-    types.push(type_of(alloc, "book", BOOK)?).ok()?;
-    SharedSchema::new(alloc, Schema::of(types)).ok()
+    if push_type(alloc, &mut types, "music", MUSIC) && push_type(alloc, &mut types, "book", BOOK) {
+        SharedSchema::new(alloc, Schema::of(types)).ok()
+    } else {
+        None
+    }
+}
+
+/// Sets the field that a word says, as `FIELD=VALUE`; whether it says one that the document may have.
+fn set_field(alloc: Global, document: &mut Document, word: &str) -> bool {
+    let (field, value) = word.split_once('=').unwrap_or(("", ""));
+    match read_value(alloc, value) {
+        Some(value) => document.set(alloc, field, value).is_ok(),
+        None => false,
+    }
 }
 
 /// The document that a word says: an id, and fields with their values, each behind a semicolon.
 fn read_document(alloc: Global, word: &str) -> Option<Document> {
     let mut parts = word.split(';');
-    let mut document = Document::empty(alloc, DocId::parse(alloc, parts.next()?).ok()?);
+    let id = DocId::parse(alloc, parts.next().unwrap_or("")).ok()?;
+    let mut document = Document::empty(alloc, id);
+    let mut good = true;
     for part in parts {
-        let (field, value) = part.split_once('=')?;
-        document.set(alloc, field, read_value(alloc, value)?).ok()?;
+        good &= set_field(alloc, &mut document, part);
     }
-    Some(document)
+    if good { Some(document) } else { None }
+}
+
+/// The entry that stores a document.
+fn entry_of(alloc: Global, stamp: Stamp, document: Document) -> Option<Entry>
+    ensures { IfSome result HasOwnId }
+{
+    match document.id().copy(alloc) {
+        Ok(id) => Some(Entry {
+            stamp,
+            id,
+            body: Some(document),
+        }),
+        Err(_) => None,
+    }
+}
+
+/// The entry that removes the document of an id.
+fn remove_of(alloc: Global, stamp: Stamp, id: &str) -> Option<Entry>
+    ensures { IfSome result HasOwnId }
+{
+    match DocId::parse(alloc, id) {
+        Ok(id) => Some(Entry {
+            stamp,
+            id,
+            body: None,
+        }),
+        Err(_) => None,
+    }
 }
 
 /// The entry that a word says: a document, or behind a minus sign the id of one that is removed. Its stamp is of version 1
@@ -72,17 +124,8 @@ pub fn read_entry(alloc: Global, word: &str, count: u64) -> Option<Entry>
     ensures { IfSome result HasOwnId }
 {
     let stamp = Stamp { version: 1, count };
-    if let Some(id) = word.strip_prefix('-') {
-        return Some(Entry {
-            stamp,
-            id: DocId::parse(alloc, id).ok()?,
-            body: None,
-        });
+    match word.strip_prefix('-') {
+        Some(id) => remove_of(alloc, stamp, id),
+        None => entry_of(alloc, stamp, read_document(alloc, word)?),
     }
-    let document = read_document(alloc, word)?;
-    Some(Entry {
-        stamp,
-        id: document.id().copy(alloc).ok()?,
-        body: Some(document),
-    })
 }

@@ -12,12 +12,13 @@ mod searches;
 mod shelf;
 mod stores;
 mod table;
+mod texts;
 mod views;
 mod words;
 
 use crate::parts::Parts;
 use crate::table::hold;
-use anyhow::Result;
+use std::io;
 use std::process::ExitCode;
 
 /// The tables, which are the files of `data/`.
@@ -35,7 +36,7 @@ const NAMES: &[&str] = &[
 ];
 
 /// Holds all tables; true where a line is wrong.
-fn hold_all(rt: &HostRuntime, parts: &mut Parts) -> Result<bool> {
+fn hold_all(rt: &HostRuntime, parts: &mut Parts) -> io::Result<bool> {
     let mut wrong = false;
     for name in NAMES {
         wrong |= hold(rt, parts, name)?;
@@ -43,7 +44,7 @@ fn hold_all(rt: &HostRuntime, parts: &mut Parts) -> Result<bool> {
     Ok(wrong)
 }
 
-fn main(rt: HostRuntime) -> Result<ExitCode> {
+fn main(rt: HostRuntime) -> io::Result<ExitCode> {
     let mut parts = Parts::new(rt.alloc());
     let wrong = hold_all(&rt, &mut parts)?;
     Ok(ExitCode::from(u8::from(wrong)))

@@ -1,6 +1,7 @@
 //! A map from local ids.
 
 use crate::table::done;
+use crate::texts::{number, word};
 use local_ids::LocalMap;
 use std::alloc::Global;
 use value_lists::TextValue;
@@ -11,21 +12,40 @@ pub struct Maps {
     map: LocalMap<TextValue>,
 }
 
+/// The verbs, and the kinds of the words behind each.
+pub const SHAPES: &[(&str, &str)] = &[
+    ("begin", "."),
+    ("compact", "."),
+    ("set", "u32 word ."),
+    ("move", "u32 u32 ."),
+    ("clear", "u32 ."),
+    ("get", "u32 ."),
+];
+
 /// The value of an id, or `none`.
 fn value(alloc: Global, map: &LocalMap<TextValue>, local: u32) -> Option<String> {
-    match map.get(local) {
-        Some(text) => String::from_str(alloc, text.text()).ok(),
-        None => String::from_str(alloc, "none").ok(),
-    }
+    let text = match map.get(local) {
+        Some(text) => text.text(),
+        None => "none",
+    };
+    String::from_str(alloc, text).ok()
 }
 
 /// Moves a value down, where that may be.
-fn move_down(map: &mut LocalMap<TextValue>, from: u32, to: u32) -> Option<()> {
-    if to < from && map.get(to).is_none() {
+fn move_down(map: &mut LocalMap<TextValue>, from: u32, to: u32) -> bool {
+    let may = to < from && map.get(to).is_none();
+    if may {
         map.move_down(from, to);
-        return Some(());
     }
-    None
+    may
+}
+
+/// Sets a value.
+fn set(alloc: Global, map: &mut LocalMap<TextValue>, local: u32, text: &str) -> bool {
+    match String::from_str(alloc, text) {
+        Ok(text) => map.set(local, TextValue::of(text)).is_ok(),
+        Err(_) => false,
+    }
 }
 
 impl Maps {
@@ -36,41 +56,18 @@ impl Maps {
         }
     }
 
-    /// Sets a value.
-    fn set(&mut self, alloc: Global, local: u32, text: &str) -> Option<()> {
-        let value = TextValue::of(String::from_str(alloc, text).ok()?);
-        self.map.set(local, value).ok()
-    }
-
     /// Does what a line says.
-    pub fn say(&mut self, alloc: Global, verb: &str, rest: &[&str]) -> Option<String> {
-        match (verb, rest) {
-            ("begin", []) => {
-                self.map = LocalMap::new(alloc);
-                done(alloc, Some(()))
-            }
-            ("set", [local, text]) => {
-                let set = self.set(alloc, local.parse::<u32>().ok()?, text);
-                done(alloc, set)
-            }
-            ("clear", [local]) => {
-                self.map.clear(local.parse::<u32>().ok()?);
-                done(alloc, Some(()))
-            }
-            ("move", [from, to]) => done(
-                alloc,
-                move_down(
-                    &mut self.map,
-                    from.parse::<u32>().ok()?,
-                    to.parse::<u32>().ok()?,
-                ),
-            ),
-            ("compact", []) => {
-                self.map.compact();
-                done(alloc, Some(()))
-            }
-            ("get", [local]) => value(alloc, &self.map, local.parse::<u32>().ok()?),
-            _ => None,
+    pub fn say(&mut self, alloc: Global, verb: &str, rest: &str) -> Option<String> {
+        let map = &mut self.map;
+        let (local, to) = (number(rest, 0), number(rest, 1));
+        match verb {
+            "get" => return value(alloc, map, local),
+            "set" => return done(alloc, set(alloc, map, local, word(rest, 1))),
+            "move" => return done(alloc, move_down(map, local, to)),
+            "clear" => map.clear(local),
+            "compact" => map.compact(),
+            _ => *map = LocalMap::new(alloc),
         }
+        done(alloc, true)
     }
 }

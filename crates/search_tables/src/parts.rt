@@ -7,6 +7,7 @@ use crate::shelf::OneShelf;
 use crate::stores::Stores;
 use crate::views::Views;
 use crate::words::Words;
+use crate::{columns, databases, maps, stores, views, words};
 use std::alloc::Global;
 
 /// Each part stays as it is from line to line, until a line says that it begins anew.
@@ -35,33 +36,28 @@ impl Parts {
         }
     }
 
-    /// Does what a line of a table says, and tells what comes of it; none where it has no such words, where what they
-    /// say can't be done, or where memory is wanted. The lines of `random_lists` name the part first.
-    pub fn say(&mut self, alloc: Global, table: &str, verb: &str, rest: &[&str]) -> Option<String> {
+    /// Does what a line of a table says, and tells what comes of it.
+    pub fn say(&mut self, alloc: Global, table: &str, verb: &str, rest: &str) -> Option<String> {
         match table {
-            "maps" => self.maps.say(alloc, verb, rest),
-            "words" => self.words.say(alloc, verb, rest),
-            "stores" => self.stores.say(alloc, verb, rest),
-            "columns" => self.columns.say(alloc, verb, rest),
-            "views" | "searches" | "random_views" => self.views.say(alloc, verb, rest),
+            "maps" | "map" => self.maps.say(alloc, verb, rest),
+            "words" | "word" => self.words.say(alloc, verb, rest),
+            "stores" | "store" => self.stores.say(alloc, verb, rest),
+            "columns" | "column" => self.columns.say(alloc, verb, rest),
             "databases" => self.databases.say(alloc, verb, rest),
             "shelves" => self.shelf.say(alloc, verb, rest),
-            "random_lists" => {
-                let (own, behind) = rest.split_first()?;
-                self.say_part(alloc, verb, own, behind)
-            }
-            _ => None,
+            _ => self.views.say(alloc, verb, rest),
         }
     }
+}
 
-    /// The same of a part.
-    fn say_part(&mut self, alloc: Global, part: &str, verb: &str, rest: &[&str]) -> Option<String> {
-        match part {
-            "map" => self.maps.say(alloc, verb, rest),
-            "word" => self.words.say(alloc, verb, rest),
-            "store" => self.stores.say(alloc, verb, rest),
-            "column" => self.columns.say(alloc, verb, rest),
-            _ => None,
-        }
+/// The verbs of a table, and the kinds of the words behind each.
+pub fn shapes(table: &str) -> &'static [(&'static str, &'static str)] {
+    match table {
+        "maps" | "map" => maps::SHAPES,
+        "words" | "word" => words::SHAPES,
+        "stores" | "store" => stores::SHAPES,
+        "columns" | "column" => columns::SHAPES,
+        "databases" => databases::SHAPES,
+        _ => views::SHAPES,
     }
 }

@@ -1,43 +1,30 @@
 //! What a search answers over a view.
 
-use crate::table::shown;
-use doc_types::{FieldValue, Schema};
+use crate::entries::schema;
+use doc_types::FieldValue;
 use lane_views::LaneView;
 use query_groups::{Group, SearchAnswer};
 use query_text::Query;
 use search_views::SearchSum;
 use std::alloc::Global;
 
-/// Words with a blank between.
-fn joined(alloc: Global, words: &[&str]) -> Option<String> {
-    let mut text = String::new(alloc);
-    for word in words {
-        text.push_str(word).ok()?;
-        text.push_str(" ").ok()?;
-    }
-    Some(text)
-}
-
-/// The value of a group.
-fn value_text(alloc: Global, value: &FieldValue) -> Option<String> {
+/// Appends the value of a group; whether it is one that groups have.
+fn push_value(line: &mut String, value: &FieldValue) -> bool {
     match value {
-        FieldValue::Int(number) => shown(alloc, number),
-        FieldValue::Text(text) => String::from_str(alloc, text.text()).ok(),
-        _ => None,
+        FieldValue::Int(number) => write!(line, "; {number}: ").is_ok(),
+        FieldValue::Text(text) => write!(line, "; {}: ", text.text()).is_ok(),
+        _ => false,
     }
 }
 
-/// A group behind others: its value, how many documents it has, and its outputs.
-fn push_group(alloc: Global, line: &mut String, group: &Group) -> Option<()> {
-    let value = value_text(alloc, &group.value)?;
-    let head = format!(in alloc; "; {value}: {}", group.count).ok()?;
-    line.push_str(&head).ok()?;
+/// Appends a group: its value, how many documents it has, and its outputs.
+fn push_group(line: &mut String, group: &Group) -> bool {
+    let mut good = push_value(line, &group.value);
+    good &= write!(line, "{}", group.count).is_ok();
     for output in group.outputs.items() {
-        let told = shown(alloc, &output.value)?;
-        line.push_str(" ").ok()?;
-        line.push_str(&told).ok()?;
+        good &= write!(line, " {:?}", output.value).is_ok();
     }
-    Some(())
+    good
 }
 
 /// An answer on one line.
@@ -45,24 +32,22 @@ fn answer_text(alloc: Global, answer: &SearchAnswer) -> Option<String> {
     let (count, version) = (answer.count, answer.version);
     let (covered, full) = (answer.covered, answer.full);
     let mut line = format!(in alloc; "{count} at {version}, {covered} covered, full {full}").ok()?;
+    let mut good = true;
     for group in answer.groups.items() {
-        push_group(alloc, &mut line, group)?;
+        good &= push_group(&mut line, group);
     }
-    Some(line)
+    if good { Some(line) } else { None }
 }
 
-/// What the search that words say answers over a view.
-pub fn search(
-    alloc: Global,
-    view: &LaneView,
-    schema: &Schema,
-    version: u32,
-    words: &[&str],
-) -> Option<String> {
-    let text = joined(alloc, words)?;
-    let query = Query::parse(alloc, &text, schema).ok()?;
-    let mut sum = SearchSum::new(alloc, &query, version);
+/// What a query answers over a view.
+fn found(alloc: Global, view: &LaneView, query: &Query, version: u32) -> Option<String> {
+    let mut sum = SearchSum::new(alloc, query, version);
     sum.add(alloc, view).ok()?;
-    let answer = sum.finish(alloc).ok()?;
-    answer_text(alloc, &answer)
+    answer_text(alloc, &sum.finish(alloc).ok()?)
+}
+
+/// What the search that a text says answers over a view.
+pub fn search(alloc: Global, view: &LaneView, version: u32, text: &str) -> Option<String> {
+    let query = Query::parse(alloc, text, schema(alloc)?.schema()).ok()?;
+    found(alloc, view, &query, version)
 }

@@ -1,7 +1,8 @@
 //! A shelf for one reader, and changes that are kept for it.
 
 use crate::table::{done, shown};
-use crate::views::{ask, opening, read_change};
+use crate::texts::{fits, halves};
+use crate::views::{SHAPES, ask, opening, read_change};
 use shelves::{NoShelf, PlainShelf, Shelf, settle};
 use std::alloc::Global;
 use std::collections::VecDeque;
@@ -15,9 +16,60 @@ pub struct OneShelf {
 }
 
 /// The change that words say.
-fn change(alloc: Global, words: &[&str]) -> Option<LaneChange> {
-    let (verb, rest) = words.split_first()?;
-    read_change(alloc, verb, rest)
+fn change(alloc: Global, words: &str) -> Option<LaneChange> {
+    let (verb, rest) = halves(words);
+    if fits(SHAPES, verb, rest) {
+        read_change(alloc, verb, rest)
+    } else {
+        None
+    }
+}
+
+/// Appends a change to a shelf.
+fn append(alloc: Global, shelf: &mut PlainShelf, words: &str) -> bool {
+    match change(alloc, words) {
+        Some(change) => shelf.append(change).is_ok(),
+        None => false,
+    }
+}
+
+/// Keeps a change for the shelf.
+fn keep(alloc: Global, kept: &mut VecDeque<LaneChange>, words: &str) -> bool {
+    match change(alloc, words) {
+        Some(change) => kept.push_back(change).is_ok(),
+        None => false,
+    }
+}
+
+/// What is kept is shown.
+fn show(shelf: &mut PlainShelf, kept: &mut VecDeque<LaneChange>) -> bool {
+    let settled = settle(shelf, kept).is_ok();
+    shelf.tell();
+    settled
+}
+
+/// What is kept goes to a shelf that shows it to nobody.
+fn hide(kept: &mut VecDeque<LaneChange>) -> bool {
+    let mut shelf = NoShelf;
+    let settled = settle(&mut shelf, kept).is_ok();
+    shelf.tell();
+    settled
+}
+
+/// Does what a line says to a shelf, or asks what it shows.
+fn say(
+    alloc: Global,
+    shelf: &mut PlainShelf,
+    kept: &mut VecDeque<LaneChange>,
+    verb: &str,
+    rest: &str,
+) -> Option<String> {
+    match verb {
+        "append" => done(alloc, append(alloc, shelf, rest)),
+        "publish" => done(alloc, shelf.publish().is_ok()),
+        "settle" => done(alloc, show(shelf, kept)),
+        verb => ask(alloc, shelf.view(), verb, rest),
+    }
 }
 
 impl OneShelf {
@@ -30,48 +82,24 @@ impl OneShelf {
     }
 
     /// A shelf that shows a view of which nothing was heard.
-    fn begin(&mut self, alloc: Global) -> Option<()> {
-        self.shelf = Some(PlainShelf::new(alloc, opening(alloc)?));
-        Some(())
-    }
-
-    /// Appends a change to the shelf.
-    fn append(&mut self, alloc: Global, words: &[&str]) -> Option<()> {
-        self.shelf.as_mut()?.append(change(alloc, words)?).ok()
-    }
-
-    /// Keeps a change for the shelf.
-    fn keep(&mut self, alloc: Global, words: &[&str]) -> Option<()> {
-        self.kept.push_back(change(alloc, words)?).ok()
-    }
-
-    /// What is kept is shown.
-    fn settle(&mut self) -> Option<()> {
-        let shelf = self.shelf.as_mut()?;
-        settle(shelf, &mut self.kept).ok()?;
-        shelf.tell();
-        Some(())
-    }
-
-    /// What is kept goes to a shelf that shows it to nobody.
-    fn hide(&mut self) -> Option<()> {
-        let mut shelf = NoShelf;
-        settle(&mut shelf, &mut self.kept).ok()?;
-        shelf.tell();
-        Some(())
+    fn begin(&mut self, alloc: Global) -> bool {
+        match opening(alloc) {
+            Some(view) => {
+                self.shelf = Some(PlainShelf::new(alloc, view));
+                true
+            }
+            None => false,
+        }
     }
 
     /// Does what a line says.
-    pub fn say(&mut self, alloc: Global, verb: &str, rest: &[&str]) -> Option<String> {
+    pub fn say(&mut self, alloc: Global, verb: &str, rest: &str) -> Option<String> {
         match verb {
             "begin" => done(alloc, self.begin(alloc)),
-            "append" => done(alloc, self.append(alloc, rest)),
-            "publish" => done(alloc, self.shelf.as_mut()?.publish().ok()),
-            "keep" => done(alloc, self.keep(alloc, rest)),
+            "keep" => done(alloc, keep(alloc, &mut self.kept, rest)),
             "kept" => shown(alloc, &self.kept.len()),
-            "settle" => done(alloc, self.settle()),
-            "hide" => done(alloc, self.hide()),
-            _ => ask(alloc, self.shelf.as_ref()?.view(), verb, rest),
+            "hide" => done(alloc, hide(&mut self.kept)),
+            verb => say(alloc, self.shelf.as_mut()?, &mut self.kept, verb, rest),
         }
     }
 }

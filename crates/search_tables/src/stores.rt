@@ -1,6 +1,7 @@
 //! The documents of a node by local id.
 
 use crate::table::{done, shown};
+use crate::texts::{long, number, word};
 use document_ids::DocId;
 use meta_store::MetaStore;
 use std::alloc::Global;
@@ -11,25 +12,44 @@ pub struct Stores {
     store: MetaStore,
 }
 
-/// The id that a word says.
-fn read_id(alloc: Global, word: &str) -> Option<DocId> {
-    DocId::parse(alloc, word).ok()
-}
+/// The verbs, and the kinds of the words behind each.
+pub const SHAPES: &[(&str, &str)] = &[
+    ("begin", "."),
+    ("locals", "."),
+    ("len", "."),
+    ("assign", "word u64 ."),
+    ("free", "u32 ."),
+    ("key", "u32 ."),
+    ("id", "u32 ."),
+    ("local", "word ."),
+];
 
 /// The local id that a document has now.
 fn assign(alloc: Global, store: &mut MetaStore, id: &DocId, key: u64) -> Option<u32> {
     if store.len() < 4294967295 {
-        return store.assign(alloc, id, key).ok();
+        store.assign(alloc, id, key).ok()
+    } else {
+        None
     }
-    None
+}
+
+/// The local id that a document of a key has now, or the one that it had.
+fn of_id(alloc: Global, store: &mut MetaStore, verb: &str, rest: &str) -> Option<String> {
+    let id = DocId::parse(alloc, word(rest, 0)).ok()?;
+    if verb == "local" {
+        shown(alloc, &store.local(&id))
+    } else {
+        shown(alloc, &assign(alloc, store, &id, long(rest, 1))?)
+    }
 }
 
 /// The id of a local id, or `none`.
 fn id_text(alloc: Global, store: &MetaStore, local: u32) -> Option<String> {
-    match store.id_of(local) {
-        Some(id) => String::from_str(alloc, id.text()).ok(),
-        None => String::from_str(alloc, "none").ok(),
-    }
+    let text = match store.id_of(local) {
+        Some(id) => id.text(),
+        None => "none",
+    };
+    String::from_str(alloc, text).ok()
 }
 
 impl Stores {
@@ -41,30 +61,25 @@ impl Stores {
     }
 
     /// Does what a line says.
-    pub fn say(&mut self, alloc: Global, verb: &str, rest: &[&str]) -> Option<String> {
-        match (verb, rest) {
-            ("begin", []) => {
-                self.store = MetaStore::new(alloc);
-                done(alloc, Some(()))
-            }
-            ("assign", [id, key]) => {
-                let id = read_id(alloc, id)?;
-                let local = assign(alloc, &mut self.store, &id, key.parse::<u64>().ok()?)?;
-                shown(alloc, &local)
-            }
-            ("free", [local]) => {
-                self.store.free(local.parse::<u32>().ok()?);
-                done(alloc, Some(()))
-            }
-            ("local", [id]) => {
-                let id = read_id(alloc, id)?;
-                shown(alloc, &self.store.local(&id))
-            }
-            ("key", [local]) => shown(alloc, &self.store.key_of(local.parse::<u32>().ok()?)),
-            ("id", [local]) => id_text(alloc, &self.store, local.parse::<u32>().ok()?),
-            ("locals", []) => shown(alloc, &self.store.locals()),
-            ("len", []) => shown(alloc, &self.store.len()),
-            _ => None,
+    pub fn say(&mut self, alloc: Global, verb: &str, rest: &str) -> Option<String> {
+        let store = &mut self.store;
+        let local = number(rest, 0);
+        match verb {
+            "key" => shown(alloc, &store.key_of(local)),
+            "id" => id_text(alloc, store, local),
+            "locals" => shown(alloc, &store.locals()),
+            "len" => shown(alloc, &store.len()),
+            "assign" | "local" => of_id(alloc, store, verb, rest),
+            verb => done(alloc, change(alloc, store, verb, local)),
         }
     }
+}
+
+/// Frees a local id, or begins anew.
+fn change(alloc: Global, store: &mut MetaStore, verb: &str, local: u32) -> bool {
+    match verb {
+        "free" => store.free(local),
+        _ => *store = MetaStore::new(alloc),
+    }
+    true
 }

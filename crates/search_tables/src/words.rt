@@ -1,6 +1,7 @@
 //! Words and the documents that have them.
 
 use crate::table::{done, shown};
+use crate::texts::{number, word};
 use std::alloc::Global;
 use word_index::WordIndex;
 
@@ -9,6 +10,15 @@ use word_index::WordIndex;
 pub struct Words {
     index: WordIndex,
 }
+
+/// The verbs, and the kinds of the words behind each.
+pub const SHAPES: &[(&str, &str)] = &[
+    ("begin", "."),
+    ("add", "word u32 ."),
+    ("remove", "word u32 ."),
+    ("move", "word u32 u32 ."),
+    ("list", "word ."),
+];
 
 impl Words {
     /// No words.
@@ -19,27 +29,16 @@ impl Words {
     }
 
     /// Does what a line says.
-    pub fn say(&mut self, alloc: Global, verb: &str, rest: &[&str]) -> Option<String> {
-        match (verb, rest) {
-            ("begin", []) => {
-                self.index = WordIndex::new(alloc);
-                done(alloc, Some(()))
-            }
-            ("add", [word, local]) => {
-                let local = local.parse::<u32>().ok()?;
-                done(alloc, self.index.add(alloc, word, local).ok())
-            }
-            ("remove", [word, local]) => {
-                self.index.remove(word, local.parse::<u32>().ok()?);
-                done(alloc, Some(()))
-            }
-            ("move", [word, from, to]) => {
-                let from = from.parse::<u32>().ok()?;
-                self.index.move_id(word, from, to.parse::<u32>().ok()?);
-                done(alloc, Some(()))
-            }
-            ("list", [word]) => shown(alloc, &self.index.list(word)),
-            _ => None,
+    pub fn say(&mut self, alloc: Global, verb: &str, rest: &str) -> Option<String> {
+        let index = &mut self.index;
+        let (word, from, to) = (word(rest, 0), number(rest, 1), number(rest, 2));
+        match verb {
+            "list" => return shown(alloc, &index.list(word)),
+            "add" => return done(alloc, index.add(alloc, word, from).is_ok()),
+            "remove" => index.remove(word, from),
+            "move" => index.move_id(word, from, to),
+            _ => *index = WordIndex::new(alloc),
         }
+        done(alloc, true)
     }
 }

@@ -30,7 +30,7 @@ impl<'a> SearchSum<'a> {
     ghost use Rattle.search_views.specs.Answers.{search_answer};
     ghost use Rattle.search_views.specs.Summed.{IsSummed};
 
-    /// The sum of a query over no views; takes no memory.
+    /// The sum of a query over no views.
     pub fn new(alloc: Global, query: &'a Query, version: u32) -> SearchSum<'a>
         ensures { IsSummed query.now version [] result }
     {
@@ -62,7 +62,7 @@ impl<'a> SearchSum<'a> {
         Ok(())
     }
 
-    /// The answer over the views that were added. The only error is want of memory.
+    /// The answer over the views that were added.
     pub fn finish(self, alloc: Global) -> Result<SearchAnswer, NoMemory>
         ensures { (q : Query) (w : ℕ) (vs : List View) → IsSummed q w vs self.entry
             → IfOk result (λ answer. answer ≡ search_answer q w vs) }

@@ -52,7 +52,7 @@ impl Model for ChangeList {
 }
 
 impl LaterChanges {
-    /// No change; takes no memory.
+    /// No change.
     pub fn none(alloc: Global) -> LaterChanges
         ensures { result ≡ [] }
     {
@@ -85,7 +85,7 @@ impl LaterChanges {
         Ok(LaterChanges { changes })
     }
 
-    /// All of them, as a list; takes no memory.
+    /// All of them, as a list.
     pub fn all(self) -> ChangeList
         ensures { result ≡ self }
     {
@@ -95,7 +95,7 @@ impl LaterChanges {
         }
     }
 
-    /// All of them behind a first one; takes no memory.
+    /// All of them behind a first one.
     pub fn behind(self, first: LaneChange) -> ChangeList
         ensures { result ≡ first ∷ self }
     {
@@ -107,7 +107,7 @@ impl LaterChanges {
 }
 
 impl ChangeList {
-    /// A first change, if there is one, and others behind it; takes no memory.
+    /// A first change, if there is one, and others behind it.
     pub fn of(first: Option<LaneChange>, later: LaterChanges) -> ChangeList
         ensures { result ≡ after_first first later }
     {
@@ -142,7 +142,7 @@ impl ChangeList {
     }
 
     /// The first change, and those behind it: `behind` puts it back, and `all` goes on without it. None where
-    /// the list is empty. Takes no memory.
+    /// the list is empty.
     pub fn split_first(self) -> Option<(LaneChange, LaterChanges)>
         ensures { IsSplit self result }
     {

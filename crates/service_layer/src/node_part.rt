@@ -95,7 +95,7 @@ impl NodePart {
         self.store.entries()
     }
 
-    /// The entries in a bucket, shared. The only error is want of memory.
+    /// The entries in a bucket, shared.
     pub fn entries_in(&self, bucket: Bucket) -> Result<EntryMap, NoMemory>
         ensures { IfOk result (λ part. part ≡ fin.retain_keys self.now.entries (in_bucket bucket)) }
     {

@@ -54,6 +54,8 @@ same_line s us ws lane told line (command.BadState offset) deeds same = refl
 same_line s us ws lane told line (command.Stop node) deeds same = refl
 same_line s us ws lane told line (command.Start node) deeds same = refl
 same_line s us ws lane told line (command.Net at fates) deeds same = refl
+same_line s us ws lane told line (command.Search query) deeds same = refl
+same_line s us ws lane told line (command.BadQuery offset) deeds same = refl
 same_line s us ws lane told line command.Maintain deeds same = ap (λ o. Maintains (option_and_then (λ spans. slice_get spans lane) o) ∷ deeds) same
 
 same_lines : (s : Setting) (us ws : List LineSpans) (k lane : ℕ) → ((line : ℕ) → k ≢ line → spans_of line ws ≡ spans_of line us) → (told : Told) (line : ℕ) (cs : List Asked) (deeds : List Deed) → line + length cs ≤ k
@@ -110,6 +112,8 @@ last_with s us lane told line (command.Stop node) deeds h = omega (arith, h)
 last_with s us lane told line (command.Start node) deeds h = omega (arith, h)
 last_with s us lane told line (command.Net at fates) deeds h = omega (arith, h)
 last_with s us lane told line command.Maintain deeds h = omega (arith, h)
+last_with s us lane told line (command.Search query) deeds h = omega (arith, h)
+last_with s us lane told line (command.BadQuery offset) deeds h = omega (arith, h)
 
 last_low : (s : Setting) (us : List LineSpans) (lane : ℕ) (told : Told) (line : ℕ) (cs : List Asked) (deeds : List Deed) → last_line (lines_of deeds) < line → last_line (lines_of (with_lines s us lane told line cs deeds)) < line + length cs
 last_low s us lane told line [] deeds h = omega (arith, h)
@@ -141,6 +145,8 @@ states_with s us lane told line (command.Stop node) deeds h = h
 states_with s us lane told line (command.Start node) deeds h = h
 states_with s us lane told line (command.Net at fates) deeds h = h
 states_with s us lane told line command.Maintain deeds h = h
+states_with s us lane told line (command.Search query) deeds h = h
+states_with s us lane told line (command.BadQuery offset) deeds h = h
 
 states_by : (s : Setting) (us : List LineSpans) (lane : ℕ) (told : Told) (line : ℕ) (cs : List Asked) (deeds : List Deed) → states_in s deeds ≡ told.states → states_in s (with_lines s us lane told line cs deeds) ≡ (told_by told cs).states
 states_by s us lane told line [] deeds h = h
@@ -161,6 +167,8 @@ acks_next (command.Stop node) told = refl
 acks_next (command.Start node) told = refl
 acks_next (command.Net at fates) told = refl
 acks_next command.Maintain told = refl
+acks_next (command.Search query) told = refl
+acks_next (command.BadQuery offset) told = refl
 
 acks_by : (told : Told) (cs : List Asked) → (told_by told cs).acks ≡ told.acks
 acks_by told [] = refl
@@ -195,6 +203,8 @@ events_with s us lane other told line (command.Stop node) ds es h = ap (stopped_
 events_with s us lane other told line (command.Start node) ds es h = ap (started_next node) h
 events_with s us lane other told line (command.Net at fates) ds es h = h
 events_with s us lane other told line command.Maintain ds es h = h
+events_with s us lane other told line (command.Search query) ds es h = h
+events_with s us lane other told line (command.BadQuery offset) ds es h = h
 
 events_by : (s : Setting) (us : List LineSpans) (lane other : ℕ) (told : Told) (line : ℕ) (cs : List Asked) (ds es : List Deed) → deed_events s ds ≡ deed_events s es
     → deed_events s (with_lines s us lane told line cs ds) ≡ deed_events s (with_lines s us other told line cs es)

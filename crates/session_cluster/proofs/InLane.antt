@@ -32,8 +32,9 @@ use Rattle.session_cluster.specs.Deeds.{told_with, deeds_of_lane}
 use Rattle.session_cluster.specs.Keeping.{IsReady}
 use Rattle.session_cluster.specs.Lanes.{lane_of_id}
 use Rattle.session_cluster.specs.Output.{state_answer, plan_answer}
+use Rattle.session_cluster.specs.Searches.{fronts_of}
 use Rattle.session_cluster.specs.Spans.{spans_of}
-use Rattle.session_cluster.specs.Steps.{with_room, after_state, EachLane, IsTelling, IsRoomy, MayAnnounce, MayMaintain, MayRun, IsOperatedIn, IsDoneInEach, IsStateTold, IsToldRoomy, IsPlannedIn}
+use Rattle.session_cluster.specs.Steps.{with_room, after_state, EachLane, IsTelling, IsRoomy, MayAnnounce, MayMaintain, HasTypes, MayRun, IsOperatedIn, IsDoneInEach, IsStateTold, IsToldRoomy, IsPlannedIn}
 use Rattle.session_cluster.proofs.DeedLists.{deeds_told, lines_low}
 use Rattle.session_cluster.proofs.Elements.{element_map, set_there, seen_map}
 use Rattle.session_cluster.proofs.KeptLanes.{lane_there}
@@ -137,6 +138,16 @@ few_of s line c ready = subst (λ n. n ≤ 64) (sym ready.kept.lanes) (few_lanes
 
 pub new_line : (s : Setting) (line : ℕ) (c : Cell) → IsReady s line c → spans_of line c.upkeeps ≡ None
 new_line s line c ready = ready.kept.unkept line (omega (arith, ready.next, ready.kept.dealt))
+
+-- ---- what may be searched
+
+pub new_search : (s : Setting) (line : ℕ) (c : Cell) → IsReady s line c → fronts_of line c.fronts ≡ None
+new_search s line c ready = ready.kept.unread line (omega (arith, ready.next, ready.kept.dealt))
+
+pub all_typed : (s : Setting) (line : ℕ) (c : Cell) → IsReady s line c → EachLane (HasTypes s.schema) c.lanes
+all_typed s line c ready lane v at = (ready.kept.serving lane v at).types_are
+
+-- ---- where room was made
 
 telling_roomy : (t : Told) (v : LaneValue) → IsTelling t v → IsRoomy (with_room v)
 telling_roomy t v is = record { idle = is.idle; room = refl }

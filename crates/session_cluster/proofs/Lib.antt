@@ -4,9 +4,13 @@ pub mod LaneLists
 pub mod DeedLists
 pub mod KeptLanes
 pub mod SpanLists
+pub mod FrontLists
+pub mod SearchLaws
 pub mod SessionSteps
 pub mod Moving
 -- Of this crate alone.
+mod NotedLists
+mod Reborrowed
 mod InLane
 mod Passing
 mod Openings

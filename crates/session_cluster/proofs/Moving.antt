@@ -173,6 +173,8 @@ moves s plans cs (command.Start node) old new k kept now =
 moves s plans cs (command.Net at fates) old new k kept now =
     one_moves k old.lanes new.lanes at now.before (after_plan fates now.before) (ap (λ (x : Cell). x.lanes) now.now) now.there refl (inr refl)
 moves s plans cs command.Maintain old new k kept now = all_move s k old.lanes new.lanes now.lanes
+moves s plans cs (command.Search query) old new k kept now = same_moves k old.lanes new.lanes (ap (λ (x : Cell). x.lanes) now)
+moves s plans cs (command.BadQuery offset) old new k kept now = same_moves k old.lanes new.lanes (ap (λ (x : Cell). x.lanes) now)
 
 -- ---- room alone
 

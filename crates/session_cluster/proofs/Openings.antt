@@ -31,5 +31,5 @@ one_more_open s plans n vs ws v open_to is now = subst (AreOpenTo s plans (n + 1
   ];
 })
 
-pub kept_none : (s : Setting) (plans : ℕ → List Fate) (vs : List LaneValue) (c : Cell) → AreOpen s plans vs → c ≡ record { bits = s.bits; told = first_told s; lanes = vs; dealt = 0; upkeeps = [] } → IsKept s plans [] c
-kept_none s plans vs c opened now = subst (IsKept s plans []) (sym now) (record { bits = refl; told = refl; dealt = refl; lanes = opened.count_is; serving = λ lane v at. opened.serving lane v at; unkept = λ line later. refl })
+pub kept_none : (s : Setting) (plans : ℕ → List Fate) (vs : List LaneValue) (c : Cell) → AreOpen s plans vs → c ≡ record { bits = s.bits; told = first_told s; lanes = vs; dealt = 0; upkeeps = []; fronts = [] } → IsKept s plans [] c
+kept_none s plans vs c opened now = subst (IsKept s plans []) (sym now) (record { bits = refl; told = refl; dealt = refl; lanes = opened.count_is; serving = λ lane v at. opened.serving lane v at; unkept = λ line later. refl; unread = λ line later. refl })

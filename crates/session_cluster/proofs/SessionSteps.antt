@@ -20,14 +20,17 @@ use Rattle.session_cluster.specs.Deeds.{first_told, told_with, told_next, told_o
 use Rattle.session_cluster.specs.Keeping.{IsKept}
 use Rattle.session_cluster.specs.Lanes.{lane_of_id}
 use Rattle.lane_lives.specs.Upkeep.{MayBeUpkept}
+use Rattle.query_text.specs.Grammar.{Said}
+use Rattle.session_cluster.specs.Searches.{fronts_of, fronts_now}
 use Rattle.session_cluster.specs.Spans.{spans_of, span_in}
-use Rattle.session_cluster.specs.Steps.{with_room, without_room, after_state, after_stop, after_start, IsOperatedIn, IsDoneInEach, IsPublished, IsStateTold, IsPlannedIn, MayHavePassed, MayHaveAllPassed, HasSpans, IsMaintained, IsAfter}
+use Rattle.session_cluster.specs.Steps.{with_room, without_room, after_state, after_stop, after_start, IsOperatedIn, IsDoneInEach, IsPublished, IsStateTold, IsPlannedIn, MayHavePassed, MayHaveAllPassed, HasSpans, IsMaintained, IsSearched, IsAfter}
 use Rattle.session_cluster.specs.declared.asked.Asked.{Asked}
 use Rattle.session_cluster.specs.declared.asked.Asked.TheVariants as command
 use Rattle.session_cluster.specs.declared.cluster.LineSpans.{LineSpans}
 use Rattle.lane_lives.specs.declared.spans.UpkeepSpan.{UpkeepSpan}
 use Rattle.session_cluster.proofs.DeedLists.{told_push, deeds_push, deeds_same, planned_push, with_own, with_other, plan_own, plan_other, lines_low}
 use Rattle.session_cluster.proofs.Elements.{element_set, element_map, element_seen}
+use Rattle.session_cluster.proofs.FrontLists.{fronts_other}
 use Rattle.session_cluster.proofs.SpanLists.{spans_other, spans_own}
 
 count_next : (cs : List Asked) (c : Asked) (k : ℕ) → k ≡ length cs + 1 → k ≡ length (cs ++ c ∷ [])
@@ -45,6 +48,13 @@ LeavesSpans k old new = (line : ℕ) → k ≢ line → spans_of line new.upkeep
 same_spans : (k : ℕ) (old new : Cell) → new.upkeeps ≡ old.upkeeps → LeavesSpans k old new
 same_spans k old new same line other = ap (spans_of line) same
 
+-- and the fronts
+abbrev pub LeavesFronts : ℕ → Cell → Cell → Type 0
+LeavesFronts k old new = (line : ℕ) → k ≢ line → fronts_of line new.fronts ≡ fronts_of line old.fronts
+
+same_fronts : (k : ℕ) (old new : Cell) → new.fronts ≡ old.fronts → LeavesFronts k old new
+same_fronts k old new same line other = ap (fronts_of line) same
+
 -- the deeds with one line more
 deeds_next : (s : Setting) (cs : List Asked) (c : Asked) (old new : Cell) (k : ℕ) → k ≡ length cs + 1 → LeavesSpans k old new → (lane : ℕ)
     → deeds_of_lane s new.upkeeps lane (cs ++ c ∷ []) ≡ with_line s new.upkeeps lane (told_of s cs) k c (deeds_of_lane s old.upkeeps lane cs)
@@ -52,8 +62,9 @@ deeds_next s cs c old new k is spans lane =
     deeds_push s new.upkeeps lane k cs c is ∙ ap (λ ds. with_line s new.upkeeps lane (told_of s cs) k c ds) (deeds_same s old.upkeeps new.upkeeps k lane cs (omega (arith, is)) spans)
 
 kept_next : (s : Setting) (plans : ℕ → List Fate) (cs : List Asked) (c : Asked) (old new : Cell) (k : ℕ) → IsKept s plans cs old → k ≡ length cs + 1
-    → new.bits ≡ old.bits → new.told ≡ told_next c old.told → new.dealt ≡ k → length new.lanes ≡ length old.lanes → ServesNext s plans cs c k old.upkeeps new.upkeeps new.lanes → LeavesSpans k old new → IsKept s plans (cs ++ c ∷ []) new
-kept_next s plans cs c old new k kept is bits told dealt lanes serving spans = record {
+    → new.bits ≡ old.bits → new.told ≡ told_next c old.told → new.dealt ≡ k → length new.lanes ≡ length old.lanes → ServesNext s plans cs c k old.upkeeps new.upkeeps new.lanes → LeavesSpans k old new → LeavesFronts k old new
+    → IsKept s plans (cs ++ c ∷ []) new
+kept_next s plans cs c old new k kept is bits told dealt lanes serving spans fronts = record {
   bits = bits ∙ kept.bits;
   told = told ∙ ap (told_next c) kept.told ∙ sym (told_push (first_told s) cs c);
   dealt = dealt ∙ count_next cs c k is;
@@ -62,6 +73,7 @@ kept_next s plans cs c old new k kept is bits told dealt lanes serving spans = r
       subst (λ p. IsServing s p lane (deeds_of_lane s new.upkeeps lane (cs ++ c ∷ [])) v) (sym (planned_push lane v.takes_plans (plans lane) cs c))
       (subst (λ ds. IsServing s (planned_next lane v.takes_plans c (planned_for lane v.takes_plans (plans lane) cs)) lane ds v) (sym (deeds_next s cs c old new k is spans lane)) (serving lane v at));
   unkept = λ line later. spans line (λ e. absurd (omega (arith, e, later, dealt))) ∙ kept.unkept line (omega (arith, later, dealt, is, kept.dealt));
+  unread = λ line later. fronts line (λ e. absurd (omega (arith, e, later, dealt))) ∙ kept.unread line (omega (arith, later, dealt, is, kept.dealt));
 }
 
 -- ---- a line that does nothing in the lanes
@@ -73,7 +85,7 @@ serves_same s plans cs old new k kept now lane v at = kept.serving lane v (subst
 kept_plain : (s : Setting) (plans : ℕ → List Fate) (cs : List Asked) (c : Asked) (old new : Cell) (k : ℕ) → IsKept s plans cs old → k ≡ length cs + 1 → ((told : Told) → told_next c told ≡ told)
     → ServesNext s plans cs c k old.upkeeps new.upkeeps new.lanes → new ≡ record old { dealt = k } → IsKept s plans (cs ++ c ∷ []) new
 kept_plain s plans cs c old new k kept is none serving now =
-    kept_next s plans cs c old new k kept is (ap (λ (x : Cell). x.bits) now) (ap (λ (x : Cell). x.told) now ∙ sym (none old.told)) (ap (λ (x : Cell). x.dealt) now) (ap (λ (x : Cell). length x.lanes) now) serving (same_spans k old new (ap (λ (x : Cell). x.upkeeps) now))
+    kept_next s plans cs c old new k kept is (ap (λ (x : Cell). x.bits) now) (ap (λ (x : Cell). x.told) now ∙ sym (none old.told)) (ap (λ (x : Cell). x.dealt) now) (ap (λ (x : Cell). length x.lanes) now) serving (same_spans k old new (ap (λ (x : Cell). x.upkeeps) now)) (same_fronts k old new (ap (λ (x : Cell). x.fronts) now))
 
 -- ---- an operation
 
@@ -106,7 +118,7 @@ kept_operation s plans cs op via old new k x kept is d =
     kept_next s plans cs (command.Feed op via) old new k kept is (ap (λ (c : Cell). c.bits) d.now) (ap (λ (c : Cell). c.told) d.now) (ap (λ (c : Cell). c.dealt) d.now)
     (ap (λ (c : Cell). length c.lanes) d.now ∙ length-set old.lanes (lane_of_id s.bits op.id) d.after)
     (λ lane v at. serves_operation s plans cs op via old new k x kept is d lane v (subst (λ (c : Cell). slice_get c.lanes lane ≡ Some v) d.now at))
-    (same_spans k old new (ap (λ (c : Cell). c.upkeeps) d.now))
+    (same_spans k old new (ap (λ (c : Cell). c.upkeeps) d.now)) (same_fronts k old new (ap (λ (c : Cell). c.fronts) d.now))
 
 -- ---- what every lane does
 
@@ -147,6 +159,7 @@ record IsToldThen (k : ℕ) (o : Option PublishFault) (state : ClusterState) (ol
   dealt : new.dealt ≡ k
   lanes : length new.lanes ≡ length old.lanes
   upkeeps : new.upkeeps ≡ old.upkeeps
+  fronts : new.fronts ≡ old.fronts
 
 told_then : (k : ℕ) (o : Option PublishFault) (state : ClusterState) (deaf : ℕ) (old new : Cell) → IsStateTold k o state deaf old new → IsToldThen k o state old new
 told_then k None state deaf old new d = record {
@@ -155,6 +168,7 @@ told_then k None state deaf old new d = record {
   dealt = ap (λ (x : Cell). x.dealt) d.now;
   lanes = ap (λ (x : Cell). length x.lanes) d.now ∙ length-map old.lanes (after_state state deaf);
   upkeeps = ap (λ (x : Cell). x.upkeeps) d.now;
+  fronts = ap (λ (x : Cell). x.fronts) d.now;
 }
 told_then k (Some why) state deaf old new d = record {
   bits = ap (λ (x : Cell). x.bits) d;
@@ -162,6 +176,7 @@ told_then k (Some why) state deaf old new d = record {
   dealt = ap (λ (x : Cell). x.dealt) d;
   lanes = ap (λ (x : Cell). length x.lanes) d ∙ length-map old.lanes with_room;
   upkeeps = ap (λ (x : Cell). x.upkeeps) d;
+  fronts = ap (λ (x : Cell). x.fronts) d;
 }
 
 kept_told : (s : Setting) (plans : ℕ → List Fate) (cs : List Asked) (state : ClusterState) (deaf : ℕ) (old new : Cell) (k : ℕ) → IsKept s plans cs old → k ≡ length cs + 1
@@ -171,7 +186,7 @@ kept_told s plans cs state deaf old new k kept is d =
     kept_next s plans cs (command.State state deaf) old new k kept is told.bits told.told told.dealt told.lanes
     (λ lane v at. subst (λ t. IsServing s (planned_for lane v.takes_plans (plans lane) cs) lane (with_state (publish_fault t state) state deaf (deeds_of_lane s old.upkeeps lane cs)) v) kept.told
     (serves_told s plans cs (publish_fault old.told state) state deaf old new k kept d lane v at))
-    (same_spans k old new told.upkeeps)
+    (same_spans k old new told.upkeeps) (same_fronts k old new told.fronts)
 
 kept_stop : (s : Setting) (plans : ℕ → List Fate) (cs : List Asked) (node : ℕ) (old new : Cell) (k : ℕ) → IsKept s plans cs old → k ≡ length cs + 1 → IsDoneInEach k (after_stop node) old new → IsKept s plans (cs ++ command.Stop node ∷ []) new
 kept_stop s plans cs node old new k kept is d =
@@ -179,7 +194,7 @@ kept_stop s plans cs node old new k kept is d =
     (ap (λ (x : Cell). length x.lanes) d.now ∙ length-map old.lanes (after_stop node))
     (serves_each s plans cs old new (after_stop node) (λ lane. Stops node ∷ deeds_of_lane s old.upkeeps lane cs) kept (ap (λ (x : Cell). x.lanes) d.now) (λ v. refl)
     (λ lane v p at on. serves_stopped s p lane (deeds_of_lane s old.upkeeps lane cs) v (after_stop node v) node on refl (d.holds lane (after_stop node v) at)))
-    (same_spans k old new (ap (λ (x : Cell). x.upkeeps) d.now))
+    (same_spans k old new (ap (λ (x : Cell). x.upkeeps) d.now)) (same_fronts k old new (ap (λ (x : Cell). x.fronts) d.now))
 
 kept_start : (s : Setting) (plans : ℕ → List Fate) (cs : List Asked) (node : ℕ) (old new : Cell) (k : ℕ) → IsKept s plans cs old → k ≡ length cs + 1 → IsDoneInEach k (after_start node) old new → IsKept s plans (cs ++ command.Start node ∷ []) new
 kept_start s plans cs node old new k kept is d =
@@ -187,7 +202,7 @@ kept_start s plans cs node old new k kept is d =
     (ap (λ (x : Cell). length x.lanes) d.now ∙ length-map old.lanes (after_start node))
     (serves_each s plans cs old new (after_start node) (λ lane. Starts node ∷ deeds_of_lane s old.upkeeps lane cs) kept (ap (λ (x : Cell). x.lanes) d.now) (λ v. refl)
     (λ lane v p at on. serves_started s p lane (deeds_of_lane s old.upkeeps lane cs) v (after_start node v) node on refl (d.holds lane (after_start node v) at)))
-    (same_spans k old new (ap (λ (x : Cell). x.upkeeps) d.now))
+    (same_spans k old new (ap (λ (x : Cell). x.upkeeps) d.now)) (same_fronts k old new (ap (λ (x : Cell). x.fronts) d.now))
 
 -- ---- a plan of messages
 
@@ -222,7 +237,7 @@ kept_plan s plans cs at k fates old new kept is d =
     kept_next s plans cs (command.Net at fates) old new k kept is (ap (λ (x : Cell). x.bits) d.now) (ap (λ (x : Cell). x.told) d.now) (ap (λ (x : Cell). x.dealt) d.now)
     (ap (λ (x : Cell). length x.lanes) d.now ∙ length-set old.lanes at (after_plan fates d.before))
     (λ lane v h. serves_plan s plans cs at k fates old new kept d lane v (subst (λ (x : Cell). slice_get x.lanes lane ≡ Some v) d.now h))
-    (same_spans k old new (ap (λ (x : Cell). x.upkeeps) d.now))
+    (same_spans k old new (ap (λ (x : Cell). x.upkeeps) d.now)) (same_fronts k old new (ap (λ (x : Cell). x.fronts) d.now))
 
 -- ---- upkeep
 
@@ -302,7 +317,19 @@ leaves_noted k old new (inr h) line other = ap (spans_of line) h.noted ∙ spans
 kept_maintain : (s : Setting) (plans : ℕ → List Fate) (cs : List Asked) (old new : Cell) (k : ℕ) → IsKept s plans cs old → k ≡ length cs + 1 → IsMaintained k old new → IsKept s plans (cs ++ command.Maintain ∷ []) new
 kept_maintain s plans cs old new k kept is d =
     kept_next s plans cs command.Maintain old new k kept is (ap (λ (x : Cell). x.bits) d.now) (ap (λ (x : Cell). x.told) d.now) (ap (λ (x : Cell). x.dealt) d.now) (d.lanes).count
-    (serves_maintain s plans cs old new k kept is d) (leaves_noted k old new d.spans)
+    (serves_maintain s plans cs old new k kept is d) (leaves_noted k old new d.spans) (same_fronts k old new (ap (λ (x : Cell). x.fronts) d.now))
+
+-- ---- a search
+
+-- it noted how far it read
+leaves_read : (k : ℕ) (old new : Cell) → IsSearched k old new → LeavesFronts k old new
+leaves_read k old new now line other = ap (λ (x : Cell). fronts_of line x.fronts) now ∙ fronts_other line old.fronts (record { line = k; fronts = fronts_now old.lanes }) other
+
+kept_search : (s : Setting) (plans : ℕ → List Fate) (cs : List Asked) (query : Said) (old new : Cell) (k : ℕ) → IsKept s plans cs old → k ≡ length cs + 1 → IsSearched k old new → IsKept s plans (cs ++ command.Search query ∷ []) new
+kept_search s plans cs query old new k kept is now =
+    kept_next s plans cs (command.Search query) old new k kept is (ap (λ (x : Cell). x.bits) now) (ap (λ (x : Cell). x.told) now) (ap (λ (x : Cell). x.dealt) now) (ap (λ (x : Cell). length x.lanes) now)
+    (λ lane v at. kept.serving lane v (subst (λ (x : Cell). slice_get x.lanes lane ≡ Some v) now at))
+    (same_spans k old new (ap (λ (x : Cell). x.upkeeps) now)) (leaves_read k old new now)
 
 -- ---- any line
 
@@ -317,6 +344,8 @@ kept_more s plans cs (command.Stop node) old new k kept is now = kept_stop s pla
 kept_more s plans cs (command.Start node) old new k kept is now = kept_start s plans cs node old new k kept is now
 kept_more s plans cs (command.Net at fates) old new k kept is now = kept_plan s plans cs at k fates old new kept is now
 kept_more s plans cs command.Maintain old new k kept is now = kept_maintain s plans cs old new k kept is now
+kept_more s plans cs (command.Search query) old new k kept is now = kept_search s plans cs query old new k kept is now
+kept_more s plans cs (command.BadQuery offset) old new k kept is now = kept_plain s plans cs (command.BadQuery offset) old new k kept is (λ told. refl) (serves_same s plans cs old new k kept now) now
 
 -- ---- whose spans a line leaves
 
@@ -332,11 +361,36 @@ noted_after s (command.Stop node) old new k now = inr (ap (λ (x : Cell). x.upke
 noted_after s (command.Start node) old new k now = inr (ap (λ (x : Cell). x.upkeeps) now.now)
 noted_after s (command.Net at fates) old new k now = inr (ap (λ (x : Cell). x.upkeeps) now.now)
 noted_after s command.Maintain old new k now = inl refl
+noted_after s (command.Search query) old new k now = inr (ap (λ (x : Cell). x.upkeeps) now)
+noted_after s (command.BadQuery offset) old new k now = inr (ap (λ (x : Cell). x.upkeeps) now)
 
 pub leaves_spans : (s : Setting) (c : Asked) (old new : Cell) (k : ℕ) → IsAfter s k c old new → LeavesSpans k old new
 leaves_spans s c old new k after = elim (noted_after s c old new k after) [
   | inl is ↦ leaves_noted k old new (subst (λ (x : Asked). IsAfter s k x old new) is after).spans
   | inr same ↦ same_spans k old new same
+]
+
+-- ---- whose fronts a line leaves
+
+-- it searched, or read nothing
+pub read_after : (s : Setting) (c : Asked) (old new : Cell) (k : ℕ) → IsAfter s k c old new → ((query : Said) × (c ≡ command.Search query)) ⊎ (new.fronts ≡ old.fronts)
+read_after s command.Blank old new k now = inr (ap (λ (x : Cell). x.fronts) now)
+read_after s command.TooLong old new k now = inr (ap (λ (x : Cell). x.fronts) now)
+read_after s (command.Bad why) old new k now = inr (ap (λ (x : Cell). x.fronts) now)
+read_after s (command.Feed op via) old new k now = inr (ap (λ (x : Cell). x.fronts) (now.1).now)
+read_after s (command.State state deaf) old new k now = inr (told_then k (publish_fault old.told state) state deaf old new now).fronts
+read_after s (command.BadState offset) old new k now = inr (ap (λ (x : Cell). x.fronts) now)
+read_after s (command.Stop node) old new k now = inr (ap (λ (x : Cell). x.fronts) now.now)
+read_after s (command.Start node) old new k now = inr (ap (λ (x : Cell). x.fronts) now.now)
+read_after s (command.Net at fates) old new k now = inr (ap (λ (x : Cell). x.fronts) now.now)
+read_after s command.Maintain old new k now = inr (ap (λ (x : Cell). x.fronts) now.now)
+read_after s (command.Search query) old new k now = inl (query, refl)
+read_after s (command.BadQuery offset) old new k now = inr (ap (λ (x : Cell). x.fronts) now)
+
+pub leaves_fronts : (s : Setting) (c : Asked) (old new : Cell) (k : ℕ) → IsAfter s k c old new → LeavesFronts k old new
+leaves_fronts s c old new k after = elim (read_after s c old new k after) [
+  | inl is ↦ leaves_read k old new (subst (λ (x : Asked). IsAfter s k x old new) is.1 after)
+  | inr same ↦ same_fronts k old new same
 ]
 
 -- ---- room alone
@@ -363,4 +417,5 @@ kept_roomier s plans cs old new r kept = record {
   serving = λ lane v at.
       subst (λ us. IsServing s (planned_for lane v.takes_plans (plans lane) cs) lane (deeds_of_lane s us lane cs) v) (sym (ap (λ (x : Cell). x.upkeeps) r.rest)) (serves_roomier s plans cs old new kept r.lanes lane v at);
   unkept = λ line later. ap (λ (x : Cell). spans_of line x.upkeeps) r.rest ∙ kept.unkept line (subst (λ (x : Cell). x.dealt < line) r.rest later);
+  unread = λ line later. ap (λ (x : Cell). fronts_of line x.fronts) r.rest ∙ kept.unread line (subst (λ (x : Cell). x.dealt < line) r.rest later);
 }

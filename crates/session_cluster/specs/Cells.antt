@@ -8,24 +8,28 @@ use Rattle.lane_lives.specs.LaneValues.{LaneValue, lane_code}
 use Rattle.lane_journals.specs.declared.event.LaneEvent.{LaneEvent}
 use Rattle.session_cluster.specs.declared.cluster.LineSpans.{LineSpans}
 use Rattle.session_cluster.specs.contracts.cluster.LineSpans as line_spans
+use Rattle.session_cluster.specs.declared.searching.LineFronts.{LineFronts}
+use Rattle.session_cluster.specs.contracts.searching.LineFronts as line_fronts
 
 -- how many low bits of a key tell the lanes apart; the states that were published, and how many acknowledgements a
--- write needs; what each lane is; how many lines were dealt with; and how the upkeep went that lines asked for
+-- write needs; what each lane is; how many lines were dealt with; how the upkeep went that lines asked for; and how far
+-- searches read
 pub record Cell : Type 0 where
   pub bits : ℕ
   pub told : Told
   pub lanes : List LaneValue
   pub dealt : ℕ
   pub upkeeps : List LineSpans
+  pub fronts : List LineFronts
 
 abbrev pub told_code : Coded Told
 told_code = code_by (ℕ × List ClusterState) (coded× coded_ℕ (coded_list states.the_row.coded)) (λ t. (t.acks, t.states)) (λ p. record { acks = p.0; states = p.1 }) (λ _. refl)
 
 abbrev pub cell_code : Coded Cell
-cell_code = code_by (ℕ × (Told × (List LaneValue × (ℕ × List LineSpans))))
-    (coded× coded_ℕ (coded× told_code (coded× (coded_list lane_code) (coded× coded_ℕ (coded_list line_spans.the_row.coded)))))
-    (λ c. (c.bits, (c.told, (c.lanes, (c.dealt, c.upkeeps)))))
-    (λ p. record { bits = p.0; told = p.1.0; lanes = p.1.1.0; dealt = p.1.1.1.0; upkeeps = p.1.1.1.1 })
+cell_code = code_by (ℕ × (Told × (List LaneValue × (ℕ × (List LineSpans × List LineFronts)))))
+    (coded× coded_ℕ (coded× told_code (coded× (coded_list lane_code) (coded× coded_ℕ (coded× (coded_list line_spans.the_row.coded) (coded_list line_fronts.the_row.coded))))))
+    (λ c. (c.bits, (c.told, (c.lanes, (c.dealt, (c.upkeeps, c.fronts))))))
+    (λ p. record { bits = p.0; told = p.1.0; lanes = p.1.1.0; dealt = p.1.1.1.0; upkeeps = p.1.1.1.1.0; fronts = p.1.1.1.1.1 })
     (λ _. refl)
 
 -- the journal of each lane, newest event first
@@ -35,9 +39,9 @@ journals vs = map (λ (v : LaneValue). v.journal) vs
 abbrev pub journals_of : Cell → List (List LaneEvent)
 journals_of c = journals c.lanes
 
--- there is no lane, no line was dealt with, and no upkeep was made
+-- there is no lane, no line was dealt with, no upkeep was made, and no search
 abbrev pub is_empty : Cell → Bool
-is_empty c = length c.lanes == 0 && (c.dealt == 0 && length c.upkeeps == 0)
+is_empty c = length c.lanes == 0 && (c.dealt == 0 && (length c.upkeeps == 0 && length c.fronts == 0))
 
 -- a cluster has no lane, or all that its bits tell apart
 pub record IsCluster (bits lanes : ℕ) : Type 0 where

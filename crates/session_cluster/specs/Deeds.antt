@@ -37,6 +37,8 @@ told_next (command.Stop node) told = told
 told_next (command.Start node) told = told
 told_next (command.Net at fates) told = told
 told_next command.Maintain told = told
+told_next (command.Search query) told = told
+told_next (command.BadQuery offset) told = told
 
 -- once these lines are dealt with, the oldest first
 abbrev pub told_by : Told → List Asked → Told
@@ -68,6 +70,8 @@ with_line s us lane told line (command.Stop node) deeds = Stops node ∷ deeds
 with_line s us lane told line (command.Start node) deeds = Starts node ∷ deeds
 with_line s us lane told line (command.Net at fates) deeds = deeds
 with_line s us lane told line command.Maintain deeds = Maintains (span_in lane line us) ∷ deeds
+with_line s us lane told line (command.Search query) deeds = deeds
+with_line s us lane told line (command.BadQuery offset) deeds = deeds
 
 -- with these lines, the oldest first, of which the first has this number
 abbrev pub with_lines : Setting → List LineSpans → ℕ → Told → ℕ → List Asked → List Deed → List Deed
@@ -92,6 +96,8 @@ planned_next lane takes (command.Stop node) planned = planned
 planned_next lane takes (command.Start node) planned = planned
 planned_next lane takes (command.Net at fates) planned = if at == lane then planned_with takes planned fates else planned
 planned_next lane takes command.Maintain planned = planned
+planned_next lane takes (command.Search query) planned = planned
+planned_next lane takes (command.BadQuery offset) planned = planned
 
 -- behind these, once lines are dealt with, the oldest first
 abbrev pub planned_for : ℕ → Bool → List Fate → List Asked → List Fate

@@ -7,6 +7,7 @@ use Rattle.lane_lives.specs.declared.setting.Setting.{Setting}
 use Rattle.lane_lives.specs.Serving.{IsServing}
 use Rattle.session_cluster.specs.Cells.{Cell}
 use Rattle.session_cluster.specs.Deeds.{told_of, deeds_of_lane, planned_for}
+use Rattle.session_cluster.specs.Searches.{fronts_of}
 use Rattle.session_cluster.specs.Spans.{spans_of}
 use Rattle.session_cluster.specs.declared.asked.Asked.{Asked}
 
@@ -20,6 +21,8 @@ pub record IsKept (s : Setting) (plans : ℕ → List Fate) (commands : List Ask
       → IsServing s (planned_for lane v.takes_plans (plans lane) commands) lane (deeds_of_lane s c.upkeeps lane commands) v
   -- no line that is still to come has spans of upkeep
   pub unkept : (line : ℕ) → c.dealt < line → spans_of line c.upkeeps ≡ None
+  -- nor fronts of a search
+  pub unread : (line : ℕ) → c.dealt < line → fronts_of line c.fronts ≡ None
 
 -- the next line may be dealt with
 pub record IsReady (s : Setting) (line : ℕ) (c : Cell) : Type 0 where

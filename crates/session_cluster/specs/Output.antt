@@ -1,10 +1,11 @@
--- The bytes that answer the lines, read off the lanes and the spans of upkeep.
+-- The bytes that answer the lines, read off the lanes, the spans of upkeep and the fronts of searches.
 use Rattle.std.specs.Prelude.{ℕ, suc, List, [], ◌∷◌, ◌++◌, length, Option, None, Some, slice_get}
 use Rattle.stamps.specs.declared.stamp.Stamp.{Stamp}
 use Rattle.cluster_states.specs.Publishing.{Told, publish_fault}
 use Rattle.cluster_states.specs.declared.cluster_state.ClusterState.{ClusterState}
 use Rattle.cluster_states.specs.declared.states.PublishFault.{PublishFault}
 use Rattle.cluster_states.specs.declared.states.PublishFault.TheVariants as fault
+use Rattle.doc_types.specs.SchemaCodes.{Types}
 use Rattle.documents.specs.Fields.{Contents}
 use Rattle.documents.specs.declared.entry.Entry.{Entry}
 use Rattle.session_cluster.specs.declared.asked.Asked.{Asked}
@@ -15,12 +16,14 @@ use Rattle.lane_lives.specs.declared.setting.Setting.{Setting}
 use Rattle.lane_lives.specs.Lives.{outcome_in}
 use Rattle.messages.specs.declared.outcome.Outcome.{Outcome}
 use Rattle.messages.specs.declared.outcome.Outcome.TheVariants as outcome
+use Rattle.query_text.specs.Grammar.{Said}
 use Rattle.reports.specs.ReportText.{report_text}
 use Rattle.reports.specs.declared.answer.Answer.{Answer}
 use Rattle.reports.specs.declared.answer.Answer.TheVariants as answer
 use Rattle.session_cluster.specs.Cells.{Cell, journals}
 use Rattle.session_cluster.specs.Deeds.{first_told, told_next}
 use Rattle.session_cluster.specs.Lanes.{Journal, lane_of_id, journal_in}
+use Rattle.session_cluster.specs.Searches.{fronts_of, views_to, version_now, answer_to}
 use Rattle.session_cluster.specs.Spans.{spans_of, is_rested, is_blocked, is_disturbed, count_of}
 use Rattle.lane_lives.specs.declared.spans.UpkeepSpan.{UpkeepSpan}
 
@@ -88,6 +91,11 @@ abbrev pub upkeep_answer : Option (List UpkeepSpan) → Option Answer
 upkeep_answer None = None
 upkeep_answer (Some spans) = Some (answer.Maintained (length spans) (count_of is_rested spans) (count_of is_blocked spans) (count_of is_disturbed spans))
 
+-- what a search finds under the state that was told last, in the views to which it read
+abbrev pub found_answer_of : Types → Told → Said → Option (List ℕ) → List Journal → Option Answer
+found_answer_of types told q None Js = None
+found_answer_of types told q (Some fronts) Js = Some (answer.Search (answer_to q (version_now told) (views_to types fronts Js)))
+
 -- the answer of a line, where these states are told before it; a blank line has none
 abbrev pub answer_in : Setting → Told → ℕ → Asked → Cell → Option Answer
 answer_in s told line command.Blank cell = None
@@ -100,6 +108,8 @@ answer_in s told line (command.Stop node) cell = Some (answer.Stopped node)
 answer_in s told line (command.Start node) cell = Some (answer.Started node)
 answer_in s told line (command.Net lane fates) cell = plan_answer (slice_get cell.lanes lane)
 answer_in s told line command.Maintain cell = upkeep_answer (spans_of line cell.upkeeps)
+answer_in s told line (command.Search q) cell = found_answer_of s.schema told q (fronts_of line cell.fronts) (journals cell.lanes)
+answer_in s told line (command.BadQuery offset) cell = Some (answer.BadQuery offset)
 
 -- the report of what may be an answer
 abbrev pub bytes_of : ℕ → Option Answer → List ℕ

@@ -1,19 +1,15 @@
 -- How the upkeep went that lines asked for.
-use Rattle.std.specs.Prelude.{◌==◌, ℕ, nat_eq, Bool, true, false, List, [], ◌∷◌, Option, None, Some, option_and_then, slice_get, if◌then◌else◌}
+use Rattle.std.specs.Prelude.{ℕ, Bool, true, false, List, Option, option_and_then, slice_get}
 use Rattle.std.specs.List.{count_by}
 use Rattle.upkeep_spans.specs.declared.answers.Upkeep.{Upkeep}
 use Rattle.upkeep_spans.specs.declared.answers.Upkeep.TheVariants.{Rested, Blocked, Disturbed}
 use Rattle.lane_lives.specs.declared.spans.UpkeepSpan.{UpkeepSpan}
+use Rattle.session_cluster.specs.Noted.{noted_of}
 use Rattle.session_cluster.specs.declared.cluster.LineSpans.{LineSpans}
-
--- it was noted of this line
-abbrev pub is_of : ℕ → LineSpans → Bool
-is_of line u = nat_eq u.line line
 
 -- the spans of a line that asked for upkeep and was answered
 abbrev pub spans_of : ℕ → List LineSpans → Option (List UpkeepSpan)
-spans_of line [] = None
-spans_of line (u ∷ us) = if u.line == line then Some u.spans else spans_of line us
+spans_of line us = noted_of (λ (u : LineSpans). u.line) (λ (u : LineSpans). u.spans) line us
 
 -- that of a lane among them
 abbrev pub span_in : ℕ → ℕ → List LineSpans → Option UpkeepSpan

@@ -8,6 +8,7 @@ use Rattle.cluster_states.specs.declared.cluster_state.ClusterState.{ClusterStat
 use Rattle.cluster_states.specs.declared.states.PublishFault.{PublishFault}
 use Rattle.messages.specs.declared.operation.Operation.{Operation}
 use Rattle.messages.specs.declared.outcome.Outcome.{Outcome}
+use Rattle.doc_types.specs.SchemaCodes.{Types}
 use Rattle.lane_journals.specs.Buckets.{key_of}
 use Rattle.lane_journals.specs.Meanings.{history}
 use Rattle.lane_journals.specs.Places.{told}
@@ -24,6 +25,7 @@ use Rattle.lane_lives.specs.declared.spans.UpkeepSpan.{UpkeepSpan}
 use Rattle.session_cluster.specs.Cells.{Cell}
 use Rattle.session_cluster.specs.Deeds.{told_with}
 use Rattle.session_cluster.specs.Lanes.{lane_of_id}
+use Rattle.session_cluster.specs.Searches.{fronts_now}
 use Rattle.session_cluster.specs.declared.asked.Asked.{Asked}
 use Rattle.session_cluster.specs.declared.asked.Asked.TheVariants as command
 
@@ -154,6 +156,16 @@ abbrev pub IsSpanNoted : ℕ → Asked → Cell → Cell → Type 0
 IsSpanNoted line command.Maintain old new = HasSpans line old new
 IsSpanNoted line _ old new = Unit {0}
 
+-- ---- searches
+
+-- a lane has documents of these types
+abbrev pub HasTypes : Types → LaneValue → Type 0
+HasTypes types v = v.types ≡ types
+
+-- how far the search read is noted, which is to the end of each lane's journal
+abbrev pub IsSearched : ℕ → Cell → Cell → Type 0
+IsSearched line old new = new ≡ record old { dealt = line; fronts = old.fronts ++ record { line = line; fronts = fronts_now old.lanes } ∷ [] }
+
 -- ---- any line
 
 -- the line was dealt with
@@ -168,6 +180,8 @@ IsAfter s line (command.Stop node) old new = IsDoneInEach line (after_stop node)
 IsAfter s line (command.Start node) old new = IsDoneInEach line (after_start node) old new
 IsAfter s line (command.Net lane fates) old new = IsPlannedIn line lane fates old new
 IsAfter s line command.Maintain old new = IsMaintained line old new
+IsAfter s line (command.Search q) old new = IsSearched line old new
+IsAfter s line (command.BadQuery offset) old new = new ≡ record old { dealt = line }
 
 -- the line wasn't dealt with, or it was
 abbrev pub IsAllOrNothing : Setting → ℕ → Asked → Cell → Cell → Type 0

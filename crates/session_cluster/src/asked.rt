@@ -1,5 +1,5 @@
 ghost use Rattle.std.specs.Prelude.{◌<◌, ℕ, IfOk};
-ghost use Rattle.session_cluster.specs.Asking.{IsOfText, IsAskedBy, IsAsked, IsOwnAsked};
+ghost use Rattle.session_cluster.specs.Asking.{IsOfText, IsOfQuery, IsAskedBy, IsAsked, IsOwnAsked};
 ghost use Rattle.feed_lines.specs.Meaning.{line_said};
 
 use carriers::FateList;
@@ -11,6 +11,8 @@ use io_ends::LONGEST;
 use line_values::ValueReader;
 use messages::Operation;
 use node_sets::NodeSet;
+use query_text::parsed::Parsed;
+use query_text::{Query, QueryFault};
 use std::alloc::Global;
 use value_lists::NoMemory;
 
@@ -54,6 +56,14 @@ pub enum Asked {
     },
     /// Upkeep is made in every lane.
     Maintain,
+    /// Documents are searched for.
+    Search {
+        query: Parsed,
+    },
+    /// Documents are searched for, but the text is no query; it is refused at this place.
+    BadQuery {
+        offset: u32,
+    },
 }
 
 /// What a line asks for that publishes the state of a text.
@@ -67,6 +77,20 @@ fn of_text(text: &str, deaf: NodeSet) -> Asked
     }
 }
 
+/// What a line asks for that searches by a text, under a schema.
+fn of_query(alloc: Global, text: &str, schema: &Schema) -> Result<Asked, NoMemory>
+    ensures value { IfOk result (λ a. IsOfQuery schema.now text.now a) }
+    ensures own { IfOk result (λ a. (bits : ℕ) → IsOwnAsked bits a) }
+{
+    match Query::parse(alloc, text, schema) {
+        Ok(query) => Ok(Asked::Search {
+            query: Parsed::of(query),
+        }),
+        Err(QueryFault::BadQuery { offset }) => Ok(Asked::BadQuery { offset }),
+        Err(QueryFault::NoMemory) => Err(NoMemory),
+    }
+}
+
 /// What a line of at most 65,536 bytes asks for.
 fn short_asked(
     alloc: Global,
@@ -76,17 +100,14 @@ fn short_asked(
     bytes: &[u8],
 ) -> Result<Asked, NoMemory>
     requires { bits < 8 }
-    ensures value { IfOk result (λ a. IsAskedBy (line_said schema.now bits bytes.now) a) }
+    ensures value { IfOk result (λ a. IsAskedBy schema.now (line_said schema.now bits bytes.now) a) }
     ensures own { IfOk result (λ a. IsOwnAsked bits a) }
 {
     commands_are_in_range();
     match read_line(alloc, values, bytes, schema, bits) {
         Ok(Command::Blank) => Ok(Asked::Blank),
         Ok(Command::Feed { operation, via }) => Ok(Asked::Feed { operation, via }),
-        // No session answers searches yet.
-        Ok(Command::Search { .. }) => Ok(Asked::Bad {
-            cause: Cause::Unbuilt,
-        }),
+        Ok(Command::Search { text }) => of_query(alloc, text.text(), schema),
         Ok(Command::State { text, deaf }) => Ok(of_text(text.text(), deaf)),
         Ok(Command::Stop { node }) => Ok(Asked::Stop { node }),
         Ok(Command::Start { node }) => Ok(Asked::Start { node }),

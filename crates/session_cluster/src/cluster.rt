@@ -7,15 +7,20 @@ ghost use Rattle.lane_lives.specs.Settings.{IsSetting, lane_count};
 ghost use Rattle.session_cluster.specs.Cells.{is_empty, journals_of};
 ghost use Rattle.session_cluster.specs.Deeds.{first_told};
 ghost use Rattle.session_cluster.specs.Lanes.{journal_in};
+ghost use Rattle.lane_states.specs.Told.{IsUnused};
+ghost use Rattle.session_cluster.specs.Noted.{is_for};
+ghost use Rattle.session_cluster.specs.declared.cluster.LineSpans.{LineSpans};
 ghost use Rattle.session_cluster.specs.Rows.{ShowsRows, ShowsRowsUnder, AreRowsAt};
+ghost use Rattle.session_cluster.specs.Searches.{fronts_of};
 ghost use Rattle.session_cluster.specs.Sizes.{HasSize};
-ghost use Rattle.session_cluster.specs.Spans.{is_of, spans_of, is_rested, is_blocked, is_disturbed, count_of};
+ghost use Rattle.session_cluster.specs.Spans.{spans_of, is_rested, is_blocked, is_disturbed, count_of};
 ghost use Rattle.std.specs.List.{find};
 ghost use Rattle.session_cluster.specs.Keeping.{AreOpen, IsKept};
 ghost use Rattle.lane_lives.specs.LaneValues.{IsLaneValue};
 ghost use Rattle.session_cluster.specs.Steps.{with_room, without_room, after_state, after_stop, after_start, EachLane, IsRoomy, MayAnnounce, MayMaintain, MayHaveAllPassed, AreSpans, HasSpans, IsMaintained};
 ghost use Rattle.session_cluster.specs.Output.{upkeep_answer};
 
+use crate::searching::{LineFronts, fronts_at};
 use bucket_db::Row;
 use bucket_ids::Bucket;
 use carriers::{Carrier, Carriers};
@@ -25,13 +30,16 @@ use ideal_nodes::owner;
 use lane_core::{Lane, announce, maintain, open_lane, start, stop};
 use lane_journals::LaneEvent;
 use lane_lives::{Setting, UpkeepSpan};
+use lane_views::LaneView;
+use node_rows::SharedSchema;
 use node_sets::NodeSet;
 use reports::Answer;
+use shelves::PlainShelf;
 use stamps::Stamp;
 use std::alloc::Global;
 use std::marker::Model;
 use upkeep_spans::Upkeep;
-use value_lists::{Listed, NoMemory};
+use value_lists::{Listed, NoMemory, TryCopy};
 
 /// The lanes that a session leaves: none, or all of them.
 #[derive(Drop)]
@@ -43,6 +51,8 @@ pub struct Cluster<C: Carrier + Drop> {
     pub(crate) dealt: u32,
     /// How the upkeep went that lines asked for, in line order.
     pub(crate) upkeeps: Vec<LineSpans>,
+    /// How far searches read, in line order.
+    pub(crate) fronts: Vec<LineFronts>,
 }
 
 impl<C: Carrier + Drop> Model for Cluster<C> {
@@ -53,7 +63,7 @@ impl<C: Carrier + Drop> Model for Cluster<C> {
 
     ghost coded = { cell_code };
 
-    ghost view = { λ c. record { bits = c.bits; told = c.states; lanes = c.lanes.items; dealt = c.dealt; upkeeps = c.upkeeps.items } };
+    ghost view = { λ c. record { bits = c.bits; told = c.states; lanes = c.lanes.items; dealt = c.dealt; upkeeps = c.upkeeps.items; fronts = c.fronts.items } };
 
     ghost invariant = { λ c. IsCluster c.bits (length c.lanes.items) };
 }
@@ -69,14 +79,18 @@ impl<C: Carrier + Drop> Cluster<C> {
             lanes: Vec::new(alloc),
             dealt: 0,
             upkeeps: Vec::new(alloc),
+            fronts: Vec::new(alloc),
         }
     }
 
-    /// Whether there is no lane, no line was dealt with, and no upkeep was made.
+    /// Whether there is no lane, no line was dealt with, no upkeep was made, and no search.
     pub fn is_empty(&self) -> bool
         ensures { result ≡ is_empty self.now }
     {
-        self.lanes.is_empty() && self.dealt == 0 && self.upkeeps.is_empty()
+        self.lanes.is_empty()
+            && self.dealt == 0
+            && self.upkeeps.is_empty()
+            && self.fronts.is_empty()
     }
 
     /// How many lanes there are.
@@ -147,6 +161,17 @@ impl<C: Carrier + Drop> Cluster<C> {
         }
     }
 
+    /// How many changes a search read in each lane, in lane order; none for a line that isn't a search, and where want of
+    /// memory cut it.
+    pub fn fronts(&self, line: u32) -> Option<&[u64]>
+        ensures { option_map (λ fronts. fronts.now) result ≡ fronts_of line self.now.fronts }
+    {
+        match fronts_at(&self.fronts, line) {
+            Some(noted) => Some(noted.fronts.items()),
+            None => None,
+        }
+    }
+
     /// Takes these lanes, in which no line was dealt with.
     pub fn take(&mut self, setting: &Setting, lanes: Vec<Lane<C>>)
         requires setting { IsSetting setting.now }
@@ -157,6 +182,7 @@ impl<C: Carrier + Drop> Cluster<C> {
           lanes = lanes.items;
           dealt = 0;
           upkeeps = [];
+          fronts = [];
         } }
     {
         self.bits = setting.bits;
@@ -164,6 +190,7 @@ impl<C: Carrier + Drop> Cluster<C> {
         self.lanes = lanes;
         self.dealt = 0;
         self.upkeeps.clear();
+        self.fronts.clear();
     }
 
     /// The entry that was written in a lane with a stamp.
@@ -177,7 +204,7 @@ impl<C: Carrier + Drop> Cluster<C> {
 
 /// What was noted of a line.
 fn spans_at(upkeeps: &[LineSpans], line: u32) -> Option<&LineSpans>
-    ensures { option_map (λ upkeep. upkeep.now) result ≡ find (is_of line) upkeeps.now }
+    ensures { option_map (λ upkeep. upkeep.now) result ≡ find (is_for (λ (u : LineSpans). u.line) line) upkeeps.now }
 {
     upkeeps.iter().find(|upkeep| upkeep.line == line)
 }
@@ -233,6 +260,7 @@ pub fn open_cluster<C: Carriers>(
     requires setting { IsSetting setting.now }
     ensures ok { OnOk result (IsKept setting.now (C.plans carriers.old) [] cluster.new) }
     ensures none { OnOk result (cluster.new.upkeeps ≡ []) }
+    ensures unread { OnOk result (cluster.new.fronts ≡ []) }
     ensures err { OnErr result (cluster.new ≡ cluster.old) }
 {
     let lanes = open_lanes(alloc, setting, carriers)?;
@@ -250,11 +278,21 @@ fn open_lanes<C: Carriers>(
     ensures { IfOk result (λ lanes. AreOpen setting.now (C.plans carriers.old) lanes.items) }
 {
     let count = 1u8 << setting.bits;
+    let shared = SharedSchema::new(alloc, setting.schema.copy(alloc)?)?;
     let mut lanes = Vec::with_capacity(alloc, usize::from(count))?;
     for lane in 0..count {
-        lanes.push(open_lane(alloc, lane, setting, carriers)?)?;
+        let shelf = new_shelf(alloc, &shared)?;
+        lanes.push(open_lane(alloc, lane, setting, shelf, carriers)?)?;
     }
     Ok(lanes)
+}
+
+/// The shelf of a lane of which nothing was heard.
+fn new_shelf(alloc: Global, schema: &SharedSchema) -> Result<PlainShelf, NoMemory>
+    ensures unused { IfOk result (λ shelf. IsUnused shelf) }
+    ensures types { IfOk result (λ shelf. (shelf.opening).types ≡ schema.now) }
+{
+    Ok(PlainShelf::new(alloc, LaneView::new(alloc, schema)?))
 }
 
 /// Makes room in each lane for a state, a stop or a start. The only error is want of memory, and then there is room in

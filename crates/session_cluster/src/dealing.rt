@@ -44,9 +44,35 @@ fn lane_at(key: u64, bits: u8) -> u8
 }
 
 impl<C: Carrier + Drop> Cluster<C> {
-    /// Deals with a line's command, and gives the line's answer, which a blank line has not. The only error is want
-    /// of memory; the line may be dealt with then.
+    /// Deals with a line's command, and gives the line's answer, which a blank line has not; then the lanes show what
+    /// changed in them, as far as there is memory for that. The only error is want of memory; the line may be dealt with
+    /// then.
     pub fn deal(
+        &mut self,
+        alloc: Global,
+        setting: &Setting,
+        line: u32,
+        command: Asked,
+    ) -> Result<Option<Answer>, NoMemory>
+        requires ready { IsReady setting.now line self.old }
+        requires own { IsOwnAsked setting.now.bits command }
+        ensures ok { IfOk result (λ answer. IsAfter setting.now line command self.old self.new
+            × (answer ≡ answer_in setting.now self.old.told line command self.new)) }
+        ensures noted { OnOk result (IsSpanNoted line command self.old self.new) }
+        ensures err { OnErr result (IsAllOrNothing setting.now line command self.old self.new) }
+    {
+        // an operation changes its own lane alone
+        let is_wide = !matches!(command, Asked::Feed { .. });
+        let answer = self.deal_with(alloc, setting, line, command);
+        if is_wide {
+            // what isn't shown now is shown before the next search
+            let _settled = self.settle();
+        }
+        answer
+    }
+
+    /// Deals with a line's command, and gives the line's answer.
+    fn deal_with(
         &mut self,
         alloc: Global,
         setting: &Setting,
@@ -85,6 +111,11 @@ impl<C: Carrier + Drop> Cluster<C> {
             Asked::Start { node } => self.start(line, node),
             Asked::Net { lane, fates } => self.plan(line, lane, &fates),
             Asked::Maintain => self.maintain(alloc, line),
+            Asked::Search { query } => self.search(alloc, line, query),
+            Asked::BadQuery { offset } => {
+                self.dealt = line;
+                Ok(Some(Answer::BadQuery { offset }))
+            }
         }
     }
 
@@ -114,6 +145,8 @@ impl<C: Carrier + Drop> Cluster<C> {
         let key = key_of(&operation.id);
         let at = lane_at(key, setting.bits);
         let outcome = self.operate(at, line, key, operation, via)?;
+        // what isn't shown now is shown before the next search
+        let _settled = self.settle_at(at);
         self.answer(alloc, at, outcome)
     }
 

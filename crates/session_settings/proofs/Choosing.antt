@@ -23,19 +23,19 @@ same_options words c o said x = said_once words x.options o x.said said
 same_schema : (text : List ℕ) (a b : Types) → SaysSchema text a → SaysSchema text b → a ≡ b
 same_schema text a b x y = cc (x.said, y.said)
 
-same_setting : (a b : Setting) → a.bits ≡ b.bits → a.rules ≡ b.rules → a.initial ≡ b.initial → a ≡ b
-same_setting a b bits rules initial = λ i. record { bits = bits i; rules = rules i; initial = initial i }
+same_setting : (a b : Setting) → a.bits ≡ b.bits → a.rules ≡ b.rules → a.initial ≡ b.initial → a.schema ≡ b.schema → a ≡ b
+same_setting a b bits rules initial schema = λ i. record { bits = bits i; rules = rules i; initial = initial i; schema = schema i }
 
-same_choice : (a b : Choice) → a.setting ≡ b.setting → a.schema ≡ b.schema → a ≡ b
-same_choice a b setting schema = λ i. record { setting = setting i; schema = schema i }
+same_choice : (a b : Choice) → a.setting ≡ b.setting → a ≡ b
+same_choice a b setting = λ i. record { setting = setting i }
 
 pub one_choice : (words : List Text) (a b : Choice) → Chooses words a → Chooses words b → a ≡ b
 one_choice words a b x y =
     let same = same_options words a y.options y.said x in
     same_choice a b
     (same_setting a.setting b.setting (x.bits ∙ ap (λ (o : Options). o.bits) same ∙ sym y.bits) (x.rules ∙ ap rules_of same ∙ sym y.rules)
-    (tells_one y.options.initial a.setting.initial b.setting.initial (subst (λ (o : Options). CanBegin o a.setting.initial) same x.initial).said y.initial.said))
-    (same_schema y.options.schema a.schema b.schema (subst (λ (o : Options). SaysSchema o.schema a.schema) same x.schema) y.schema)
+    (tells_one y.options.initial a.setting.initial b.setting.initial (subst (λ (o : Options). CanBegin o a.setting.initial) same x.initial).said y.initial.said)
+    (same_schema y.options.schema a.setting.schema b.setting.schema (subst (λ (o : Options). SaysSchema o.schema a.setting.schema) same x.schema) y.schema))
 
 -- ---- the setting
 

@@ -30,12 +30,12 @@ pub record SaysSchema (text : List ℕ) (types : Types) : Type 0 where
   pub said : schema_in (read text) ≡ Some types
 
 -- the words say these options, of which those that aren't built stand at their defaults; the setting is theirs,
--- and the schema is that of its option
+-- and its schema is that of its option
 pub record Chooses (words : List Text) (c : Choice) : Type 0 where
   pub options : Options
   pub said : Says words options
   pub built : is_built options ≡ true
-  pub schema : SaysSchema options.schema c.schema
+  pub schema : SaysSchema options.schema c.setting.schema
   pub bits : c.setting.bits ≡ options.bits
   pub rules : c.setting.rules ≡ rules_of options
   pub initial : CanBegin options c.setting.initial

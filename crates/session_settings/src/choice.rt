@@ -5,7 +5,6 @@ ghost use Rattle.session_settings.specs.Choices.{is_built, rules_of, CanBegin, S
 
 use cluster_states::{ClusterState, States};
 use distributor_part::Rules;
-use doc_types::Schema;
 use json_documents::{SchemaFault, schema_from_json};
 use lane_lives::setting::Setting;
 use std::alloc::Global;
@@ -14,10 +13,8 @@ use words_line::{Options, WordsFault, read_words};
 /// What the words choose.
 #[derive(Drop)]
 pub struct Choice {
-    /// What the session is set to.
+    /// What the session is set to, its schema with it.
     pub setting: Setting,
-    /// Which types of documents it has.
-    pub schema: Schema,
 }
 
 /// What the words choose, of which the first is the program's name. An option that isn't built yet
@@ -43,8 +40,8 @@ pub fn read_choice(alloc: Global, words: &[String]) -> Result<Choice, WordsFault
                 bits: options.bits,
                 rules: rules_of(&options),
                 initial,
+                schema,
             },
-            schema,
         }),
         Err(SchemaFault::NoMemory) => Err(WordsFault::NoMemory),
         Err(_) => Err(WordsFault::Usage),

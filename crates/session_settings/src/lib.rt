@@ -1,4 +1,4 @@
-//! What the words of a session choose: its setting and its schema.
+//! What the words of a session choose: its setting, with its schema.
 //!
 //! `read_choice` reads the words by `words_line`, the state's text by `cluster_states` and the schema by
 //! `doc_types`. A contract says what they choose by the relation `Chooses` (`specs/Choices.antt`), and that

@@ -1,4 +1,4 @@
-ghost use Rattle.std.specs.Prelude.{◌≡◌, ◌<◌, [], drop, OnOk};
+ghost use Rattle.std.specs.Prelude.{◌≡◌, ◌==◌, ◌<◌, [], drop, length, OnOk};
 ghost use Rattle.std.specs.VecDeque.{deque_len};
 ghost use Rattle.shelves.specs.Plain.{ShowsPart};
 
@@ -58,7 +58,7 @@ fn show_all(
 }
 
 impl PlainShelf {
-    /// A shelf that shows a view, after no change, and has no change pending; takes no memory.
+    /// A shelf that shows a view, after no change, and has no change pending.
     pub fn new(alloc: Global, view: LaneView) -> PlainShelf
         ensures { result ≡ record { opening = view; view = view; pending = [] } }
     {
@@ -68,6 +68,13 @@ impl PlainShelf {
             pending: VecDeque::new(alloc),
             alloc,
         }
+    }
+
+    /// Whether no change is pending.
+    pub fn shows_all(&self) -> bool
+        ensures { result ≡ (length self.now.pending == 0) }
+    {
+        self.pending.is_empty()
     }
 
     /// What it shows: the opening view after the shown changes.

@@ -45,7 +45,7 @@ pub trait Shelf {
         ensures all { OnOk result (pending self.new ≡ []) }
         ensures name { name self.new ≡ name self.old };
 
-    /// A note of this shelf that tells of the changes that are shown; takes no memory.
+    /// A note of this shelf that tells of the changes that are shown.
     fn tell(&mut self) -> Self::Note
         ensures note { notes (name self.old) result }
         ensures told { (cs : List LaneChange) → shows self.old cs → tells (name self.old) result cs }

@@ -2,7 +2,8 @@
 //!
 //! - `%rows LANE BUCKET ..`: the rows of a lane, by its owner;
 //! - `%entries NODE COUNT`: how many entries a node holds in all lanes;
-//! - `%upkeep LINE LANE rested`, `.. blocked NODE` or `.. disturbed MESSAGE`: how the upkeep of a line went there.
+//! - `%upkeep LINE LANE rested`, `.. blocked NODE` or `.. disturbed MESSAGE`: how the upkeep of a line went there;
+//! - `%fronts LINE COUNT ..`, or `.. none`: how many changes a search read in each lane.
 
 use crate::lines::number;
 use bucket_ids::Bucket;
@@ -13,7 +14,10 @@ use value_lists::NoMemory;
 
 /// Whether a line says such a fact.
 pub fn is_fact(line: &str) -> bool {
-    line.starts_with("%rows ") || line.starts_with("%entries ") || line.starts_with("%upkeep ")
+    line.starts_with("%rows ")
+        || line.starts_with("%entries ")
+        || line.starts_with("%upkeep ")
+        || line.starts_with("%fronts ")
 }
 
 /// The facts that these lines ask for, as the cluster has them.
@@ -41,6 +45,8 @@ fn put_fact(
     } else if line.starts_with("%entries ") {
         let count = cluster.store_size(lane_of(first));
         write!(facts, "%entries {first} {count}")?;
+    } else if line.starts_with("%fronts ") {
+        put_fronts(facts, cluster, first)?;
     } else {
         put_upkeep(facts, cluster, first, lane_of(number(line, 2)))?;
     }
@@ -70,6 +76,21 @@ fn put_bucket(alloc: Global, facts: &mut String, bucket: Bucket) -> Result<(), N
     let bucket = bucket.print(alloc)?;
     facts.push(' ')?;
     facts.push_str(&bucket)?;
+    Ok(())
+}
+
+fn put_fronts(
+    facts: &mut String,
+    cluster: &Cluster<PlanCarrier>,
+    line: u32,
+) -> Result<(), AllocError> {
+    write!(facts, "%fronts {line}")?;
+    let Some(fronts) = cluster.fronts(line) else {
+        return facts.push_str(" none");
+    };
+    for front in fronts {
+        write!(facts, " {front}")?;
+    }
     Ok(())
 }
 

@@ -10,7 +10,7 @@ use entry_maps::EntryMap;
 use node_rows::NodeRows;
 use value_lists::NoMemory;
 
-/// The entries of a bucket, shared. The only error is want of memory.
+/// The entries of a bucket, shared.
 pub fn listed_in(entries: &EntryMap, bucket: Bucket) -> Result<Vec<SharedEntry>, NoMemory>
     ensures entries { IfOk result (λ list. fin.from_entries (by_id list.items)
         ≡ fin.retain_keys entries.now (in_bucket bucket)) }

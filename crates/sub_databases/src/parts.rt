@@ -45,7 +45,7 @@ impl Model for SubDatabases {
 }
 
 impl SubDatabases {
-    /// No entries, of a schema that is shared. The only error is want of memory.
+    /// No entries, of a schema that is shared.
     pub fn new(alloc: Global, schema: &SharedSchema) -> Result<SubDatabases, NoMemory>
         ensures { IfOk result (λ parts. parts ≡ no_parts schema.now) }
     {
@@ -149,7 +149,7 @@ impl SubDatabases {
         self.entries.remove_within(bucket);
     }
 
-    /// Drops a document's entry exactly where it is a remove of a stamp. Takes no memory.
+    /// Drops a document's entry exactly where it is a remove of a stamp.
     pub fn forget(&mut self, id: &DocId, stamp: Stamp)
         ensures left { self.new ≡ after_forget id.now stamp self.old }
         ensures places { (other : List ℕ) → place_in self.new other ≡ place_forgotten id.now stamp self.old other }

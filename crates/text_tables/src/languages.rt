@@ -1,92 +1,80 @@
+use crate::tables::Table;
 use crate::texts::{halves, number, shown};
 use crate::world::World;
 use doc_selection::{Selection, SelectionFault};
 use documents::Document;
 use query_text::{Query, QueryFault};
 use std::alloc::Global;
-use value_lists::NoMemory;
 use word_index::tokens;
 
-/// `ok`, or the offset at which a selection is refused, by the schema whose number comes first.
-pub fn selection_fault(alloc: Global, world: &World, asked: &str) -> Result<String, NoMemory> {
+/// For each document a `+` where a selection is true of it, and else a `-`; or that the selection is read, by the schema
+/// whose number comes first.
+pub fn selected(alloc: Global, world: &World, table: Table, asked: &str) -> Option<String> {
     let (schema, text) = halves(asked);
-    let schema = world.schema(number(schema, 0));
-    match Selection::parse(alloc, text, schema) {
-        Ok(_) => ok(alloc),
-        Err(SelectionFault::BadSelection { offset }) => shown(alloc, &offset),
-        Err(SelectionFault::NoMemory) => Err(NoMemory),
+    match Selection::parse(alloc, text, world.schema(number(schema, 0))) {
+        Ok(selection) => match table {
+            Table::Holds => held(alloc, &selection, &world.documents),
+            _ => String::from_str(alloc, "ok").ok(),
+        },
+        Err(fault) => match (table, fault) {
+            (Table::Selections, SelectionFault::BadSelection { offset }) => shown(alloc, &offset),
+            (_, fault) => shown(alloc, &fault),
+        },
     }
 }
 
-fn ok(alloc: Global) -> Result<String, NoMemory> {
-    Ok(String::from_str(alloc, "ok")?)
-}
-
-/// A `+` for each document of which a selection is true, and a `-` for each other.
-pub fn selected(alloc: Global, world: &World, asked: &str) -> Result<String, NoMemory> {
-    let (schema, text) = halves(asked);
-    let schema = world.schema(number(schema, 0));
-    match Selection::parse(alloc, text, schema) {
-        Ok(selection) => held(alloc, &selection, &world.documents),
-        Err(fault) => shown(alloc, &fault),
-    }
-}
-
-fn held(alloc: Global, selection: &Selection, documents: &[Document]) -> Result<String, NoMemory> {
+fn held(alloc: Global, selection: &Selection, documents: &[Document]) -> Option<String> {
     let mut held = String::new(alloc);
+    let mut good = true;
     for document in documents {
-        held.push(sign(selection.holds(document)))?;
+        good &= held.push(sign(selection.holds(document))).is_ok();
     }
-    Ok(held)
+    if good { Some(held) } else { None }
 }
 
 fn sign(holds: bool) -> char {
     if holds { '+' } else { '-' }
 }
 
-/// `ok`, or the offset at which a query is refused.
-pub fn query_fault(alloc: Global, world: &World, asked: &str) -> Result<String, NoMemory> {
+/// The same of a query, where a `+` stands for a document that it matches.
+pub fn queried(alloc: Global, world: &World, table: Table, asked: &str) -> Option<String> {
     let (schema, text) = halves(asked);
-    let schema = world.schema(number(schema, 0));
-    match Query::parse(alloc, text, schema) {
-        Ok(_) => ok(alloc),
-        Err(QueryFault::BadQuery { offset }) => shown(alloc, &offset),
-        Err(QueryFault::NoMemory) => Err(NoMemory),
+    match Query::parse(alloc, text, world.schema(number(schema, 0))) {
+        Ok(query) => match table {
+            Table::Matches => matched(alloc, &query, &world.documents),
+            _ => String::from_str(alloc, "ok").ok(),
+        },
+        Err(fault) => match (table, fault) {
+            (Table::Queries, QueryFault::BadQuery { offset }) => shown(alloc, &offset),
+            (_, fault) => shown(alloc, &fault),
+        },
     }
 }
 
-/// A `+` for each document that a query matches, and a `-` for each other.
-pub fn queried(alloc: Global, world: &World, asked: &str) -> Result<String, NoMemory> {
-    let (schema, text) = halves(asked);
-    let schema = world.schema(number(schema, 0));
-    match Query::parse(alloc, text, schema) {
-        Ok(query) => matched(alloc, &query, &world.documents),
-        Err(fault) => shown(alloc, &fault),
-    }
-}
-
-fn matched(alloc: Global, query: &Query, documents: &[Document]) -> Result<String, NoMemory> {
+fn matched(alloc: Global, query: &Query, documents: &[Document]) -> Option<String> {
     let mut matched = String::new(alloc);
+    let mut good = true;
     for document in documents {
-        matched.push(sign(query.holds(alloc, document)?))?;
+        good &= match query.holds(alloc, document) {
+            Ok(holds) => matched.push(sign(holds)).is_ok(),
+            Err(_) => false,
+        };
     }
-    Ok(matched)
+    if good { Some(matched) } else { None }
 }
 
 /// The tokens of a text behind the number of a schema, with blanks between them.
-pub fn words(alloc: Global, asked: &str) -> Result<String, NoMemory> {
-    let tokens = tokens(alloc, halves(asked).1)?;
+pub fn words(alloc: Global, asked: &str) -> Option<String> {
+    let tokens = tokens(alloc, halves(asked).1).ok()?;
     let mut told = String::new(alloc);
+    let mut good = true;
     for token in tokens.items() {
-        put_word(&mut told, token.text())?;
+        good &= put_word(&mut told, token.text());
     }
-    Ok(told)
+    if good { Some(told) } else { None }
 }
 
-fn put_word(told: &mut String, word: &str) -> Result<(), NoMemory> {
-    if !told.is_empty() {
-        told.push(' ')?;
-    }
-    told.push_str(word)?;
-    Ok(())
+fn put_word(told: &mut String, word: &str) -> bool {
+    let between = if told.is_empty() { "" } else { " " };
+    told.push_str(between).is_ok() && told.push_str(word).is_ok()
 }

@@ -1,4 +1,3 @@
-use crate::fields::json_text;
 use crate::found::found;
 use crate::texts::{byte, halves, number, shown, word};
 use crate::world::World;
@@ -11,47 +10,50 @@ use message_texts::{MessageFault, message_text, read_message};
 use messages::{Message, OpKind, Operation};
 use reports::{Answer, report};
 use std::alloc::Global;
-use value_lists::NoMemory;
 use words_line::read_words;
 
 /// The JSON value that a text is, written without spaces and with its keys in order, or why it is none.
-pub fn json_value(alloc: Global, values: &mut ValueReader, text: &str) -> Result<String, NoMemory> {
+pub fn json_value(alloc: Global, values: &mut ValueReader, text: &str) -> Option<String> {
     match values.read(alloc, text) {
-        Ok(value) => json_text(alloc, &value),
+        Ok(value) => value.to_string(alloc).ok(),
         Err(fault) => shown(alloc, &fault),
     }
 }
 
 /// What a line of a feed asks for, or its cause. In a text behind `%byte ` each `#` is the byte 255.
-pub fn line_told(alloc: Global, world: &mut World, text: &str) -> Result<String, NoMemory> {
-    let bytes = bytes_of(alloc, text)?;
-    bytes_told(alloc, world, &bytes)
+pub fn line_told(alloc: Global, world: &mut World, text: &str) -> Option<String> {
+    match bytes_of(alloc, text) {
+        Some(bytes) => bytes_told(alloc, world, &bytes),
+        None => None,
+    }
 }
 
-fn bytes_told(alloc: Global, world: &mut World, bytes: &[u8]) -> Result<String, NoMemory> {
+fn bytes_told(alloc: Global, world: &mut World, bytes: &[u8]) -> Option<String> {
     match read_line(alloc, &mut world.values, bytes, &world.standard, 4) {
         Ok(command) => command_told(alloc, &command),
         Err(fault) => shown(alloc, &fault),
     }
 }
 
-fn bytes_of(alloc: Global, text: &str) -> Result<Vec<u8>, NoMemory> {
+fn bytes_of(alloc: Global, text: &str) -> Option<Vec<u8>> {
     let mut bytes = Vec::new(alloc);
-    put_bytes(&mut bytes, text)?;
-    Ok(bytes)
-}
-
-fn put_bytes(bytes: &mut Vec<u8>, text: &str) -> Result<(), NoMemory> {
-    let Some(rest) = text.strip_prefix("%byte ") else {
-        return Ok(bytes.extend_from_slice(text.as_bytes())?);
+    let good = match text.strip_prefix("%byte ") {
+        Some(rest) => put_bytes(&mut bytes, rest),
+        None => bytes.extend_from_slice(text.as_bytes()).is_ok(),
     };
-    for byte in rest.bytes() {
-        bytes.push(if byte == b'#' { 255 } else { byte })?;
-    }
-    Ok(())
+    if good { Some(bytes) } else { None }
 }
 
-fn command_told(alloc: Global, command: &Command) -> Result<String, NoMemory> {
+fn put_bytes(bytes: &mut Vec<u8>, text: &str) -> bool {
+    let mut good = true;
+    for byte in text.bytes() {
+        let byte = if byte == b'#' { 255 } else { byte };
+        good &= bytes.push(byte).is_ok();
+    }
+    good
+}
+
+fn command_told(alloc: Global, command: &Command) -> Option<String> {
     match command {
         Command::Blank => shown(alloc, &"blank"),
         Command::Feed { operation, via } => shown(alloc, &(kind_of(operation), via)),
@@ -64,7 +66,7 @@ fn command_told(alloc: Global, command: &Command) -> Result<String, NoMemory> {
     }
 }
 
-fn fates_told(alloc: Global, lane: u8, fates: &[Fate]) -> Result<String, NoMemory> {
+fn fates_told(alloc: Global, lane: u8, fates: &[Fate]) -> Option<String> {
     let first = fates.get(..6).unwrap_or(fates);
     shown(alloc, &("fates", lane, fates.len(), first))
 }
@@ -80,61 +82,66 @@ fn kind_of(operation: &Operation) -> &'static str {
 
 /// What the words of the command say, behind the program's name; a word ends at `|`, and `none` are no words but
 /// that, and `nothing` no words at all.
-pub fn options_told(alloc: Global, asked: &str) -> Result<String, NoMemory> {
-    let words = words_of(alloc, asked)?;
-    shown(alloc, &read_words(alloc, &words))
-}
-
-fn words_of(alloc: Global, asked: &str) -> Result<Vec<String>, NoMemory> {
+pub fn options_told(alloc: Global, asked: &str) -> Option<String> {
     let mut words = Vec::new(alloc);
-    if asked != "nothing" {
-        put_words(alloc, &mut words, asked)?;
+    let good = match asked {
+        "nothing" => true,
+        "none" => put_word(alloc, &mut words, NAME),
+        asked => put_word(alloc, &mut words, NAME) && put_words(alloc, &mut words, asked),
+    };
+    if good {
+        shown(alloc, &read_words(alloc, &words))
+    } else {
+        None
     }
-    Ok(words)
 }
 
-fn put_words(alloc: Global, words: &mut Vec<String>, asked: &str) -> Result<(), NoMemory> {
-    put_word(alloc, words, "vespa_cell")?;
-    if asked != "none" {
-        for word in asked.split('|') {
-            put_word(alloc, words, word)?;
-        }
+/// The program's name.
+const NAME: &str = "vespa_cell";
+
+fn put_words(alloc: Global, words: &mut Vec<String>, asked: &str) -> bool {
+    let mut good = true;
+    for word in asked.split('|') {
+        good &= put_word(alloc, words, word);
     }
-    Ok(())
+    good
 }
 
-fn put_word(alloc: Global, words: &mut Vec<String>, word: &str) -> Result<(), NoMemory> {
-    let word = String::from_str(alloc, word)?;
-    words.push(word)?;
-    Ok(())
+fn put_word(alloc: Global, words: &mut Vec<String>, word: &str) -> bool {
+    match String::from_str(alloc, word) {
+        Ok(word) => words.push(word).is_ok(),
+        Err(_) => false,
+    }
 }
 
 /// What a reader gives for the text of the second half, where that call of its source fails which the first names: each
 /// answer, and how long the line is.
-pub fn lines_read(alloc: Global, asked: &str) -> Result<String, NoMemory> {
-    let mut source = source_of(alloc, asked)?;
-    let mut reader = LineReader::new(alloc, 100, 10)?;
-    all_read(alloc, &mut reader, &mut source)
+pub fn lines_read(alloc: Global, asked: &str) -> Option<String> {
+    match source_of(alloc, asked) {
+        Some(mut source) => all_read(alloc, &mut source),
+        None => None,
+    }
 }
 
-fn source_of(alloc: Global, asked: &str) -> Result<MemorySource, NoMemory> {
+fn source_of(alloc: Global, asked: &str) -> Option<MemorySource> {
     let (failing, text) = halves(asked);
-    let calls = vec![in alloc; number(failing, 0)]?;
-    Ok(MemorySource::new(bytes_of(alloc, text)?, calls))
+    let bytes = bytes_of(alloc, text)?;
+    match vec![in alloc; number(failing, 0)] {
+        Ok(calls) => Some(MemorySource::new(bytes, calls)),
+        Err(_) => None,
+    }
 }
 
-fn all_read(
-    alloc: Global,
-    reader: &mut LineReader,
-    source: &mut MemorySource,
-) -> Result<String, NoMemory> {
+fn all_read(alloc: Global, source: &mut MemorySource) -> Option<String> {
+    let mut reader = LineReader::new(alloc, 100, 10).ok()?;
     let mut line = Vec::new(alloc);
     let mut told = Vec::new(alloc);
+    let mut good = true;
     for _ in 0..4 {
         let next = reader.next(source, &mut line);
-        told.push((next, length_of(next, &line)))?;
+        good &= told.push((next, length_of(next, &line))).is_ok();
     }
-    shown(alloc, &told)
+    if good { shown(alloc, &told) } else { None }
 }
 
 /// The length of a line, where one is given.
@@ -146,22 +153,34 @@ fn length_of(next: Next, line: &[u8]) -> usize {
 }
 
 /// The report of an answer: the line's number, what the answer is, and its numbers.
-pub fn reported(alloc: Global, asked: &str) -> Result<String, NoMemory> {
+pub fn reported(alloc: Global, asked: &str) -> Option<String> {
     let (kind, numbers) = halves(asked);
-    let answer = match kind {
-        "Search" => Answer::Search {
-            answer: found(alloc, numbers)?,
-        },
-        _ => answer_of(kind, numbers),
-    };
-    report_told(alloc, word(numbers, 0), &answer)
+    let line = word(numbers, 0);
+    match kind {
+        "Search" => search_told(alloc, line, numbers),
+        _ => report_told(alloc, line, &answer_of(kind, numbers)),
+    }
 }
 
-fn report_told(alloc: Global, line: u32, answer: &Answer) -> Result<String, NoMemory> {
-    let bytes = report(alloc, line, answer)?;
-    let text = str::from_utf8(&bytes).unwrap_or("");
+fn search_told(alloc: Global, line: u32, words: &str) -> Option<String> {
+    match found(alloc, words) {
+        Some(answer) => report_told(alloc, line, &Answer::Search { answer }),
+        None => None,
+    }
+}
+
+fn report_told(alloc: Global, line: u32, answer: &Answer) -> Option<String> {
+    match report(alloc, line, answer) {
+        Ok(bytes) => line_of(alloc, &bytes),
+        Err(_) => None,
+    }
+}
+
+/// The text of a line without its end.
+fn line_of(alloc: Global, bytes: &[u8]) -> Option<String> {
+    let text = str::from_utf8(bytes).unwrap_or("");
     let line = text.strip_suffix("\n").unwrap_or("no line");
-    Ok(String::from_str(alloc, line)?)
+    String::from_str(alloc, line).ok()
 }
 
 fn answer_of(kind: &str, numbers: &str) -> Answer {
@@ -207,15 +226,17 @@ fn answer_of_state(kind: &str, number: u32) -> Answer {
 }
 
 /// Whether a text is that of the message that it is read as.
-pub fn message_read(alloc: Global, schema: &Schema, text: &str) -> Result<String, NoMemory> {
+pub fn message_read(alloc: Global, schema: &Schema, text: &str) -> Option<String> {
     match read_message(alloc, text.as_bytes(), schema) {
         Ok(message) => shown(alloc, &is_text(alloc, &message, text)?),
         Err(MessageFault::BadMessage) => shown(alloc, &false),
-        Err(MessageFault::NoMemory) => Err(NoMemory),
+        Err(MessageFault::NoMemory) => None,
     }
 }
 
-fn is_text(alloc: Global, message: &Message, text: &str) -> Result<bool, NoMemory> {
-    let printed = message_text(alloc, message)?;
-    Ok(printed.as_slice() == text.as_bytes())
+fn is_text(alloc: Global, message: &Message, text: &str) -> Option<bool> {
+    match message_text(alloc, message) {
+        Ok(printed) => Some(printed.as_slice() == text.as_bytes()),
+        Err(_) => None,
+    }
 }

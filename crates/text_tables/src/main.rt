@@ -22,72 +22,59 @@ mod world;
 use crate::tables::{TABLES, Table, answer};
 use crate::texts::expanded;
 use crate::world::World;
-use anyhow::Result;
 use std::alloc::Global;
-use std::fs;
-use value_lists::NoMemory;
+use std::{fs, io};
 
-fn main(rt: HostRuntime) -> Result<()> {
-    let mut world = read_world(&rt)?;
-    print_tables(&rt, &mut world)
+fn main(rt: HostRuntime) -> io::Result<()> {
+    let schemas = fs::read_to_string(&rt, "schemas")?;
+    let documents = fs::read_to_string(&rt, "documents")?;
+    match World::read(rt.alloc(), &schemas, &documents) {
+        Some(mut world) => print_tables(&rt, &mut world),
+        None => println!(rt; "schemas and documents: DIFFER"),
+    }
 }
 
-fn read_world(rt: &HostRuntime) -> Result<World> {
-    let schemas = fs::read_to_string(rt, "schemas")?;
-    let documents = fs::read_to_string(rt, "documents")?;
-    World::read(rt.alloc(), &schemas, &documents)
-}
-
-fn print_tables(rt: &HostRuntime, world: &mut World) -> Result<()> {
+fn print_tables(rt: &HostRuntime, world: &mut World) -> io::Result<()> {
     for (table, name) in &TABLES {
-        let text = fs::read_to_string(rt, *name)?;
-        print_table(rt, world, *table, name, &text)?;
+        print_table(rt, world, *table, name)?;
     }
     Ok(())
 }
 
 /// Prints how many lines of a table came right, and those that didn't.
-fn print_table(
-    rt: &HostRuntime,
-    world: &mut World,
-    table: Table,
-    name: &str,
-    text: &str,
-) -> Result<()> {
+fn print_table(rt: &HostRuntime, world: &mut World, table: Table, name: &str) -> io::Result<()> {
+    let text = fs::read_to_string(rt, name)?;
     let mut right = 0u32;
     for line in text.lines() {
-        if !line.starts_with('#') && came_right(rt, world, table, name, line)? {
+        if !line.starts_with('#') && came_right(rt, world, table, line)? {
             right = right.wrapping_add(1);
         }
     }
-    println!(rt; "{name}: {right} right")?;
-    Ok(())
+    println!(rt; "{name}: {right} right")
 }
 
 /// Whether what comes for a line is what it wants; prints both where they differ.
-fn came_right(
-    rt: &HostRuntime,
-    world: &mut World,
-    table: Table,
-    name: &str,
-    line: &str,
-) -> Result<bool> {
+fn came_right(rt: &HostRuntime, world: &mut World, table: Table, line: &str) -> io::Result<bool> {
     let (wanted, asked) = line.split_once('\t').unwrap_or(("", line));
-    let came = came_of(rt.alloc(), world, table, asked)?;
-    if came.as_str() == wanted {
+    let came = came_of(rt.alloc(), world, table, asked);
+    if is_wanted(&came, wanted) {
         return Ok(true);
     }
-    println!(rt; "{name}: DIFFERS at {line}\nwhere {came} came")?;
+    println!(rt; "DIFFERS at {line}\nwhere {came:?} came")?;
     Ok(false)
 }
 
-/// What comes where a line asks.
-fn came_of(
-    alloc: Global,
-    world: &mut World,
-    table: Table,
-    asked: &str,
-) -> Result<String, NoMemory> {
-    let asked = expanded(alloc, asked)?;
-    answer(alloc, world, table, &asked)
+fn is_wanted(came: &Option<String>, wanted: &str) -> bool {
+    match came {
+        Some(came) => came.as_str() == wanted,
+        None => false,
+    }
+}
+
+/// What comes where a line asks; none where there is no memory.
+fn came_of(alloc: Global, world: &mut World, table: Table, asked: &str) -> Option<String> {
+    match expanded(alloc, asked) {
+        Some(asked) => answer(alloc, world, table, &asked),
+        None => None,
+    }
 }

@@ -5,7 +5,6 @@ ghost use Rattle.std.specs.Prelude.{◌≡◌, ℕ, ◌≤◌, List, length};
 use crate::texts::shown;
 use std::alloc::Global;
 use text_scanners::{Scanner, scan};
-use value_lists::NoMemory;
 
 /// How many letters were read.
 #[derive(Clone, Copy)]
@@ -42,6 +41,6 @@ impl Scanner for Few {
 }
 
 /// What letters say, or where no text goes on.
-pub fn scanned(alloc: Global, letters: &str) -> Result<String, NoMemory> {
+pub fn scanned(alloc: Global, letters: &str) -> Option<String> {
     shown(alloc, &scan(Few { count: 0 }, letters.as_bytes()))
 }

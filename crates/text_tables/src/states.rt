@@ -1,19 +1,28 @@
 use crate::ids::nodes_of;
+use crate::tables::Table;
 use crate::texts::{byte, halves, shown, word};
 use bucket_ids::Bucket;
-use cluster_states::{ClusterState, States};
+use cluster_states::{ClusterState, Mark, States};
 use ideal_nodes::{ideal, owner};
 use std::alloc::Global;
-use value_lists::NoMemory;
 
-/// Up to where a text is one of a state, if it is none.
-pub fn state_fault(alloc: Global, text: &str) -> Result<String, NoMemory> {
-    shown(alloc, &ClusterState::parse(text).err())
-}
-
-/// How the state that a text says is printed; the first state where it says none.
-pub fn state_printed(alloc: Global, text: &str) -> Result<String, NoMemory> {
-    state_of(text).print(alloc)
+/// Up to where a text is one of a state, if it is none; how its state is printed, the first state where it says none; or
+/// that state's version, its nodes that serve, those that are up, and how many groups there are.
+pub fn state_told(alloc: Global, table: Table, text: &str) -> Option<String> {
+    let state = state_of(text);
+    match table {
+        Table::States => shown(alloc, &ClusterState::parse(text).err()),
+        Table::StatesPrinted => state.print(alloc).ok(),
+        _ => shown(
+            alloc,
+            &(
+                state.version(),
+                state.serving().bits(),
+                state.nodes_up().bits(),
+                state.groups(),
+            ),
+        ),
+    }
 }
 
 /// The state that a text says; the first state where it says none.
@@ -26,7 +35,7 @@ fn state_of(text: &str) -> ClusterState {
 
 /// Whether the distributor of a number is up under a state, how the storage node of that number is marked, and in
 /// which group it lies.
-pub fn marks(alloc: Global, asked: &str) -> Result<String, NoMemory> {
+pub fn marks(alloc: Global, asked: &str) -> Option<String> {
     let (number, text) = halves(asked);
     let state = state_of(text);
     let number = byte(number, 0);
@@ -40,41 +49,41 @@ pub fn marks(alloc: Global, asked: &str) -> Result<String, NoMemory> {
     )
 }
 
-/// A state's version, its nodes that serve, those that are up, and how many groups there are.
-pub fn state_sets(alloc: Global, text: &str) -> Result<String, NoMemory> {
-    let state = state_of(text);
-    shown(
-        alloc,
-        &(
-            state.version(),
-            state.serving().bits(),
-            state.nodes_up().bits(),
-            state.groups(),
-        ),
-    )
-}
-
 /// What comes where a state is published; `acks N` begins anew with so many acknowledgements, and `at V N` asks for the
 /// known nodes, the newest version, and the mark of node N in version V.
-pub fn published(alloc: Global, states: &mut States, asked: &str) -> Result<String, NoMemory> {
-    if let Some(acks) = asked.strip_prefix("acks ") {
-        *states = States::new(byte(acks, 0));
-        return shown(alloc, &states.newest());
+pub fn published(alloc: Global, states: &mut States, asked: &str) -> Option<String> {
+    match asked.split_once(' ') {
+        Some(("acks", acks)) => {
+            *states = States::new(byte(acks, 0));
+            shown(alloc, &states.newest())
+        }
+        Some(("at", place)) => state_at(alloc, states, place),
+        _ => shown(alloc, &states.publish(&state_of(asked))),
     }
-    if let Some(place) = asked.strip_prefix("at ") {
-        let known = states.known().bits();
-        let newest = states.newest().map(|state| state.version());
-        let at = states.at(word(place, 0));
-        return shown(
-            alloc,
-            &(known, newest, at.map(|state| state.storage(byte(place, 1)))),
-        );
+}
+
+/// The known nodes, the newest version, and the mark of a node in a version.
+fn state_at(alloc: Global, states: &States, place: &str) -> Option<String> {
+    let at = mark_at(states, word(place, 0), byte(place, 1));
+    shown(alloc, &(states.known().bits(), newest_of(states), at))
+}
+
+fn newest_of(states: &States) -> Option<u32> {
+    match states.newest() {
+        Some(state) => Some(state.version()),
+        None => None,
     }
-    shown(alloc, &states.publish(&state_of(asked)))
+}
+
+fn mark_at(states: &States, version: u32, node: u8) -> Option<Mark> {
+    match states.at(version) {
+        Some(state) => Some(state.storage(node)),
+        None => None,
+    }
 }
 
 /// The ideal order of a bucket under a state, and its owner as a lane.
-pub fn places(alloc: Global, asked: &str) -> Result<String, NoMemory> {
+pub fn places(alloc: Global, asked: &str) -> Option<String> {
     let (bucket, text) = halves(asked);
     let bucket = Bucket::parse(bucket).unwrap_or(Bucket::new(1, 0));
     let state = state_of(text);

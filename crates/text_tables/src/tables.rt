@@ -1,7 +1,6 @@
 use crate::world::World;
 use crate::{fields, ids, languages, lines, scanned, states};
 use std::alloc::Global;
-use value_lists::NoMemory;
 
 /// What is asked of the lines of a file.
 #[derive(Clone, Copy)]
@@ -99,49 +98,34 @@ pub const TABLES: [(Table, &str); 43] = [
 ];
 
 /// What comes where a line of a table asks.
-pub fn answer(
-    alloc: Global,
-    world: &mut World,
-    table: Table,
-    asked: &str,
-) -> Result<String, NoMemory> {
+pub fn answer(alloc: Global, world: &mut World, table: Table, asked: &str) -> Option<String> {
     match table {
-        Table::Ids => ids::id_fault(alloc, asked),
-        Table::IdParts => ids::id_parts(alloc, asked),
+        Table::Ids | Table::IdParts | Table::Locations => ids::id_told(alloc, table, asked),
         Table::Digests => ids::digest(alloc, asked),
-        Table::Locations => ids::location(alloc, asked),
-        Table::BucketsOfIds => ids::has_id(alloc, asked),
         Table::BucketsPrinted => ids::bucket_printed(alloc, asked),
         Table::BucketsRead => ids::bucket_read(alloc, asked),
-        Table::Children => ids::children(alloc, asked),
-        Table::Kin => ids::kin(alloc, asked),
-        Table::Measures => ids::measure(alloc, asked),
-        Table::Keys => ids::has_key(alloc, asked),
-        Table::Covers => ids::covers(alloc, asked),
-        Table::Stamps => ids::next_stamp(alloc, asked),
-        Table::StampOrders => ids::stamp_order(alloc, asked),
-        Table::SetMembers => ids::set_members(alloc, asked),
-        Table::SetHas => ids::set_has(alloc, asked),
-        Table::SetChanges => ids::set_changed(alloc, asked),
-        Table::SetPairs => ids::set_pair(alloc, asked),
-        Table::Scores => ids::ideal_score(alloc, asked),
-        Table::States => states::state_fault(alloc, asked),
-        Table::StatesPrinted => states::state_printed(alloc, asked),
+        Table::Children | Table::Kin | Table::Measures => ids::bucket_told(alloc, table, asked),
+        Table::BucketsOfIds | Table::Keys | Table::Covers | Table::Scores => {
+            ids::bucket_held(alloc, table, asked)
+        }
+        Table::Stamps | Table::StampOrders => ids::stamp_told(alloc, table, asked),
+        Table::SetMembers | Table::SetHas | Table::SetChanges | Table::SetPairs => {
+            ids::set_told(alloc, table, asked)
+        }
+        Table::States | Table::StatesPrinted | Table::StateSets => {
+            states::state_told(alloc, table, asked)
+        }
         Table::Marks => states::marks(alloc, asked),
-        Table::StateSets => states::state_sets(alloc, asked),
         Table::Published => states::published(alloc, &mut world.states, asked),
         Table::Places => states::places(alloc, asked),
         Table::Scanned => scanned::scanned(alloc, asked),
-        Table::Schemas => fields::schema_fault(alloc, asked),
-        Table::Kinds => fields::kind_named(alloc, asked),
+        Table::Schemas | Table::Kinds => fields::schema_told(alloc, table, asked),
         Table::Lexemes => fields::lexemes(alloc, asked),
         Table::Values => fields::values_compared(alloc, asked),
         Table::Documents => fields::document_told(alloc, &world.standard, asked),
         Table::Updates => fields::updated(alloc, &world.standard, asked),
-        Table::Selections => languages::selection_fault(alloc, world, asked),
-        Table::Holds => languages::selected(alloc, world, asked),
-        Table::Queries => languages::query_fault(alloc, world, asked),
-        Table::Matches => languages::queried(alloc, world, asked),
+        Table::Selections | Table::Holds => languages::selected(alloc, world, table, asked),
+        Table::Queries | Table::Matches => languages::queried(alloc, world, table, asked),
         Table::Tokens => languages::words(alloc, asked),
         Table::Json => lines::json_value(alloc, &mut world.values, asked),
         Table::Lines => lines::line_told(alloc, world, asked),

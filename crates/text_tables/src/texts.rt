@@ -1,10 +1,9 @@
 use std::alloc::Global;
 use std::fmt::Debug;
-use value_lists::NoMemory;
 
 /// A value as `{:?}` prints it.
-pub fn shown<T: Debug>(alloc: Global, value: &T) -> Result<String, NoMemory> {
-    Ok(format!(in alloc; "{value:?}")?)
+pub fn shown<T: Debug>(alloc: Global, value: &T) -> Option<String> {
+    format!(in alloc; "{value:?}").ok()
 }
 
 /// The number that stands at a place among words, from 0; 0 where none does.
@@ -30,52 +29,71 @@ pub fn halves(text: &str) -> (&str, &str) {
     text.split_once('\t').unwrap_or(("", text))
 }
 
+/// How a piece of a text follows the one before it.
+#[derive(Clone, Copy)]
+enum Behind {
+    /// It is the first.
+    Nothing,
+    /// A backslash stands between them, which stands for something with what follows.
+    Escape,
+    /// Two backslashes stand between them.
+    Backslash,
+}
+
 /// A text with what its backslashes stand for.
-pub fn expanded(alloc: Global, text: &str) -> Result<String, NoMemory> {
+pub fn expanded(alloc: Global, text: &str) -> Option<String> {
     let mut said = String::new(alloc);
-    let mut rest = text;
-    for _ in 0..text.len() {
-        let Some((before, behind)) = rest.split_once('\\') else {
-            break;
+    let mut behind = Behind::Nothing;
+    let mut good = true;
+    for piece in text.split('\\') {
+        good &= put_piece(&mut said, behind, piece);
+        behind = match behind {
+            Behind::Escape if piece.is_empty() => Behind::Backslash,
+            _ => Behind::Escape,
         };
-        said.push_str(before)?;
-        rest = put_escape(&mut said, behind)?;
     }
-    said.push_str(rest)?;
-    Ok(said)
+    if good { Some(said) } else { None }
 }
 
-/// Appends what a backslash in front of these letters stands for; the result is what follows.
-fn put_escape<'a>(said: &mut String, letters: &'a str) -> Result<&'a str, NoMemory> {
-    if let Some(rest) = letters.strip_prefix("{") {
-        return put_repeated(said, rest);
+/// Appends a piece; whether there is memory for it.
+fn put_piece(said: &mut String, behind: Behind, piece: &str) -> bool {
+    match behind {
+        Behind::Nothing => said.push_str(piece).is_ok(),
+        Behind::Escape => put_escape(said, piece),
+        Behind::Backslash => said.push('\\').is_ok() && said.push_str(piece).is_ok(),
     }
-    if let Some(rest) = letters.strip_prefix("u{") {
-        return put_numbered(said, rest);
-    }
-    for (letter, meant) in [("t", '\t'), ("r", '\r'), ("n", '\n'), ("\\", '\\')] {
-        if let Some(rest) = letters.strip_prefix(letter) {
-            said.push(meant)?;
-            return Ok(rest);
-        }
-    }
-    Ok(letters)
 }
 
-/// Appends `N TEXT}` in front of the result: the text, so many times.
-fn put_repeated<'a>(said: &mut String, letters: &'a str) -> Result<&'a str, NoMemory> {
+/// Appends a piece with a backslash in front.
+fn put_escape(said: &mut String, piece: &str) -> bool {
+    let (letter, rest) = piece.split_at_checked(1).unwrap_or(("", piece));
+    let meant = match letter {
+        "{" => return put_repeated(said, rest),
+        "u" => return put_numbered(said, rest),
+        "t" => "\t",
+        "r" => "\r",
+        "n" => "\n",
+        letter => letter,
+    };
+    said.push_str(meant).is_ok() && said.push_str(rest).is_ok()
+}
+
+/// Appends `N TEXT}REST`: the text, so many times, and the rest.
+fn put_repeated(said: &mut String, letters: &str) -> bool {
     let (count, rest) = letters.split_once(' ').unwrap_or(("", letters));
     let (repeated, rest) = rest.split_once('}').unwrap_or(("", rest));
+    let mut good = true;
     for _ in 0..number(count, 0) {
-        said.push_str(repeated)?;
+        good &= said.push_str(repeated).is_ok();
     }
-    Ok(rest)
+    good && said.push_str(rest).is_ok()
 }
 
-/// Appends `HEX}` in front of the result: the character of the number.
-fn put_numbered<'a>(said: &mut String, letters: &'a str) -> Result<&'a str, NoMemory> {
+/// Appends `{HEX}REST`: the character of the number, and the rest.
+fn put_numbered(said: &mut String, letters: &str) -> bool {
     let (digits, rest) = letters.split_once('}').unwrap_or(("", letters));
+    let digits = digits.trim_start_matches('{');
     let number = u32::from_str_radix(digits, 16).unwrap_or(0);
-    said.push(char::from_u32(number).unwrap_or('?'))?;
-    Ok(rest)
+    let letter = char::from_u32(number).unwrap_or('?');
+    said.push(letter).is_ok() && said.push_str(rest).is_ok()
 }

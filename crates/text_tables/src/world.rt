@@ -1,9 +1,8 @@
 use crate::fields::document_of;
 use crate::texts::{halves, number};
-use anyhow::Result;
 use cluster_states::States;
 use doc_types::{DEFAULT_SCHEMA, Schema};
-use documents::{Document, DocumentFault};
+use documents::Document;
 use json_documents::schema_from_json;
 use line_values::ValueReader;
 use std::alloc::Global;
@@ -19,12 +18,22 @@ pub struct World {
     pub values: ValueReader,
 }
 
+fn push_schema(alloc: Global, schemas: &mut Vec<Schema>, line: &str) -> bool {
+    match schema_from_json(alloc, line) {
+        Ok(schema) => schemas.push(schema).is_ok(),
+        Err(_) => false,
+    }
+}
+
 impl World {
     /// Reads the schemas, one a line, and the documents: a schema's number, an id, and fields in JSON.
-    pub fn read(alloc: Global, schemas: &str, documents: &str) -> Result<World> {
-        let mut world = World::new(alloc, schema_from_json(alloc, DEFAULT_SCHEMA)?);
-        world.take(alloc, schemas, documents)?;
-        Ok(world)
+    pub fn read(alloc: Global, schemas: &str, documents: &str) -> Option<World> {
+        let mut world = World::new(alloc, schema_from_json(alloc, DEFAULT_SCHEMA).ok()?);
+        if world.take_schemas(alloc, schemas) && world.take_documents(alloc, documents) {
+            Some(world)
+        } else {
+            None
+        }
     }
 
     fn new(alloc: Global, standard: Schema) -> World {
@@ -37,21 +46,31 @@ impl World {
         }
     }
 
-    fn take(&mut self, alloc: Global, schemas: &str, documents: &str) -> Result<()> {
-        for line in schemas.lines() {
-            self.schemas.push(schema_from_json(alloc, line)?)?;
+    /// Whether all lines are schemas.
+    fn take_schemas(&mut self, alloc: Global, text: &str) -> bool {
+        let mut good = true;
+        for line in text.lines() {
+            good &= push_schema(alloc, &mut self.schemas, line);
         }
-        for line in documents.lines() {
-            let document = self.document(alloc, line)?;
-            self.documents.push(document)?;
-        }
-        Ok(())
+        good
     }
 
-    fn document(&self, alloc: Global, line: &str) -> Result<Document, DocumentFault> {
+    /// Whether all lines are documents.
+    fn take_documents(&mut self, alloc: Global, text: &str) -> bool {
+        let mut good = true;
+        for line in text.lines() {
+            good &= self.push_document(alloc, line);
+        }
+        good
+    }
+
+    fn push_document(&mut self, alloc: Global, line: &str) -> bool {
         let (schema, rest) = halves(line);
         let (id, fields) = halves(rest);
-        document_of(alloc, self.schema(number(schema, 0)), id, fields)
+        match document_of(alloc, self.schema(number(schema, 0)), id, fields) {
+            Ok(document) => self.documents.push(document).is_ok(),
+            Err(_) => false,
+        }
     }
 
     /// The schema of a number.

@@ -38,7 +38,7 @@ fn same_id(a: &SharedEntry, b: &SharedEntry) -> bool
     compare(a, b).is_eq()
 }
 
-/// The entries by their ids, of each id the first. The only error is want of memory.
+/// The entries by their ids, of each id the first.
 fn in_order(mut entries: Vec<SharedEntry>) -> Result<Vec<SharedEntry>, NoMemory>
     ensures list { IfOk result (λ list. list.items ≡ listed (fin.from_entries (by_id entries.items))) }
     ensures apart { IfOk result (λ list. AreApart list.items) }
@@ -48,7 +48,7 @@ fn in_order(mut entries: Vec<SharedEntry>) -> Result<Vec<SharedEntry>, NoMemory>
     Ok(entries)
 }
 
-/// The entries of a map, shared, by their ids. The only error is want of memory.
+/// The entries of a map, shared, by their ids.
 pub fn entries_in_order(entries: &EntryMap) -> Result<Vec<SharedEntry>, NoMemory>
     ensures list { IfOk result (λ list. list.items ≡ listed entries.now) }
     ensures apart { IfOk result (λ list. AreApart list.items) }
@@ -56,7 +56,7 @@ pub fn entries_in_order(entries: &EntryMap) -> Result<Vec<SharedEntry>, NoMemory
     in_order(entries.listed()?)
 }
 
-/// The entries of a map that lie in a bucket and in no region so far, by their ids. The only error is want of memory.
+/// The entries of a map that lie in a bucket and in no region so far, by their ids.
 pub fn fresh_entries(
     alloc: Global,
     bucket: Bucket,

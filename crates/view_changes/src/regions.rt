@@ -52,7 +52,7 @@ pub fn measure_of(regions: &[Bucket]) -> u64
     sum
 }
 
-/// A bucket before the regions that aren't inside it. The only error is want of memory.
+/// A bucket before the regions that aren't inside it.
 pub fn regions_with(
     alloc: Global,
     bucket: Bucket,
@@ -70,7 +70,7 @@ pub fn regions_with(
     Ok(all)
 }
 
-/// The regions after a bucket becomes one; inside a region none changes. The only error is want of memory.
+/// The regions after a bucket becomes one; inside a region none changes.
 pub fn with_region(
     alloc: Global,
     regions: &[Bucket],

@@ -41,7 +41,7 @@ impl WordIndex {
     }
 
     /// A document has a word. Takes the logarithm of the words, a binary search in the word's list, and the move of the
-    /// ids above it by four bytes each. The only error is want of memory.
+    /// ids above it by four bytes each.
     pub fn add(&mut self, alloc: Global, token: &str, local: u32) -> Result<(), NoMemory>
         ensures ok { OnOk result (self.new ≡ with_word token.now local self.old) }
         ensures err { OnErr result (self.new ≡ self.old) }
@@ -65,7 +65,7 @@ impl WordIndex {
         tidy_in(&mut self.lists, token);
     }
 
-    /// The documents that have a word; takes no memory.
+    /// The documents that have a word.
     pub fn list(&self, token: &str) -> &[u32]
         ensures ids { result.now ≡ list_of token.now self.now }
         ensures rising { IsRising result.now }

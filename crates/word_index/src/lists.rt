@@ -19,7 +19,7 @@ pub fn list_in<'a>(lists: &'a BTreeMap<String, Vec<u32>>, token: &str) -> &'a [u
     }
 }
 
-/// An id more at a word. The only error is want of memory.
+/// An id more at a word.
 pub fn add_in(
     alloc: Global,
     lists: &mut BTreeMap<String, Vec<u32>>,

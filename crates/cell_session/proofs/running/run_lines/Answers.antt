@@ -7,12 +7,12 @@ pub returns-in_default-clause-ended : goal.returns-in_default-clause-ended
 returns-in_default-clause-ended g c = unmade_ends _ _ _ _ _ _ _ _ c.requires.empty c.in_default.ensures.err
 
 pub returns-in_default-new-clause-ended : goal.returns-in_default-new-clause-ended
-returns-in_default-new-clause-ended g c = opened_ends _ _ _ _ _ _ _ c.in-Ok.ensures.ok c.in-Ok.ensures.none
+returns-in_default-new-clause-ended g c = opened_ends _ _ _ _ _ _ _ c.in-Ok.ensures.ok c.in-Ok.ensures.none c.in-Ok.ensures.unread
 
 pub loop-number-init : goal.loop-number-init
 loop-number-init g c =
     let is = c.in-Ok-new.ensures in
-    (so_far_new _ _ _ _ _ _ _ c.requires.setting is c.in-Ok.ensures.ok c.in-Ok.ensures.none, (ap (λ r. r.max_lines) is, ap (λ r. r.max_bytes) is), omega (arith, ap (λ r. r.lines) is), (omega arith, omega arith))
+    (so_far_new _ _ _ _ _ _ _ c.requires.setting is c.in-Ok.ensures.ok c.in-Ok.ensures.none c.in-Ok.ensures.unread, (ap (λ r. r.max_lines) is, ap (λ r. r.max_bytes) is), omega (arith, ap (λ r. r.lines) is), (omega arith, omega arith))
 
 pub answer_line-requires-clause-ready : goal.answer_line-requires-clause-ready
 answer_line-requires-clause-ready g c = so_far_ready _ _ _ _ _ _ _ _ _ _ _ c.loop-number.invariant.0 c.in-Command.ensures.advances.numbered

@@ -1,5 +1,6 @@
 use Rattle.std.proofs.Common.{◌∙◌, [], None, Err, ap}
-use Rattle.cell_session.proofs.Clauses.{legal_durable, legal_complete, ends_in_order, ends_together, ends_limit, chosen_legal, chosen_lanes, chosen_shown, chosen_lines, chosen_dealt, chosen_written, empty_legal, empty_in_order, empty_together, empty_fates, empty_shown, empty_ends, usage_written}
+use Rattle.cell_session.proofs.Clauses.{legal_durable, legal_complete, ends_in_order, ends_together, ends_limit, chosen_legal, chosen_lanes, chosen_shown, chosen_lines, chosen_dealt, chosen_written, chosen_searches, empty_legal, empty_in_order, empty_together, empty_fates, empty_shown, empty_searches, empty_ends, usage_written}
+use Rattle.cell_session.proofs.SearchCounts.{SearchLaws}
 use Rattle.cell_session.proofs.running.run_one.Goals as goal
 
 -- ---- the words choose a session
@@ -37,6 +38,19 @@ returns-in-Ok-clause-lines g c s x = chosen_lines (record { refused = c.lines_ar
 pub returns-in-Ok-clause-bytes_written : goal.returns-in-Ok-clause-bytes_written
 returns-in-Ok-clause-bytes_written g c s x = chosen_written _ _ s _ _ _ _ _ _ _ c.in-Ok.ensures.chosen x c.run_lines.ensures.ended
 
+pub returns-in-Ok-clause-searches : goal.returns-in-Ok-clause-searches
+returns-in-Ok-clause-searches g c s x = chosen_searches laws _ _ s _ _ _ _ _ _ _ c.in-Ok.ensures.chosen x c.run_lines.ensures.ended
+  where
+    laws : SearchLaws
+    laws = record {
+      few = c.journals_are_read.ensures.few;
+      shown = c.journals_are_shown.ensures.shown;
+      view = c.journals_are_shown.ensures.view;
+      once = c.fronts_count_once.ensures.once;
+      current = c.fronts_count_once.ensures.current;
+      answers = c.answers_are_of_what_is_read.ensures;
+    }
+
 pub returns-in-Ok-clause-limit : goal.returns-in-Ok-clause-limit
 returns-in-Ok-clause-limit g c which is = (_, (c.in-Ok.ensures.chosen, ends_limit _ _ _ _ _ _ _ _ _ c.run_lines.ensures.ended which is))
 
@@ -70,6 +84,9 @@ returns-in-Err-Usage-clause-lines g c s x = absurd (c.read_choice.ensures.usage 
 pub returns-in-Err-Usage-clause-bytes_written : goal.returns-in-Err-Usage-clause-bytes_written
 returns-in-Err-Usage-clause-bytes_written g c s x = absurd (c.read_choice.ensures.usage (c.in-Err-Usage.is ∙ ap Err c.in-Err-Usage.field-0-is) s x)
 
+pub returns-in-Err-Usage-clause-searches : goal.returns-in-Err-Usage-clause-searches
+returns-in-Err-Usage-clause-searches g c s x = empty_searches s.setting c.args.cluster.now c.requires
+
 pub returns-in-Err-Usage-clause-usage : goal.returns-in-Err-Usage-clause-usage
 returns-in-Err-Usage-clause-usage g c e =
     (c.read_choice.ensures.usage (c.in-Err-Usage.is ∙ ap Err c.in-Err-Usage.field-0-is), usage_written _ _ _ c.refuse_words.ensures.ended e)
@@ -98,16 +115,19 @@ returns-in-Err-NoMemory-clause-shown g c s x = empty_shown s.setting c.args.clus
 pub returns-in-Err-NoMemory-clause-dealt_with : goal.returns-in-Err-NoMemory-clause-dealt_with
 returns-in-Err-NoMemory-clause-dealt_with g c s x =
     let left = g.S.Source.left c.args.source.now in
-    chosen_dealt _ s s _ (λ lane. []) left left c.args.cluster.now None None x x (empty_ends s.setting s.schema (λ lane. []) left left c.args.cluster.now None c.requires)
+    chosen_dealt _ s s _ (λ lane. []) left left c.args.cluster.now None None x x (empty_ends s.setting s.setting.schema (λ lane. []) left left c.args.cluster.now None c.requires)
 
 pub returns-in-Err-NoMemory-clause-lines : goal.returns-in-Err-NoMemory-clause-lines
 returns-in-Err-NoMemory-clause-lines g c s x =
-    chosen_lines (record { refused = c.lines_are_refused_with_cause.ensures; short = c.lines_fall_short_with_cause.ensures; hold = c.hearings_follow_deeds.ensures.hold; hear = c.hearings_follow_deeds.ensures.hear }) _ s s _ _ _ None c.args.cluster.now None None x x (empty_ends s.setting s.schema _ _ None c.args.cluster.now None c.requires)
+    chosen_lines (record { refused = c.lines_are_refused_with_cause.ensures; short = c.lines_fall_short_with_cause.ensures; hold = c.hearings_follow_deeds.ensures.hold; hear = c.hearings_follow_deeds.ensures.hear }) _ s s _ _ _ None c.args.cluster.now None None x x (empty_ends s.setting s.setting.schema _ _ None c.args.cluster.now None c.requires)
 
 pub returns-in-Err-NoMemory-clause-lanes : goal.returns-in-Err-NoMemory-clause-lanes
 returns-in-Err-NoMemory-clause-lanes g c s x =
-    chosen_lanes _ s s _ (λ lane. []) None None c.args.cluster.now None None x x (empty_ends s.setting s.schema (λ lane. []) None None c.args.cluster.now None c.requires)
+    chosen_lanes _ s s _ (λ lane. []) None None c.args.cluster.now None None x x (empty_ends s.setting s.setting.schema (λ lane. []) None None c.args.cluster.now None c.requires)
 
 pub returns-in-Err-NoMemory-clause-bytes_written : goal.returns-in-Err-NoMemory-clause-bytes_written
 returns-in-Err-NoMemory-clause-bytes_written g c s x =
-    chosen_written _ s s _ (λ lane. []) _ None c.args.cluster.now _ _ x x (empty_ends s.setting s.schema (λ lane. []) _ None c.args.cluster.now _ c.requires)
+    chosen_written _ s s _ (λ lane. []) _ None c.args.cluster.now _ _ x x (empty_ends s.setting s.setting.schema (λ lane. []) _ None c.args.cluster.now _ c.requires)
+
+pub returns-in-Err-NoMemory-clause-searches : goal.returns-in-Err-NoMemory-clause-searches
+returns-in-Err-NoMemory-clause-searches g c s x = empty_searches s.setting c.args.cluster.now c.requires

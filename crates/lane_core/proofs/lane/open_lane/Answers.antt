@@ -3,4 +3,4 @@ use Rattle.lane_core.proofs.lane.open_lane.Goals as goal
 
 pub returns-clause-new : goal.returns-clause-new
 returns-clause-new g c =
-    opened_serves c.args.setting.now _ _ _ c.args.lane _ _ _ _ c.in_ok-carrier.ensures.planned c.new-made.ensures c.in_ok-room.ensures.ok c.none.ensures c.announce.ensures c.journal-journal.ensures.lane
+    opened_serves c.args.setting.now _ _ _ c.args.lane _ _ _ _ c.in_ok-carrier.ensures.planned (rw c.requires.types at c.new-made.ensures) c.in_ok-room.ensures.ok c.none.ensures c.announce.ensures c.journal-journal.ensures.lane

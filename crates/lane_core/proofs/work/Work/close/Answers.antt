@@ -53,7 +53,7 @@ returns-clause-after c = λ given planned takes.
     let grows : journal_of c.note_end.new.lane ≡ Closed j.line e.told ∷ journal_of x.state = c.note_end.ensures.grows ∙ rw (c.end_of-line.ensures.line_is, told) refl in
     rw (c.in-Some.ensures.after, is)
     (value-by x (record { state = c.note_end.new.lane; drawn = x.drawn; places = x.places; has_room = x.has_room; job = None }) given planned takes (Closed j.line e.told ∷ journal_of x.state)
-    (ap (λ (z : LaneState). z.lane) after) (ap (λ (z : LaneState). z.rules) after) grows refl)
+    (ap (λ (z : LaneState). z.lane) after) (ap (λ (z : LaneState). z.rules) after) (ap (λ (z : LaneState). z.shelf) after) grows refl)
 
 pub returns-clause-carried : goal.returns-clause-carried
 returns-clause-carried c = carried-more c.args.self.now.state c.note_end.new.lane _ tt c.note_end.ensures.grows (ap (λ (z : LaneState). z.last) c.note_end.ensures.after) (ap (λ (z : LaneState). z.late.late) c.note_end.ensures.after)

@@ -95,5 +95,5 @@ returns-clause-ok c = λ given planned takes.
       row = row;
       wanted = fit-wanted x j c.requires.keeps is r row fit.0 fit.1;
       after = rw put (value-by x (record { state = c.note.new.self; drawn = x.drawn; places = x.places; has_room = x.has_room; job = Some (record j { phase = phase.Prepared c.in_ok-machine.machine row.bucket false }) }) given planned takes
-          (Prepared j.line row.bucket row.complete ∷ journal_of x.state) (ap (λ (z : LaneState). z.lane) after) (ap (λ (z : LaneState). z.rules) after) (c.note.ensures.grows ∙ rw c.reserve.ensures.items refl) refl);
+          (Prepared j.line row.bucket row.complete ∷ journal_of x.state) (ap (λ (z : LaneState). z.lane) after) (ap (λ (z : LaneState). z.rules) after) (ap (λ (z : LaneState). z.shelf) after) (c.note.ensures.grows ∙ rw c.reserve.ensures.items refl) refl);
     })

@@ -1,6 +1,6 @@
 use Rattle.std.proofs.Common.{List, sym, subst}
 use Rattle.messages.specs.declared.late.Late.{Late}
-use Rattle.lane_states.specs.LaneStates.{journal_of, IsKeptBy}
+use Rattle.lane_states.specs.LaneStates.{journal_of, IsKeptBy, tells_of}
 use Rattle.lane_states.proofs.Kept.{kept_first, first_coming}
 use Rattle.lane_states.proofs.lane_state.LaneState.deliver_first.Goals as goal
 
@@ -16,4 +16,4 @@ returns-clause-keeps c parts k = c.give_out.ensures.keeps parts (kept_first k c.
 pub returns-in_default-clause-keeps : goal.returns-in_default-clause-keeps
 returns-in_default-clause-keeps c parts k =
     let x = c.args.self.now in
-    subst (λ (late : List Late). IsKeptBy x.lane x.rules (journal_of x) x.newest x.last x.nodes.items parts late x.stopped x.journal.told) (sym c.in_default.ensures.taken.1) k
+    subst (λ (late : List Late). IsKeptBy x.lane x.rules (journal_of x) x.newest x.last x.nodes.items parts late x.stopped (tells_of x)) (sym c.in_default.ensures.taken.1) k

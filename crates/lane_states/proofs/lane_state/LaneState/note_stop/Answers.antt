@@ -1,10 +1,12 @@
-use Rattle.std.proofs.Common.{[], ◌∷◌, refl}
+use Rattle.std.proofs.Common.{◌≡◌, ◌+◌, ◌++◌, min, List, [], ◌∷◌, length, refl, ap, ◌∙◌}
 use Rattle.view_changes.specs.declared.change.LaneChange.TheVariants as change
 use Rattle.lane_journals.specs.declared.event.LaneEvent.TheVariants as event
 use Rattle.lane_keeping.specs.LaneKeeping.{setting_of}
-use Rattle.lane_states.specs.LaneStates.{journal_of}
+use Rattle.lane_states.specs.LaneStates.{journal_of, tells_of}
+use Rattle.lane_states.specs.Told.{all_kept}
+use Rattle.view_changes.specs.declared.change.LaneChange.{LaneChange}
 use Rattle.lane_states.proofs.Kept.{kept_stop}
-use Rattle.lane_states.proofs.Counts.{count-more}
+use Rattle.lane_states.proofs.Counts.{told-more}
 use Rattle.lane_states.proofs.Stops.{stop-step, stops-with}
 use Rattle.lane_states.proofs.lane_state.LaneState.note_stop.Goals as goal
 
@@ -12,7 +14,8 @@ pub returns-clause-keeps : goal.returns-clause-keeps
 returns-clause-keeps c =
     let x = c.args.self.now in
     let n = c.args.node in
-    rw (c.push_telling.ensures.past, c.push_telling.ensures.told)
+    let told : c.behind-change.result ≡ change.Stop n ∷ [] = c.behind-change.ensures ∙ ap (λ (cs : List LaneChange). change.Stop n ∷ cs) c.none.ensures in
+    rw c.push_telling.ensures.past
     (kept_stop c.requires.keeps (c.events_are_kept.ensures.quiet _ _ _ _ _ _ _ c.requires.keeps.keeps (event.Stopped n) tt (stop-step (setting_of x.lane x.rules) (journal_of x) n c.requires.runs))
     (stops-with (journal_of x) x.stopped c.with-self.result n c.with-self.ensures c.requires.keeps.stops_are)
-    (count-more (journal_of x) (event.Stopped n) (change.Stop n ∷ []) x.journal.told 1 c.requires.keeps.told_is refl refl))
+    (told-more (journal_of x) (event.Stopped n) (change.Stop n ∷ []) (tells_of x) _ c.requires.keeps.told_is refl refl (c.push_telling.ensures.told ∙ ap (λ (cs : List LaneChange). min (x.journal.told + length cs) 18446744073709551615) told) (λ l. let was = c.push_telling.ensures.kept l in (was.0, was.1 ∙ ap (λ (cs : List LaneChange). all_kept x.journal.kept.items ++ cs) told))))

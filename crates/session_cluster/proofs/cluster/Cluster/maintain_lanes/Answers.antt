@@ -2,7 +2,8 @@ use Rattle.std.proofs.Common.{sym, ap, ◌∙◌, subst}
 use Rattle.std.proofs.lemmas.List.{with_items_is}
 use Rattle.session_cluster.specs.Cells.{Cell}
 use Rattle.session_cluster.specs.Steps.{EachLane, MayMaintain}
-use Rattle.session_cluster.proofs.Passing.{passed_many, lanes_passed, lanes_spans}
+use Rattle.session_cluster.proofs.Passing.{passed_many, lanes_made, lanes_passed, lanes_spans}
+use Rattle.session_cluster.proofs.Reborrowed.{still_cluster}
 use Rattle.session_cluster.proofs.cluster.Cluster.maintain_lanes.Goals as goal
 
 pub maintain_all-made-requires-clause-may : goal.maintain_all-made-requires-clause-may
@@ -17,3 +18,11 @@ pub returns-clause-spans : goal.returns-clause-spans
 returns-clause-spans g c =
     lanes_spans _ c.args.self.now _ _ c.maintain_all-made.new.lanes _ _ c.self.view_is c.deref_mut.ensures.value c.maintain_all-made.ensures.spans
     (with_items_is c.self.inside.lanes c.maintain_all-made.new.lanes (passed_many c.self.inside.lanes.items _ c.maintain_all-made.new.lanes _ c.self.inside.lanes.ok.0 c.deref_mut.ensures.value c.maintain_all-made.ensures.passed))
+
+pub invariant_of-self : goal.invariant_of-self
+invariant_of-self g c =
+    let many = passed_many c.self.inside.lanes.items _ c.maintain_all-made.new.lanes _ c.self.inside.lanes.ok.0 c.deref_mut.ensures.value c.maintain_all-made.ensures.passed in
+    still_cluster _ _ c.self.inside.lanes.items c.maintain_all-made.new.lanes _ c.self.invariant c.self.inside.lanes.ok.0 many (with_items_is c.self.inside.lanes c.maintain_all-made.new.lanes many)
+
+pub returns-clause-now : goal.returns-clause-now
+returns-clause-now g c = lanes_made c.args.line c.args.self.now _ _ c.self.view_is

@@ -1,0 +1,10 @@
+use Rattle.session_cluster.proofs.SearchLaws.{none_read, read_more}
+use Rattle.session_cluster.proofs.searching.search_all.Goals as goal
+
+pub loop-lane-init : goal.loop-lane-init
+loop-lane-init g c = none_read _ _ _ _ _ c.requires.none c.new-sum.ensures
+
+pub loop-lane-preserved : goal.loop-lane-preserved
+loop-lane-preserved g c =
+    read_more _ _ _ _ c.lane-item.result _ _ _ c.in-Some.view.now _ _ c.loop-lane.invariant c.loop-lane-test.true c.lane-item.is c.in-Some.ensures.view c.generation.ensures.value c.in-Some.ensures.counted c.in_ok-push.ensures.items
+    (λ us so. c.in_ok-add.ensures.ok _ _ us so)

@@ -1,0 +1,162 @@
+//! What a search line reads of the lanes.
+
+ghost use Rattle.std.specs.Prelude.{◌≡◌, ◌≤◌, ◌∷◌, ◌++◌, [], None, length, map, option_map, IfOk, OnOk, OnErr};
+ghost use Rattle.std.specs.List.{find};
+ghost use Rattle.cluster_states.specs.Publishing.{newest_of};
+ghost use Rattle.doc_types.specs.SchemaCodes.{Types};
+ghost use Rattle.lane_core.specs.Showing.{view_in};
+ghost use Rattle.query_text.specs.Grammar.{said_of};
+ghost use Rattle.search_views.specs.Answers.{search_answer};
+ghost use Rattle.session_cluster.specs.Cells.{journals_of};
+ghost use Rattle.session_cluster.specs.Output.{found_answer_of};
+ghost use Rattle.session_cluster.specs.Noted.{is_for};
+ghost use Rattle.session_cluster.specs.declared.searching.LineFronts.{LineFronts};
+ghost use Rattle.session_cluster.specs.Searches.{fronts_of, fronts_now, version_of, version_now, answer_to};
+ghost use Rattle.session_cluster.specs.Steps.{EachLane, HasTypes, IsSearched};
+
+use crate::cluster::Cluster;
+use carriers::Carrier;
+use cluster_states::States;
+use lane_core::Lane;
+use query_groups::SearchAnswer;
+use query_text::Query;
+use query_text::parsed::Parsed;
+use reports::Answer;
+use search_views::SearchSum;
+use std::alloc::Global;
+use value_lists::{Listed, NoMemory};
+
+/// How many changes were read in each lane, in lane order.
+pub type FrontList = Listed<u64>;
+
+/// How far a line's search read.
+#[derive(Drop)]
+pub struct LineFronts {
+    pub line: u32,
+    pub fronts: FrontList,
+}
+
+/// What was noted of a line.
+pub fn fronts_at(fronts: &[LineFronts], line: u32) -> Option<&LineFronts>
+    ensures { option_map (λ noted. noted.now) result ≡ find (is_for (λ (f : LineFronts). f.line) line) fronts.now }
+{
+    fronts.iter().find(|noted| noted.line == line)
+}
+
+/// The version that was told last; 0 before the first.
+fn version_told(states: &States) -> u32
+    ensures { result ≡ version_of (newest_of states.now.states) }
+{
+    match states.newest() {
+        Some(newest) => newest.version(),
+        None => 0,
+    }
+}
+
+/// Each lane shows all changes of its events. The only error is want of memory; nothing is lost then.
+pub fn settle_all<C: Carrier + Drop>(lanes: &mut [Lane<C>]) -> Result<(), NoMemory>
+    ensures { lanes.new ≡ lanes.old }
+{
+    for lane in lanes.iter_mut() {
+        lane.settle()?;
+    }
+    Ok(())
+}
+
+/// What a query finds in lanes that show all changes, and how many changes each shows. An error is want of memory, also
+/// where a lane doesn't show them.
+fn search_all<C: Carrier + Drop>(
+    alloc: Global,
+    lanes: &[Lane<C>],
+    query: &Query,
+    version: u32,
+    fronts: &mut Vec<u64>,
+) -> Result<SearchAnswer, NoMemory>
+    requires few { length lanes.now ≤ 64 }
+    requires none { fronts.old.items ≡ [] }
+    ensures answer { IfOk result (λ answer. answer ≡ search_answer query.now version (map view_in lanes.now)) }
+    ensures fronts { OnOk result (fronts.new.items ≡ fronts_now lanes.now) }
+{
+    let mut sum = SearchSum::new(alloc, query, version);
+    for lane in lanes {
+        let Some(view) = lane.shown() else {
+            return Err(NoMemory);
+        };
+        fronts.push(view.generation())?;
+        sum.add(alloc, view)?;
+    }
+    sum.finish(alloc)
+}
+
+impl<C: Carrier + Drop> Cluster<C> {
+    /// Searches every lane, in their order, and gives the answer. The only error is want of memory, and then nothing
+    /// has changed.
+    pub(crate) fn search(
+        &mut self,
+        alloc: Global,
+        line: u32,
+        query: Parsed,
+    ) -> Result<Option<Answer>, NoMemory>
+        requires few { length self.old.lanes ≤ 64 }
+        requires new { fronts_of line self.old.fronts ≡ None }
+        ensures ok { (types : Types) → EachLane (HasTypes types) self.old.lanes
+            → IfOk result (λ answer. IsSearched line self.old self.new
+            × (answer ≡ found_answer_of types self.old.told query (fronts_of line self.new.fronts) (journals_of self.new))) }
+        ensures err { OnErr result (self.new ≡ self.old) }
+    {
+        self.settle()?;
+        let mut fronts = Vec::with_capacity(alloc, self.lanes.len())?;
+        let answer = self.read(alloc, query, &mut fronts)?;
+        self.note_fronts(line, fronts)?;
+        Ok(Some(Answer::Search { answer }))
+    }
+
+    /// Each lane shows all changes of its events. The only error is want of memory; nothing is lost then.
+    pub(crate) fn settle(&mut self) -> Result<(), NoMemory>
+        ensures { self.new ≡ self.old }
+    {
+        settle_all(&mut self.lanes)
+    }
+
+    /// A lane shows all changes of its events. The only error is want of memory; nothing is lost then.
+    pub(crate) fn settle_at(&mut self, at: u8) -> Result<(), NoMemory>
+        ensures { self.new ≡ self.old }
+    {
+        match self.lanes.get_mut(usize::from(at)) {
+            Some(lane) => lane.settle(),
+            None => Ok(()),
+        }
+    }
+
+    /// What a query finds under the newest state, and how many changes it reads in each lane.
+    fn read(
+        &self,
+        alloc: Global,
+        query: Parsed,
+        fronts: &mut Vec<u64>,
+    ) -> Result<SearchAnswer, NoMemory>
+        requires few { length self.now.lanes ≤ 64 }
+        requires none { fronts.old.items ≡ [] }
+        ensures answer { IfOk result (λ answer. answer
+            ≡ answer_to query (version_now self.now.told) (map view_in self.now.lanes)) }
+        ensures fronts { OnOk result (fronts.new.items ≡ fronts_now self.now.lanes) }
+    {
+        let version = version_told(&self.states);
+        let query = query.query();
+        search_all(alloc, &self.lanes, &query, version, fronts)
+    }
+
+    /// Notes how far a line's search read, and deals with the line by that.
+    fn note_fronts(&mut self, line: u32, fronts: Vec<u64>) -> Result<(), NoMemory>
+        ensures ok { OnOk result (self.new ≡ record self.old {
+          dealt = line;
+          fronts = self.old.fronts ++ record { line = line; fronts = fronts.items } ∷ [];
+        }) }
+        ensures err { OnErr result (self.new ≡ self.old) }
+    {
+        let fronts = FrontList::of(fronts);
+        self.fronts.push(LineFronts { line, fronts })?;
+        self.dealt = line;
+        Ok(())
+    }
+}
