@@ -2,7 +2,6 @@
 use Rattle.std.proofs.Common.{◌≡◌, ◌==◌, ◌&&◌, IsTrue, ℕ, zero, suc, ◌<◌, ◌≤◌, true, List, [], ◌∷◌, Option, None, Some, inl, inr, refl, sym, ap, ◌∙◌, subst, arith, length, map, slice_get, IsSome}
 use Rattle.std.proofs.lemmas.Bool.{false≢true}
 use Rattle.std.proofs.lemmas.Bool.Decides.{nat_tests}
-use Rattle.std.proofs.lemmas.List.{length-map}
 use Rattle.std.specs.Io.KnownBytes.{Appends}
 use Rattle.carriers.specs.declared.fate.Fate.{Fate}
 use Rattle.clap.specs.Walk.{Text}
@@ -46,6 +45,7 @@ use Rattle.session_cluster.proofs.LaneLists.{journal_is, journal_at}
 use Rattle.cell_session.proofs.Loops.{appends_nothing, few_none, first_none, unopened_ends}
 use Rattle.cell_session.proofs.ReadLaws.{none_read}
 use Rattle.cell_session.proofs.SearchCounts.{SearchLaws, kept_counts, none_counts}
+use Rattle.cell_session.proofs.FullSearches.{StayCovered, kept_full, none_full}
 use Rattle.cell_session.specs.Searches.{CountOnce}
 use Rattle.cell_session.proofs.UpkeepLaws.{none_upkept}
 
@@ -187,6 +187,7 @@ none_lines s types plans text c none dealt unkept unread = record {
   };
   upkeeps = none_upkept status.NoMemory s c unkept;
   search_fronts = none_read s c unread;
+  full_at_rest = none_full s c;
   reached = tt;
 }
 
@@ -196,6 +197,8 @@ pub record AllLines : Type 0 where
   pub short : AllShort
   pub hold : AllHold
   pub hear : AllHear
+  pub searches : SearchLaws
+  pub covered : StayCovered
 
 pub ends_lines : AllLines → (end : Status) (s : Setting) → IsSetting s → (types : Types) (plans : ℕ → List Fate) (text left : Option (List ℕ)) (c : Cell) (before now : Option (List ℕ)) → EndsAs end s types plans text left c before now
     → HaveLines end s types plans text c
@@ -209,15 +212,24 @@ ends_lines all end s setting types plans text left c before now (inr some) = rec
   causes = kept_causes all.refused all.short s setting plans some.commands c some.kept;
   upkeeps = some.upkept;
   search_fronts = some.read;
+  full_at_rest = kept_full all.searches all.covered end s setting plans some.commands c some.kept (some.few).few some.upkept some.read;
   reached = some.reached;
 }
 
 -- ---- the searches
 
 pub ends_searches : SearchLaws → (end : Status) (s : Setting) → IsSetting s → (types : Types) (plans : ℕ → List Fate) (text left : Option (List ℕ)) (c : Cell) (before now : Option (List ℕ)) → EndsAs end s types plans text left c before now
-    → CountOnce s c
-ends_searches laws end s setting types plans text left c before now (inl none) = none_counts s c none.unread
-ends_searches laws end s setting types plans text left c before now (inr some) = kept_counts laws s setting plans some.commands c some.kept (some.few).few some.read
+    → CountOnce s types text c
+ends_searches laws end s setting types plans text left c before now (inl none) = record {
+  asked = [];
+  were_asked = were_asked types s.bits text [] c.dealt (sym none.dealt) few_none (told_none types s.bits text);
+  each = none_counts s [] c none.unread;
+}
+ends_searches laws end s setting types plans text left c before now (inr some) = record {
+  asked = some.commands;
+  were_asked = were_asked types s.bits text some.commands c.dealt (sym some.kept.dealt) some.few some.first;
+  each = kept_counts laws s setting plans some.commands c some.kept (some.few).few some.read;
+}
 
 -- ---- the bytes written
 
@@ -265,9 +277,9 @@ chosen_lines all words a x end plans text left c before now p q ends =
     subst (λ (y : Choice). HaveLines end y.setting y.setting.schema plans text c) (one_choice words a x p q) (ends_lines all end a.setting (chosen_setting words a p) a.setting.schema plans text left c before now ends)
 
 pub chosen_searches : SearchLaws → (words : List Text) (a x : Choice) (end : Status) (plans : ℕ → List Fate) (text left : Option (List ℕ)) (c : Cell) (before now : Option (List ℕ)) → Chooses words a → Chooses words x
-    → EndsAs end a.setting a.setting.schema plans text left c before now → CountOnce x.setting c
+    → EndsAs end a.setting a.setting.schema plans text left c before now → CountOnce x.setting x.setting.schema text c
 chosen_searches laws words a x end plans text left c before now p q ends =
-    subst (λ (y : Choice). CountOnce y.setting c) (one_choice words a x p q) (ends_searches laws end a.setting (chosen_setting words a p) a.setting.schema plans text left c before now ends)
+    subst (λ (y : Choice). CountOnce y.setting y.setting.schema text c) (one_choice words a x p q) (ends_searches laws end a.setting (chosen_setting words a p) a.setting.schema plans text left c before now ends)
 
 pub chosen_dealt : (words : List Text) (a x : Choice) (end : Status) (plans : ℕ → List Fate) (text left : Option (List ℕ)) (c : Cell) (before now : Option (List ℕ)) → Chooses words a → Chooses words x
     → EndsAs end a.setting a.setting.schema plans text left c before now → IfTold text (λ t. DealsWith end x.setting.schema (x.setting).bits t c.dealt left)
@@ -316,6 +328,3 @@ empty_fates plans c h lane v at = absurd (no_lane c.lanes lane v (empty_cell c h
 
 pub empty_shown : (s : Setting) (c : Cell) → IsTrue (is_empty c) → AreShownRight s c
 empty_shown s c h lane v at = absurd (no_lane c.lanes lane v (empty_cell c h).0 at)
-
-pub empty_searches : (s : Setting) (c : Cell) → IsTrue (is_empty c) → CountOnce s c
-empty_searches s c h = none_counts s c (empty_cell c h).1.1.1

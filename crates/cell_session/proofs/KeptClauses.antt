@@ -1,5 +1,5 @@
 -- What a session's clauses say of its lanes, from what it keeps.
-use Rattle.std.proofs.Common.{◌<◌, ℕ, List, refl, sym, ap, ◌∙◌, subst, arith, length, map}
+use Rattle.std.proofs.Common.{◌<◌, ℕ, List, refl, sym, ap, ◌∙◌, subst, arith, length}
 use Rattle.std.proofs.lemmas.List.{length-map}
 use Rattle.carriers.specs.declared.fate.Fate.{Fate}
 use Rattle.cluster_states.specs.Publishing.{Told}

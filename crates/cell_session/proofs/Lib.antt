@@ -1,6 +1,7 @@
 mod UpkeepLaws
 mod ReadLaws
 mod SearchCounts
+mod FullSearches
 mod OutputLaws
 mod LongLines
 mod KeptClauses

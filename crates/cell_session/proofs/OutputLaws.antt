@@ -1,5 +1,5 @@
 -- One line more adds its report to the output.
-use Rattle.std.proofs.Common.{◌≡◌, ◌≢◌, ◌⊎◌, ℕ, suc, ◌+◌, ◌≤◌, List, [], ◌∷◌, ◌++◌, Option, None, Some, inl, inr, refl, sym, ap, ap₂, ◌∙◌, arith, length, map, append_assoc, append-nil}
+use Rattle.std.proofs.Common.{◌≡◌, ◌≢◌, ◌⊎◌, ℕ, suc, ◌+◌, ◌≤◌, List, [], ◌∷◌, ◌++◌, Option, None, Some, inl, inr, refl, sym, ap, ap₂, ◌∙◌, arith, length, append_assoc, append-nil}
 use Rattle.carriers.specs.declared.fate.Fate.{Fate}
 use Rattle.cluster_states.specs.Publishing.{Told}
 use Rattle.messages.specs.declared.outcome.Outcome.{Outcome}
@@ -12,19 +12,19 @@ use Rattle.lane_lives.specs.Lives.{outcome_in}
 use Rattle.lane_lives.specs.Serving.{bucket_in}
 use Rattle.lane_promises.proofs.Answered.{found_written}
 use Rattle.lane_lives.proofs.OneLine.{IsLine}
-use Rattle.session_cluster.specs.Steps.{IsRoomier}
 use Rattle.session_cluster.specs.Cells.{Cell, journals, journals_of}
 use Rattle.session_cluster.specs.Deeds.{first_told, told_next, told_by, told_of}
 use Rattle.session_cluster.specs.Keeping.{IsKept}
 use Rattle.session_cluster.specs.Lanes.{Journal, lane_of_id, journal_in, AreLegal}
 use Rattle.session_cluster.specs.Output.{outcome_answer, closed_answer, operation_answer, upkeep_answer, found_answer_of, bytes_of, report_in, output_from, output_of}
-use Rattle.session_cluster.specs.Searches.{fronts_of, version_now, answer_to}
-use Rattle.session_cluster.specs.Spans.{spans_of}
-use Rattle.session_cluster.specs.Steps.{without_room, IsAfter}
+use Rattle.session_cluster.specs.Searches.{fronts_of, version_now}
+use Rattle.search_views.specs.Answers.{search_answer}
+use Rattle.session_cluster.specs.Steps.{IsAfter}
 use Rattle.session_cluster.specs.declared.asked.Asked.{Asked}
 use Rattle.session_cluster.specs.declared.asked.Asked.TheVariants as command
 use Rattle.session_cluster.proofs.KeptLanes.{kept_legal}
-use Rattle.session_cluster.proofs.Moving.{Moves, moves, journals_seen, plans_seen}
+use Rattle.session_cluster.proofs.Moving.{Moves, moves, answer_seen}
+use Rattle.session_cluster.proofs.Nearly.{IsNearly}
 use Rattle.session_cluster.proofs.SessionSteps.{LeavesSpans, LeavesFronts, leaves_spans, leaves_fronts}
 use Rattle.cell_session.specs.Searches.{AreRead}
 use Rattle.cell_session.proofs.ReadLaws.{ViewsStay, views_stay}
@@ -57,7 +57,7 @@ operation_stays s j k id vs ws m legal h = let lane = lane_of_id s.bits id in mo
 -- what a search found stays, where the views to which it read do
 found_same : (types : Types) (told : Told) (q : Said) (j : ℕ) (vs ws : Cell) (o : Option (List ℕ)) → ViewsStay types vs ws → fronts_of j vs.fronts ≡ o → found_answer_of types told q o (journals ws.lanes) ≡ found_answer_of types told q o (journals vs.lanes)
 found_same types told q j vs ws None views is = refl
-found_same types told q j vs ws (Some gs) views is = ap (λ us. Some (answer.Search (answer_to q (version_now told) us))) (views j gs is)
+found_same types told q j vs ws (Some gs) views is = ap (λ us. Some (answer.Search (search_answer q (version_now told) us))) (views j gs is)
 
 found_stays : (types : Types) (told : Told) (q : Said) (j k : ℕ) (vs ws : Cell) → LeavesFronts k vs ws → ViewsStay types vs ws → j ≢ k
     → found_answer_of types told q (fronts_of j ws.fronts) (journals ws.lanes) ≡ found_answer_of types told q (fronts_of j vs.fronts) (journals vs.lanes)
@@ -108,24 +108,13 @@ output_more s plans cs c old new k kept is after so =
     output-push s (first_told s) 1 cs c new ∙ ap₂ (λ a n. a ++ report_in s (told_of s cs) n c new) (output_kept s plans cs c old new k kept is after so) (omega (arith, is))
     ∙ ap (λ t. output_of s cs old ++ report_in s t k c new) (sym kept.told)
 
--- room alone changes no report
-report_seen : (s : Setting) (told : Told) (j : ℕ) (c : Asked) (vs ws : Cell) → map without_room ws.lanes ≡ map without_room vs.lanes → ws.upkeeps ≡ vs.upkeeps → ws.fronts ≡ vs.fronts → report_in s told j c ws ≡ report_in s told j c vs
-report_seen s told j command.Blank vs ws same spans fronts = refl
-report_seen s told j command.TooLong vs ws same spans fronts = refl
-report_seen s told j (command.Bad why) vs ws same spans fronts = refl
-report_seen s told j (command.Feed op via) vs ws same spans fronts = ap (λ Js. bytes_of j (operation_answer s j op.id Js)) (journals_seen vs.lanes ws.lanes same)
-report_seen s told j (command.State state deaf) vs ws same spans fronts = refl
-report_seen s told j (command.BadState offset) vs ws same spans fronts = refl
-report_seen s told j (command.Stop node) vs ws same spans fronts = refl
-report_seen s told j (command.Start node) vs ws same spans fronts = refl
-report_seen s told j (command.Net lane fates) vs ws same spans fronts = ap (bytes_of j) (plans_seen vs.lanes ws.lanes same lane)
-report_seen s told j command.Maintain vs ws same spans fronts = ap (λ us. bytes_of j (upkeep_answer (spans_of j us))) spans
-report_seen s told j (command.Search q) vs ws same spans fronts = ap₂ (λ o Js. bytes_of j (found_answer_of s.schema told q o Js)) (ap (fronts_of j) fronts) (journals_seen vs.lanes ws.lanes same)
-report_seen s told j (command.BadQuery offset) vs ws same spans fronts = refl
+-- room and what is shown change no report
+pub report_seen : (s : Setting) (told : Told) (j : ℕ) (c : Asked) (vs ws : Cell) → IsNearly vs ws → report_in s told j c ws ≡ report_in s told j c vs
+report_seen s told j c vs ws near = ap (bytes_of j) (answer_seen s told j c vs ws near.lanes (ap (λ (x : Cell). x.upkeeps) near.rest) (ap (λ (x : Cell). x.fronts) near.rest))
 
-output_seen : (s : Setting) (told : Told) (start : ℕ) (cs : List Asked) (vs ws : Cell) → map without_room ws.lanes ≡ map without_room vs.lanes → ws.upkeeps ≡ vs.upkeeps → ws.fronts ≡ vs.fronts → output_from s told start cs ws ≡ output_from s told start cs vs
-output_seen s told start [] vs ws same spans fronts = refl
-output_seen s told start (c ∷ cs) vs ws same spans fronts = ap₂ (λ a b. a ++ b) (report_seen s told start c vs ws same spans fronts) (output_seen s (told_next c told) (suc start) cs vs ws same spans fronts)
+output_seen : (s : Setting) (told : Told) (start : ℕ) (cs : List Asked) (vs ws : Cell) → IsNearly vs ws → output_from s told start cs ws ≡ output_from s told start cs vs
+output_seen s told start [] vs ws near = refl
+output_seen s told start (c ∷ cs) vs ws near = ap₂ (λ a b. a ++ b) (report_seen s told start c vs ws near) (output_seen s (told_next c told) (suc start) cs vs ws near)
 
-pub roomier_output : (s : Setting) (cs : List Asked) (old new : Cell) → IsRoomier old new → output_of s cs new ≡ output_of s cs old
-roomier_output s cs old new r = output_seen s (first_told s) 1 cs old new r.lanes (ap (λ (x : Cell). x.upkeeps) r.rest) (ap (λ (x : Cell). x.fronts) r.rest)
+pub nearly_output : (s : Setting) (cs : List Asked) (old new : Cell) → IsNearly old new → output_of s cs new ≡ output_of s cs old
+nearly_output s cs old new near = output_seen s (first_told s) 1 cs old new near

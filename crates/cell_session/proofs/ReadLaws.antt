@@ -1,5 +1,5 @@
 -- One line more keeps what was said of searches.
-use Rattle.std.proofs.Common.{◌≡◌, ◌≢◌, ◌<◌, ◌≤◌, ◌+◌, ℕ, zero, suc, List, [], ◌∷◌, ◌++◌, Option, None, Some, option_and_then, inl, inr, refl, sym, ap, ap₂, ◌∙◌, subst, arith, length, length-append, append_assoc, map, take, slice_get}
+use Rattle.std.proofs.Common.{◌≡◌, ◌≢◌, ◌<◌, ◌≤◌, ◌+◌, ℕ, zero, suc, List, [], ◌∷◌, ◌++◌, Option, None, Some, option_and_then, inl, inr, refl, sym, ap, ap₂, ◌∙◌, subst, arith, length, append_assoc, map, take, slice_get}
 use Rattle.std.specs.Option.{IsSome}
 use Rattle.std.proofs.lemmas.Bool.{cases_eq, false≢true}
 use Rattle.std.proofs.Math.Seq.{take-length}
@@ -30,7 +30,7 @@ use Rattle.session_cluster.proofs.FrontLists.{fronts_own}
 use Rattle.session_cluster.proofs.SessionSteps.{kept_more, leaves_spans, leaves_fronts, read_after}
 use Rattle.cell_session.proofs.UpkeepLaws.{some_is, none_some, pushed, still, last_there, take_low, grew_after}
 use Rattle.view_changes.specs.Opening.{opening}
-use Rattle.view_changes.specs.Views.{View, view_after}
+use Rattle.view_changes.specs.Views.{view_after}
 
 -- ---- a front stands on
 
@@ -251,7 +251,7 @@ none_read s c none = record {
   in_order = λ lane earlier line early a b has there. absurd (none_some (front_in lane line c.fronts) b (ap (λ o. option_and_then (λ gs. slice_get gs lane) o) (ap (fronts_of line) none)) there);
 }
 
--- room alone changes nothing of it
+-- room and what is shown change nothing of it
 pub read_roomier : (s : Setting) (cs : List Asked) (old new : Cell) → new.fronts ≡ old.fronts → new.upkeeps ≡ old.upkeeps
     → ((lane : ℕ) (w : LaneValue) → slice_get new.lanes lane ≡ Some w → (v : LaneValue) × ((slice_get old.lanes lane ≡ Some v) × (w.journal ≡ v.journal))) → AreRead s cs old → AreRead s cs new
 read_roomier s cs old new same spans seen so = record {

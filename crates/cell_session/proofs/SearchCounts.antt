@@ -1,13 +1,13 @@
 -- Each search reads one prefix of each lane's journal, and counts each document once at most.
-use Rattle.std.proofs.Common.{◌≡◌, ◌==◌, ◌<◌, ◌≤◌, ◌+◌, ◌%◌, ◌^◌, ℕ, zero, suc, Bool, true, false, List, [], ◌∷◌, ◌++◌, Option, None, Some, inl, inr, refl, sym, ap, ap₂, ◌∙◌, subst, arith, length, length-append, map, min, slice_get, take}
+use Rattle.std.proofs.Common.{◌≡◌, ◌==◌, ◌<◌, ◌≤◌, ◌+◌, ◌%◌, ◌^◌, ℕ, zero, suc, true, false, List, [], ◌∷◌, ◌++◌, Option, None, Some, inl, inr, refl, sym, ap, ap₂, ◌∙◌, subst, arith, length, map, slice_get, take}
 use Rattle.std.specs.Option.{IsSome}
 use Rattle.std.proofs.lemmas.Bool.{cases_lt, false≢true}
 use Rattle.std.proofs.lemmas.Bool.Decides.{nat_tests}
-use Rattle.bucket_ids.specs.Buckets.{Low, IsBucket, measure, has_key}
+use Rattle.bucket_ids.specs.Buckets.{Low, IsBucket, has_key}
 use Rattle.carriers.specs.declared.fate.Fate.{Fate}
 use Rattle.coverage.specs.Covering.{measure_of}
 use Rattle.doc_types.specs.SchemaCodes.{Types}
-use Rattle.journal_views.specs.Fronts.{Front, IsFront, NoneHas, AreFronts, seen_at, IsCountedAs}
+use Rattle.journal_views.specs.Fronts.{Front, IsFront, NoneHas, AreFronts, seen_at, IsKeyRead, IsCountedAs}
 use Rattle.journal_views.specs.JournalViews.{view_of, Shows, written_entries, FindRoom}
 use Rattle.journal_views.specs.Searched.{LaneRead, IsAnswer, AreShown}
 use Rattle.journal_views.proofs.Reading.{first-changes}
@@ -21,26 +21,25 @@ use Rattle.lane_journals.specs.declared.event.LaneEvent.{LaneEvent}
 use Rattle.lane_journals.specs.declared.event.LaneEvent.TheVariants.{Wrote}
 use Rattle.lane_keeping.specs.LaneKeeping.{setting_of}
 use Rattle.lane_lives.specs.LaneValues.{LaneValue}
-use Rattle.lane_lives.specs.Lives.{lines_of, last_line}
-use Rattle.lane_lives.specs.Serving.{bucket_in, IsServing}
+use Rattle.lane_lives.specs.Lives.{Deed, lines_of, last_line}
+use Rattle.lane_lives.specs.Serving.{bucket_in}
 use Rattle.lane_lives.specs.Settings.{lane_count, IsSetting}
 use Rattle.lane_lives.specs.declared.setting.Setting.{Setting}
 use Rattle.lane_lives.proofs.Living.{others_fresh, later_none}
 use Rattle.lane_promises.proofs.Before.{legal_tail}
-use Rattle.query_text.specs.Grammar.{Said, said_of}
+use Rattle.query_text.specs.Grammar.{said_of}
 use Rattle.query_text.specs.declared.query.Query.{Query}
-use Rattle.search_laws.specs.Searches.{Seen, times_counted, covered}
+use Rattle.search_laws.specs.Searches.{times_counted, covered}
 use Rattle.search_views.specs.Answers.{search_answer, all_covered, capped}
 use Rattle.session_cluster.specs.Cells.{Cell, journals, journals_of}
 use Rattle.session_cluster.specs.Deeds.{deeds_of_lane}
 use Rattle.session_cluster.specs.Keeping.{IsKept}
 use Rattle.session_cluster.specs.Lanes.{Journal}
-use Rattle.session_cluster.specs.Searches.{fronts_of, view_to, views_to, answer_to}
+use Rattle.session_cluster.specs.Searches.{fronts_of, view_to, views_to}
 use Rattle.session_cluster.specs.declared.asked.Asked.{Asked}
 use Rattle.session_cluster.proofs.DeedLists.{lines_low}
-use Rattle.session_cluster.proofs.SearchLaws.{answer_is}
 use Rattle.cell_session.specs.Limits.{most_lines}
-use Rattle.cell_session.specs.Searches.{HasRead, AreRead, IsFrontIn, AreFrontsIn, CountsOnce, CountOnce}
+use Rattle.cell_session.specs.Searches.{FrontStands, HasRead, AreRead, AreFrontsIn, CountsOnce, EachCounts}
 use Rattle.cell_session.proofs.UpkeepLaws.{some_is}
 use Rattle.view_changes.specs.Kept.{IsView}
 use Rattle.view_changes.specs.Opening.{opening}
@@ -54,7 +53,8 @@ pub record SearchLaws : Type 0 where
   pub view : InAllKept (λ S J. (types : Types) → IsBucket S.lane → FindRoom J → IsView (view_after (opening types) (changes_of J)))
   pub once : (types : Types) (w : ℕ) (id : List ℕ) (fs : List Front) → AreFronts fs → times_counted w id (map (seen_at types) fs) ≤ 1
   pub current : (types : Types) (w : ℕ) (id : List ℕ) (fs : List Front) → AreFronts fs → covered w (map (seen_at types) fs) ≡ 2 ^ 58 → IsCountedAs types w id fs (times_counted w id (map (seen_at types) fs))
-  pub answers : (q : Query) (w : ℕ) (reads : List LaneRead) (vs : List View) → AreShown reads vs → IsAnswer q w reads (search_answer q w vs)
+  pub full : (types : Types) (w : ℕ) (fs : List Front) → AreFronts fs → ((key : ℕ) → key < 2 ^ 58 → IsKeyRead w key fs) → covered w (map (seen_at types) fs) ≡ 2 ^ 58
+  pub answers : (q : Query) (w : ℕ) (reads : List LaneRead) (vs : List View) → AreShown reads vs → IsAnswer q w reads (search_answer (said_of q) w vs)
 
 -- ---- entries
 
@@ -83,60 +83,70 @@ few_written laws s setting plans cs c kept few lane v at legal =
 -- ---- one lane
 
 -- the prefix of the journal of a lane to which the search read
-record LaneHas (s : Setting) (lane g : ℕ) (J : Journal) : Type 0 where
-  before : List LaneEvent
-  front : g ≡ length (changes_of before)
-  later : List LaneEvent
-  whole : J ≡ later ++ before
+record LaneHas (s : Setting) (lane : ℕ) (deeds : List Deed) (g : ℕ) (J : Journal) : Type 0 where
+  stands : FrontStands s (bucket_in s lane) deeds J g
   legal : IsLegal (setting_of (bucket_in s lane) s.rules) J
   room : FindRoom J
 
 -- lanes of one session have no common key
-none_has : (s : Setting) (own lane : ℕ) (key : ℕ) (gs : List ℕ) (Js : List Journal) (fs : List Front) → own < lane → has_key (bucket_in s own) key ≡ true → AreFrontsIn s lane gs Js fs → NoneHas key fs
-none_has s own lane key [] [] [] early has are = tt
-none_has s own lane key (g ∷ gs) (J ∷ Js) (f ∷ fs) early has are =
-    (ap (λ (S : places.Setting). has_key S.lane key) (are.0).setting ∙ others (key % 2 ^ s.bits) own lane early has, none_has s own (suc lane) key gs Js fs (omega (arith, early)) has are.1)
+none_has : (s : Setting) (deeds : ℕ → List Deed) (own lane : ℕ) (key : ℕ) (gs : List ℕ) (Js : List Journal) (fs : List Front) → own < lane → has_key (bucket_in s own) key ≡ true → AreFrontsIn s lane deeds gs Js fs → NoneHas key fs
+none_has s deeds own lane key [] [] [] early has are = tt
+none_has s deeds own lane key (g ∷ gs) (J ∷ Js) (f ∷ fs) early has are =
+    (ap (λ (S : places.Setting). has_key S.lane key) (are.0).setting ∙ others (key % 2 ^ s.bits) own lane early has, none_has s deeds own (suc lane) key gs Js fs (omega (arith, early)) has are.1)
   where
     others : (n own lane : ℕ) → own < lane → (n == own) ≡ true → (n == lane) ≡ false
     others n own lane early has = grind (arith, nat_tests)
-none_has s own lane key [] [] (f ∷ fs) early has are = absurd are
-none_has s own lane key [] (J ∷ Js) fs early has are = absurd are
-none_has s own lane key (g ∷ gs) [] fs early has are = absurd are
-none_has s own lane key (g ∷ gs) (J ∷ Js) [] early has are = absurd are
+none_has s deeds own lane key [] [] (f ∷ fs) early has are = absurd are
+none_has s deeds own lane key [] (J ∷ Js) fs early has are = absurd are
+none_has s deeds own lane key (g ∷ gs) [] fs early has are = absurd are
+none_has s deeds own lane key (g ∷ gs) (J ∷ Js) [] early has are = absurd are
+
+-- ---- what is covered
+
+measure_more : (xs ys : List Low) → measure_of (xs ++ ys) ≡ measure_of xs + measure_of ys
+measure_more [] ys = omega arith
+measure_more (x ∷ xs) ys = let more = measure_more xs ys in omega (arith, more)
+
+pub covered_is : (types : Types) (w : ℕ) (fs : List Front) → covered w (map (seen_at types) fs) ≡ all_covered w (map (λ f. (seen_at types f).view) fs)
+covered_is types w [] = refl
+covered_is types w (f ∷ fs) = measure_more _ _ ∙ ap (λ n. measure_of (node_regions w ((seen_at types f).view).nodes) + n) (covered_is types w fs)
 
 -- ---- all lanes from one on
 
-record Collected (s : Setting) (lane : ℕ) (gs : List ℕ) (Js : List Journal) : Type 0 where
+record Collected (s : Setting) (lane : ℕ) (deeds : ℕ → List Deed) (gs : List ℕ) (Js : List Journal) : Type 0 where
   fronts : List Front
-  are : AreFrontsIn s lane gs Js fronts
+  are : AreFrontsIn s lane deeds gs Js fronts
   legal : AreFronts fronts
   views : map (λ f. (seen_at s.schema f).view) fronts ≡ views_to s.schema gs Js
   shown : AreShown (map (λ f. view_of s.schema f.journal) fronts) (views_to s.schema gs Js)
 
-module _ (laws : SearchLaws) (s : Setting) (setting : IsSetting s) where
+module _ (laws : SearchLaws) (s : Setting) (setting : IsSetting s) (deeds : ℕ → List Deed) where
   in_lane : (lane : ℕ) → lane < lane_count s → IsBucket (bucket_in s lane)
   in_lane lane small = record { some = setting.some; most = omega (arith, setting.most); fits = small }
 
-  module _ (lane g : ℕ) (J : Journal) (small : lane < lane_count s) (x : LaneHas s lane g J) where
+  module _ (lane g : ℕ) (J : Journal) (small : lane < lane_count s) (x : LaneHas s lane (deeds lane) g J) where
+    abbrev read : List LaneEvent
+    read = (x.stands).before
+
     abbrev own : Front
-    own = record { setting = setting_of (bucket_in s lane) s.rules; journal = x.before }
+    own = record { setting = setting_of (bucket_in s lane) s.rules; journal = read }
 
-    own_legal : IsLegal (setting_of (bucket_in s lane) s.rules) x.before
-    own_legal = legal_tail (setting_of (bucket_in s lane) s.rules) x.later x.before (subst (IsLegal (setting_of (bucket_in s lane) s.rules)) x.whole x.legal)
+    own_legal : IsLegal (setting_of (bucket_in s lane) s.rules) read
+    own_legal = legal_tail (setting_of (bucket_in s lane) s.rules) (x.stands).later read (subst (IsLegal (setting_of (bucket_in s lane) s.rules)) (x.stands).whole x.legal)
 
-    own_room : FindRoom x.before
-    own_room = let more = more_written x.later x.before in let all = x.room in omega (arith, more, ap (λ K. length (written_entries K)) x.whole, all)
+    own_room : FindRoom read
+    own_room = let more = more_written (x.stands).later read in let all = x.room in omega (arith, more, ap (λ K. length (written_entries K)) (x.stands).whole, all)
 
     own_front : IsFront own
     own_front = record { lane = in_lane lane small; acks = (setting.rules).some_acks; legal = own_legal; room = own_room }
 
-    own_view : view_after (opening s.schema) (changes_of x.before) ≡ view_to s.schema g J
-    own_view = ap (view_after (opening s.schema)) (sym (ap (λ n. take n (changes_of J)) x.front ∙ ap (λ K. take (length (changes_of x.before)) (changes_of K)) x.whole ∙ first-changes x.later x.before))
+    own_view : view_after (opening s.schema) (changes_of read) ≡ view_to s.schema g J
+    own_view = ap (view_after (opening s.schema)) (sym (ap (λ n. take n (changes_of J)) (x.stands).front ∙ ap (λ K. take (length (changes_of read)) (changes_of K)) (x.stands).whole ∙ first-changes (x.stands).later read))
 
-    own_shown : Shows (view_of s.schema x.before) (view_to s.schema g J) × IsView (view_to s.schema g J)
-    own_shown = subst (λ v. Shows (view_of s.schema x.before) v × IsView v) own_view (
-      laws.shown (setting_of (bucket_in s lane) s.rules) (setting.rules).some_acks x.before own_legal s.schema (in_lane lane small) own_room,
-      laws.view (setting_of (bucket_in s lane) s.rules) (setting.rules).some_acks x.before own_legal s.schema (in_lane lane small) own_room,
+    own_shown : Shows (view_of s.schema read) (view_to s.schema g J) × IsView (view_to s.schema g J)
+    own_shown = subst (λ v. Shows (view_of s.schema read) v × IsView v) own_view (
+      laws.shown (setting_of (bucket_in s lane) s.rules) (setting.rules).some_acks read own_legal s.schema (in_lane lane small) own_room,
+      laws.view (setting_of (bucket_in s lane) s.rules) (setting.rules).some_acks read own_legal s.schema (in_lane lane small) own_room,
     )
 
   next : (lane k : ℕ) → lane + suc k ≡ suc lane + k
@@ -146,75 +156,72 @@ module _ (laws : SearchLaws) (s : Setting) (setting : IsSetting s) where
   this lane = omega arith
 
   collect : (lane : ℕ) (gs : List ℕ) (vs : List LaneValue) → length gs ≡ length vs → lane + length vs ≤ lane_count s
-      → ((k : ℕ) (v : LaneValue) (g : ℕ) → slice_get vs k ≡ Some v → slice_get gs k ≡ Some g → LaneHas s (lane + k) g v.journal) → Collected s lane gs (journals vs)
+      → ((k : ℕ) (v : LaneValue) (g : ℕ) → slice_get vs k ≡ Some v → slice_get gs k ≡ Some g → LaneHas s (lane + k) (deeds (lane + k)) g v.journal) → Collected s lane deeds gs (journals vs)
   collect lane [] [] count small each = record { fronts = []; are = tt; legal = tt; views = refl; shown = tt }
   collect lane [] (v ∷ vs) count small each = absurd (omega (arith, count))
   collect lane (g ∷ gs) [] count small each = absurd (omega (arith, count))
   collect lane (g ∷ gs) (v ∷ vs) count small each =
-      let rest = collect (suc lane) gs vs (omega (arith, count)) (omega (arith, small)) (λ k a h was there. subst (λ n. LaneHas s n h a.journal) (next lane k) (each (suc k) a h was there)) in
-      let x = subst (λ n. LaneHas s n g v.journal) (this lane) (each zero v g refl refl) in
+      let rest = collect (suc lane) gs vs (omega (arith, count)) (omega (arith, small)) (λ k a h was there. subst (λ n. LaneHas s n (deeds n) h a.journal) (next lane k) (each (suc k) a h was there)) in
+      let x = subst (λ n. LaneHas s n (deeds n) g v.journal) (this lane) (each zero v g refl refl) in
       let low : lane < lane_count s = omega (arith, small) in
       record {
         fronts = own lane g v.journal low x ∷ rest.fronts;
-        are = (record { setting = refl; front = x.front; later = x.later; whole = x.whole }, rest.are);
-        legal = (own_front lane g v.journal low x, (λ key has. none_has s lane (suc lane) key gs (journals vs) rest.fronts (omega arith) has rest.are), rest.legal);
+        are = (record { setting = refl; stands = x.stands; journal = refl }, rest.are);
+        legal = (own_front lane g v.journal low x, (λ key has. none_has s deeds lane (suc lane) key gs (journals vs) rest.fronts (omega arith) has rest.are), rest.legal);
         views = ap₂ (λ y ys. y ∷ ys) (own_view lane g v.journal low x) rest.views;
         shown = (own_shown lane g v.journal low x, rest.shown);
       }
 
-  -- ---- what is covered
-
-  measure_more : (xs ys : List Low) → measure_of (xs ++ ys) ≡ measure_of xs + measure_of ys
-  measure_more [] ys = omega arith
-  measure_more (x ∷ xs) ys = let more = measure_more xs ys in omega (arith, more)
-
-  covered_is : (w : ℕ) (fs : List Front) → covered w (map (seen_at s.schema) fs) ≡ all_covered w (map (λ f. (seen_at s.schema f).view) fs)
-  covered_is w [] = refl
-  covered_is w (f ∷ fs) = measure_more _ _ ∙ ap (λ n. measure_of (node_regions w ((seen_at s.schema f).view).nodes) + n) (covered_is w fs)
-
   full_is : (n : ℕ) → (capped n == 2 ^ 58) ≡ true → n ≡ 2 ^ 58
   full_is n h = grind (arith, nat_tests, h)
 
-  counts : (gs : List ℕ) (vs : List LaneValue) → Collected s 0 gs (journals vs) → CountsOnce s gs (journals vs)
+  counts : (gs : List ℕ) (vs : List LaneValue) → Collected s 0 deeds gs (journals vs) → CountsOnce s deeds gs (journals vs)
   counts gs vs x = record {
     fronts = x.fronts;
     are = x.are;
     legal = x.legal;
     views = x.views;
-    answers = λ q w. subst (IsAnswer q w (map (λ f. view_of s.schema f.journal) x.fronts)) (answer_is q w (views_to s.schema gs (journals vs)))
-        (laws.answers q w (map (λ f. view_of s.schema f.journal) x.fronts) (views_to s.schema gs (journals vs)) x.shown);
+    answers = λ q w. laws.answers q w (map (λ f. view_of s.schema f.journal) x.fronts) (views_to s.schema gs (journals vs)) x.shown;
     once = λ w id. laws.once s.schema w id x.fronts x.legal;
-    current = λ q w id full. laws.current s.schema w id x.fronts x.legal (covered_is w x.fronts ∙ ap (all_covered w) x.views ∙ full_is (all_covered w (views_to s.schema gs (journals vs))) full);
+    current = λ q w id full. laws.current s.schema w id x.fronts x.legal (covered_is s.schema w x.fronts ∙ ap (all_covered w) x.views ∙ full_is (all_covered w (views_to s.schema gs (journals vs))) full);
   }
 
-  -- of each search of a session
-  pub kept_counts : (plans : ℕ → List Fate) (cs : List Asked) (c : Cell) → IsKept s plans cs c → length cs ≤ most_lines → AreRead s cs c → CountOnce s c
-  kept_counts plans cs c kept few so line gs has =
-      let was = so.others line (subst IsSome (sym has) refl) in
-      let h = subst (λ n. HasRead s (take was.0 cs) n c) (sym was.1.1.0) (so.answered was.0 was.1.0 was.1.1.1) in
-      let same : h.fronts ≡ gs = some_is (sym h.are ∙ has) in
-      counts gs c.lanes (collect 0 gs c.lanes (ap length (sym same) ∙ h.count ∙ sym kept.lanes) (omega (arith, kept.lanes)) (λ lane v g at there.
-      let stands = h.stand lane v g at (ap (λ xs. slice_get xs lane) same ∙ there) in
-      let legal = legal_of (kept.serving lane v at) in
-      subst (λ n. LaneHas s n g v.journal) (from_none lane) (record {
-        before = stands.before;
-        front = stands.front;
-        later = stands.later;
-        whole = stands.whole;
-        legal = legal;
-        room = few_written laws s setting plans cs c kept few lane v at legal;
-      })))
-    where
-      from_none : (n : ℕ) → n ≡ 0 + n
-      from_none n = omega arith
+-- ---- of a session
 
-      legal_of : {planned : List Fate} {lane : ℕ} {deeds : List _} {v : LaneValue} → IsServing s planned lane deeds v → IsLegal (setting_of (bucket_in s lane) s.rules) v.journal
-      legal_of {planned} {lane} {deeds} {v} is =
-          subst (λ b. IsLegal (setting_of b s.rules) v.journal) is.lane_is (subst (λ r. IsLegal (setting_of v.lane r) v.journal) is.rules_are (is.holds).legal)
+pub legal_in : (s : Setting) (plans : ℕ → List Fate) (cs : List Asked) (c : Cell) → IsKept s plans cs c → (lane : ℕ) (v : LaneValue) → slice_get c.lanes lane ≡ Some v → IsLegal (setting_of (bucket_in s lane) s.rules) v.journal
+legal_in s plans cs c kept lane v at =
+    let is = kept.serving lane v at in
+    subst (λ b. IsLegal (setting_of b s.rules) v.journal) is.lane_is (subst (λ r. IsLegal (setting_of v.lane r) v.journal) is.rules_are (is.holds).legal)
+
+-- what the lines before a place did in a lane
+abbrev pub deeds_to : Setting → List Asked → Cell → ℕ → ℕ → List Deed
+deeds_to s cs c at lane = deeds_of_lane s c.upkeeps lane (take at cs)
+
+-- the search of the line at a place
+pub counts_at : SearchLaws → (s : Setting) → IsSetting s → (plans : ℕ → List Fate) (cs : List Asked) (c : Cell) → IsKept s plans cs c → length cs ≤ most_lines → (at line : ℕ) (h : HasRead s (take at cs) line c)
+    → CountsOnce s (λ lane. deeds_of_lane s c.upkeeps lane (take at cs)) h.fronts (journals_of c)
+counts_at laws s setting plans cs c kept few at line h = counts laws s setting (deeds_to s cs c at) h.fronts c.lanes (collect laws s setting (deeds_to s cs c at) 0 h.fronts c.lanes (h.count ∙ sym kept.lanes) (omega (arith, kept.lanes)) (λ lane v g here there.
+    let legal = legal_in s plans cs c kept lane v here in
+    subst (λ n. LaneHas s n (deeds_to s cs c at n) g v.journal) (from_none lane) (record { stands = h.stand lane v g here there; legal = legal; room = few_written laws s setting plans cs c kept few lane v here legal })))
+  where
+    from_none : (n : ℕ) → n ≡ 0 + n
+    from_none n = omega arith
+
+-- each search
+pub kept_counts : SearchLaws → (s : Setting) → IsSetting s → (plans : ℕ → List Fate) (cs : List Asked) (c : Cell) → IsKept s plans cs c → length cs ≤ most_lines → AreRead s cs c → EachCounts s cs c
+kept_counts laws s setting plans cs c kept few so line gs has =
+    let was = so.others line (subst IsSome (sym has) refl) in
+    let h = subst (λ n. HasRead s (take was.0 cs) n c) (sym was.1.1.0) (so.answered was.0 was.1.0 was.1.1.1) in
+    let same : h.fronts ≡ gs = some_is (sym h.are ∙ has) in
+    record {
+      at = was.0;
+      own = was.1.1.0;
+      counts = subst (λ fs. CountsOnce s (λ lane. deeds_of_lane s c.upkeeps lane (take was.0 cs)) fs (journals_of c)) same (counts_at laws s setting plans cs c kept few was.0 line h);
+    }
 
 -- where there is no search
-pub none_counts : (s : Setting) (c : Cell) → c.fronts ≡ [] → CountOnce s c
-none_counts s c none line gs has = absurd (nothing (ap (fronts_of line) none) has)
+pub none_counts : (s : Setting) (cs : List Asked) (c : Cell) → c.fronts ≡ [] → EachCounts s cs c
+none_counts s cs c none line gs has = absurd (nothing (ap (fronts_of line) none) has)
   where
     nothing : {o : Option (List ℕ)} → o ≡ None → o ≡ Some gs → ⊥
     nothing a b = cc

@@ -114,6 +114,7 @@ stands_on s lane deeds J K span h g = record {
   carried = h.carried;
   cause = h.cause;
   rests = h.rests;
+  run = h.run;
   at_rest = h.at_rest;
 }
 
@@ -213,6 +214,7 @@ module _ (s : Setting) (plans : ℕ → List Fate) (cs : List Asked) (c : Asked)
             carried = (legal.1).carried;
             cause = made.cause;
             rests = made.rests;
+            run = made.run;
             at_rest = λ rested. rest_in (bucket_in s lane) s.rules w (ap (λ (z : LaneValue). z.lane) (made.pass).after ∙ serving.lane_is) (ap (λ (z : LaneValue). z.rules) (made.pass).after ∙ serving.rules_are) (made.at_rest rested);
           };
     }
@@ -386,10 +388,10 @@ upkept_at end s cs c so = record {
     not_done : status.Done ≡ status.NoMemory → ⊥
     not_done e = cc e
 
--- room alone changes nothing of it
-pub upkept_roomier : (s : Setting) (cs : List Asked) (old new : Cell) → new.upkeeps ≡ old.upkeeps → ((lane : ℕ) (w : LaneValue) → slice_get new.lanes lane ≡ Some w → (v : LaneValue) × ((slice_get old.lanes lane ≡ Some v) × (w.journal ≡ v.journal)))
-    → AreUpkept status.Done s cs old → AreUpkept status.Done s cs new
-upkept_roomier s cs old new same seen so = record {
+-- room and what is shown change nothing of it
+pub upkept_roomier : (end : Status) (s : Setting) (cs : List Asked) (old new : Cell) → new.upkeeps ≡ old.upkeeps → ((lane : ℕ) (w : LaneValue) → slice_get new.lanes lane ≡ Some w → (v : LaneValue) × ((slice_get old.lanes lane ≡ Some v) × (w.journal ≡ v.journal)))
+    → AreUpkept end s cs old → AreUpkept end s cs new
+upkept_roomier end s cs old new same seen so = record {
   answered = λ at asks. elim (so.answered at asks) [
     | inl stood ↦ inl (record {
       spans = stood.spans;

@@ -6,7 +6,7 @@ use Rattle.lane_lives.specs.declared.setting.Setting.{Setting}
 use Rattle.session_cluster.specs.declared.asked.Asked.{Asked}
 use Rattle.session_cluster.specs.Cells.{Cell}
 use Rattle.session_cluster.specs.Output.{report_in}
-use Rattle.session_cluster.specs.Steps.{IsAfter, IsSpanNoted, IsAllOrNothing}
+use Rattle.session_cluster.specs.Steps.{IsDealt, IsAllOrNothing}
 use Rattle.cell_session.specs.declared.answering.Stop.{Stop}
 use Rattle.cell_session.specs.declared.answering.Stop.TheVariants as stop
 
@@ -14,5 +14,5 @@ use Rattle.cell_session.specs.declared.answering.Stop.TheVariants as stop
 -- comes before anything is written
 abbrev pub StopsAs : Stop → Setting → ℕ → Asked → Cell → Cell → Option (List ℕ) → Option (List ℕ) → Type 0
 StopsAs stop.Fault s line asked old new before now =
-    IsAfter s line asked old new × (IsSpanNoted line asked old new × AppendsFront before now (report_in s old.told line asked new))
+    IsDealt s line asked old new × AppendsFront before now (report_in s old.told line asked new)
 StopsAs stop.Memory s line asked old new before now = IsAllOrNothing s line asked old new × Keeps before now

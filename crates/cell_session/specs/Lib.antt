@@ -1,10 +1,11 @@
--- For a reader: Lines, Operations, Upkeep, Searches, Ends and Limits. The others serve the calls below the top one.
+-- For a reader: Lines, Operations, Upkeep, Searches, FullSearches, Ends and Limits. The others serve the calls below the top one.
 pub mod StatusNumbers
 pub mod Limits
 pub mod Counting
 pub mod Operations
 pub mod Upkeep
 pub mod Searches
+pub mod FullSearches
 pub mod Causes
 pub mod Hearing
 pub mod LanePromises

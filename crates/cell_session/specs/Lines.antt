@@ -7,6 +7,7 @@ use Rattle.session_cluster.specs.Cells.{Cell}
 use Rattle.session_cluster.specs.declared.asked.Asked.{Asked}
 use Rattle.cell_session.specs.Causes.{HaveCauses}
 use Rattle.cell_session.specs.Ends.{EndsAtLimit}
+use Rattle.cell_session.specs.FullSearches.{AreFull}
 use Rattle.cell_session.specs.Hearing.{HaveHeard}
 use Rattle.cell_session.specs.Operations.{WereAsked, HaveOutcomes, HaveFates}
 use Rattle.cell_session.specs.Searches.{AreRead}
@@ -28,5 +29,7 @@ pub record HaveLines (end : Status) (s : Setting) (types : Types) (plans : â„• â
   pub upkeeps : AreUpkept end s asked c
   -- how far those read that searched
   pub search_fronts : AreRead s asked c
+  -- that those are full which follow an upkeep after which all lanes rested
+  pub full_at_rest : AreFull s asked c
   -- what was reached, where a limit ends the session
   pub reached : EndsAtLimit end asked

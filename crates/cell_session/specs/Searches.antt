@@ -1,6 +1,7 @@
 -- What became of the lines that searched.
-use Rattle.std.specs.Prelude.{◌≡◌, ◌<◌, ◌≤◌, ℕ, suc, true, List, [], ◌∷◌, ◌++◌, length, map, take, Some, IsSome, slice_get}
+use Rattle.std.specs.Prelude.{◌≡◌, ◌<◌, ◌≤◌, ℕ, suc, true, List, [], ◌∷◌, ◌++◌, length, map, take, Option, Some, IsSome, slice_get}
 use Rattle.bucket_ids.specs.Buckets.{Low}
+use Rattle.doc_types.specs.SchemaCodes.{Types}
 use Rattle.journal_views.specs.Fronts.{Front, AreFronts, seen_at, IsCountedAs}
 use Rattle.journal_views.specs.JournalViews.{view_of}
 use Rattle.journal_views.specs.Searched.{IsAnswer}
@@ -18,9 +19,11 @@ use Rattle.search_laws.specs.Searches.{times_counted}
 use Rattle.session_cluster.specs.Cells.{Cell, journals_of}
 use Rattle.session_cluster.specs.Deeds.{deeds_of_lane}
 use Rattle.session_cluster.specs.Lanes.{Journal}
-use Rattle.session_cluster.specs.Searches.{fronts_of, front_in, views_to, answer_to}
+use Rattle.search_views.specs.Answers.{search_answer}
+use Rattle.session_cluster.specs.Searches.{fronts_of, front_in, views_to}
 use Rattle.session_cluster.specs.declared.asked.Asked.{Asked}
 use Rattle.session_cluster.specs.declared.asked.Asked.TheVariants as command
+use Rattle.cell_session.specs.Operations.{WereAsked}
 
 -- ---- how far they read
 
@@ -58,34 +61,44 @@ pub record AreRead (s : Setting) (asked : List Asked) (c : Cell) : Type 0 where
 
 -- ---- what they counted
 
--- a prefix of the journal of a lane, with as many changes as the front says
-pub record IsFrontIn (s : Setting) (lane g : ℕ) (J : Journal) (f : Front) : Type 0 where
+-- the prefix of a lane's journal to which the search read
+pub record IsFrontIn (s : Setting) (lane : ℕ) (deeds : List Deed) (g : ℕ) (J : Journal) (f : Front) : Type 0 where
   pub setting : f.setting ≡ setting_of (bucket_in s lane) s.rules
-  pub front : g ≡ length (changes_of f.journal)
-  pub later : List LaneEvent
-  pub whole : J ≡ later ++ f.journal
+  pub stands : FrontStands s (bucket_in s lane) deeds J g
+  pub journal : f.journal ≡ stands.before
 
 -- one of each lane, from this lane on
-abbrev pub AreFrontsIn : Setting → ℕ → List ℕ → List Journal → List Front → Type 0
-AreFrontsIn s lane [] [] [] = Unit {0}
-AreFrontsIn s lane (g ∷ gs) (J ∷ Js) (f ∷ fs) = IsFrontIn s lane g J f × AreFrontsIn s (suc lane) gs Js fs
-AreFrontsIn s lane _ _ _ = ⊥
+abbrev pub AreFrontsIn : Setting → ℕ → (ℕ → List Deed) → List ℕ → List Journal → List Front → Type 0
+AreFrontsIn s lane deeds [] [] [] = Unit {0}
+AreFrontsIn s lane deeds (g ∷ gs) (J ∷ Js) (f ∷ fs) = IsFrontIn s lane (deeds lane) g J f × AreFrontsIn s (suc lane) deeds gs Js fs
+AreFrontsIn s lane deeds _ _ _ = ⊥
 
--- a search that read so far, under any version
-pub record CountsOnce (s : Setting) (gs : List ℕ) (Js : List Journal) : Type 0 where
-  -- it reads one prefix of each lane's journal
+-- a search that read so far behind these deeds of each lane, under any version
+pub record CountsOnce (s : Setting) (deeds : ℕ → List Deed) (gs : List ℕ) (Js : List Journal) : Type 0 where
+  -- it read this prefix of each lane's journal
   pub fronts : List Front
-  pub are : AreFrontsIn s 0 gs Js fronts
+  pub are : AreFrontsIn s 0 deeds gs Js fronts
   pub legal : AreFronts fronts
   pub views : map (λ f. (seen_at s.schema f).view) fronts ≡ views_to s.schema gs Js
   -- its answer is that of the documents that the nodes have there, each of them once
-  pub answers : (q : Query) (w : ℕ) → IsAnswer q w (map (λ f. view_of s.schema f.journal) fronts) (answer_to (said_of q) w (views_to s.schema gs Js))
+  pub answers : (q : Query) (w : ℕ) → IsAnswer q w (map (λ f. view_of s.schema f.journal) fronts) (search_answer (said_of q) w (views_to s.schema gs Js))
   -- it sees each document once at most
   pub once : (w : ℕ) (id : List ℕ) → times_counted w id (map (seen_at s.schema) fronts) ≤ 1
   -- at full coverage it sees each document as an operation left it that is no older than what was acknowledged
-  pub current : (q : Said) (w : ℕ) (id : List ℕ) → (answer_to q w (views_to s.schema gs Js)).full ≡ true
+  pub current : (q : Said) (w : ℕ) (id : List ℕ) → (search_answer q w (views_to s.schema gs Js)).full ≡ true
       → IsCountedAs s.schema w id fronts (times_counted w id (map (seen_at s.schema) fronts))
 
--- that holds of each search
-abbrev pub CountOnce : Setting → Cell → Type 0
-CountOnce s c = (line : ℕ) (gs : List ℕ) → fronts_of line c.fronts ≡ Some gs → CountsOnce s gs (journals_of c)
+-- the line of this number reads behind what these lines did that stand before it
+pub record CountsAt (s : Setting) (asked : List Asked) (c : Cell) (line : ℕ) (gs : List ℕ) : Type 0 where
+  pub at : ℕ
+  pub own : line ≡ suc at
+  pub counts : CountsOnce s (λ lane. deeds_of_lane s c.upkeeps lane (take at asked)) gs (journals_of c)
+
+abbrev pub EachCounts : Setting → List Asked → Cell → Type 0
+EachCounts s asked c = (line : ℕ) (gs : List ℕ) → fronts_of line c.fronts ≡ Some gs → CountsAt s asked c line gs
+
+-- that holds of each search among the lines that were dealt with
+pub record CountOnce (s : Setting) (types : Types) (text : Option (List ℕ)) (c : Cell) : Type 0 where
+  pub asked : List Asked
+  pub were_asked : WereAsked types s.bits text c.dealt asked
+  pub each : EachCounts s asked c

@@ -1,5 +1,5 @@
 -- What became of the lines that asked for upkeep.
-use Rattle.std.specs.Prelude.{◌≡◌, ◌<◌, ◌≤◌, ◌⊎◌, ℕ, suc, List, length, take, Option, None, Some, IsSome, slice_get}
+use Rattle.std.specs.Prelude.{◌≡◌, ◌<◌, ◌≤◌, ◌⊎◌, ℕ, suc, List, length, take, None, Some, IsSome, slice_get}
 use Rattle.lane_lives.specs.LaneValues.{LaneValue}
 use Rattle.lane_lives.specs.Settings.{lane_count}
 use Rattle.lane_lives.specs.declared.setting.Setting.{Setting}
@@ -15,8 +15,8 @@ use Rattle.cell_session.specs.declared.status.Status.{Status}
 use Rattle.cell_session.specs.declared.status.Status.TheVariants as status
 
 -- the line has one span a lane, which stands behind what the earlier lines did there, and before what came later; its
--- answer is what its events tell, so it is Rested, Blocked or Disturbed, and where it is Rested the lane was at rest as the
--- span ended
+-- answer is what its events tell, so it is Rested, Blocked or Disturbed, and where it is Rested each node that serves ran,
+-- and the lane was at rest as the span ended
 pub record HasStood (s : Setting) (earlier : List Asked) (line : ℕ) (c : Cell) : Type 0 where
   pub spans : List UpkeepSpan
   pub are : spans_of line c.upkeeps ≡ Some spans

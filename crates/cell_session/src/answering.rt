@@ -5,7 +5,7 @@ ghost use Rattle.cell_session.specs.Answering.{StopsAs};
 ghost use Rattle.session_cluster.specs.Asking.{IsOwnAsked};
 ghost use Rattle.session_cluster.specs.Output.{bytes_of, report_in};
 ghost use Rattle.session_cluster.specs.Keeping.{IsReady};
-ghost use Rattle.session_cluster.specs.Steps.{IsAfter, IsSpanNoted};
+ghost use Rattle.session_cluster.specs.Steps.{IsDealt, AreSettled};
 ghost use Rattle.cell_session.specs.declared.answering.Stop.TheVariants as stop;
 
 use carriers::Carrier;
@@ -54,8 +54,9 @@ pub fn answer_line<K: Sink, C: Carrier + Drop>(
 ) -> Result<(), Stop>
     requires ready { IsReady setting.now line cluster.old }
     requires own { IsOwnAsked setting.now.bits command }
-    ensures dealt { OnOk result (IsAfter setting.now line command cluster.old cluster.new) }
-    ensures noted { OnOk result (IsSpanNoted line command cluster.old cluster.new) }
+    requires settled { AreSettled cluster.old }
+    ensures dealt { OnOk result (IsDealt setting.now line command cluster.old cluster.new) }
+    ensures settled { OnOk result (AreSettled cluster.new) }
     ensures written { OnOk result (Appends (K.written sink.old) (K.written sink.new)
         (report_in setting.now cluster.old.told line command cluster.new)) }
     ensures stopped { IfErr result (λ why.

@@ -27,7 +27,7 @@ use journal_views::laws::{
 use lane_lives::Setting;
 use lane_promises::laws::{
     hearings_follow_deeds, lanes_are_complete, lanes_are_durable, lines_are_refused_with_cause,
-    lines_fall_short_with_cause,
+    lines_fall_short_with_cause, rested_lanes_stay_covered,
 };
 use line_values::ValueReader;
 use reports::usage_report;
@@ -61,7 +61,8 @@ pub fn run_one<S: Source, K: Sink, C: Carriers>(
     ensures shown { (c : Choice) → Chooses (map string_bytes words.now) c → AreShownRight c.setting cluster.new }
 
     // the lines: which were dealt with; what each of them did, who heard which state, what became of messages, why lines
-    // were refused or lacked answers, and how upkeep went; and the bytes that answer them
+    // were refused or lacked answers, how upkeep went, and that searches behind rest are full; and the bytes that answer
+    // them
     ensures dealt_with { (c : Choice) → Chooses (map string_bytes words.now) c
         → IfTold (S.left source.old)
         (λ text. DealsWith result c.setting.schema c.setting.bits text cluster.new.dealt (S.left source.new)) }
@@ -76,7 +77,8 @@ pub fn run_one<S: Source, K: Sink, C: Carriers>(
 
     // the searches: each counts a document once at most, and at full coverage as an operation left it that is no older
     // than what was acknowledged before
-    ensures searches { (c : Choice) → Chooses (map string_bytes words.now) c → CountOnce c.setting cluster.new }
+    ensures searches { (c : Choice) → Chooses (map string_bytes words.now) c
+        → CountOnce c.setting c.setting.schema (S.left source.old) cluster.new }
 
     // wrong words: the one usage line is written, nothing is read, and the cluster is as it was
     ensures wrong_words { AreWrong (map string_bytes words.now)
@@ -103,6 +105,7 @@ pub fn run_one<S: Source, K: Sink, C: Carriers>(
     hearings_follow_deeds();
     lines_are_refused_with_cause();
     lines_fall_short_with_cause();
+    rested_lanes_stay_covered();
     journals_are_read();
     journals_are_shown();
     fronts_count_once();

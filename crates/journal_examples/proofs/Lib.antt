@@ -1,8 +1,13 @@
 mod Walking
 mod LifeFacts
+mod Firsts
 mod LifeOne
 mod LifeWritten
 mod LifeTwo
 mod WrongSteps
+mod WrongActive
+mod Halves
+mod KeeperOne
+mod KeeperTwo
 mod WrongCarriage
 mod InLane

@@ -9,6 +9,10 @@ use Rattle.lane_journals.specs.Facts.{Shown, Applied, AnsweredApply, Idle, WasAs
 use Rattle.lane_journals.proofs.Serials.{asked-parts}
 use Rattle.lane_journals.proofs.Basics.{or_else-cases, only_if-some}
 
+-- what an answer without entries shows
+abbrev pub no_content : Content
+no_content i = None
+
 -- ---- each message
 
 abbrev pub EachSent : (Message → Type 0) → Journal → Type 0

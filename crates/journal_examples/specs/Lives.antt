@@ -52,17 +52,33 @@ asked_one =
     event.Published state_one ∷
     []
 
--- so has node 1, and the version is opened
-abbrev pub opened_one : List LaneEvent
-opened_one =
-    -- all nodes of the version have answered
-    event.Opened 0 1 (lane ∷ []) ∷
+-- so has node 1
+abbrev pub asked_both : List LaneEvent
+asked_both =
     event.Returned 2 ∷
     event.Delivered 2 (reply.Answer [] []) ∷
     event.Sent 2 1 0 1 body.Ask ∷
     asked_one
 
--- a round makes both nodes complete
+-- the version is opened: all its nodes have answered
+abbrev pub opened_one : List LaneEvent
+opened_one =
+    event.Opened 0 1 (lane ∷ []) ∷
+    asked_both
+
+-- a round has read both nodes
+abbrev pub read_one : List LaneEvent
+read_one =
+    event.Returned 4 ∷
+    event.Delivered 4 (reply.Answer [] []) ∷
+    event.Sent 4 1 0 1 (body.Read lane None) ∷
+    event.Returned 3 ∷
+    event.Delivered 3 (reply.Answer [] []) ∷
+    event.Sent 3 1 0 0 (body.Read lane None) ∷
+    event.Decided 0 1 (choice.RoundBegun lane 3) ∷
+    opened_one
+
+-- and makes both complete
 abbrev pub united_one : List LaneEvent
 united_one =
     event.Decided 0 1 (choice.RoundEnded lane 3) ∷
@@ -72,14 +88,7 @@ united_one =
     event.Returned 5 ∷
     event.Delivered 5 (reply.Answer [] []) ∷
     event.Sent 5 1 0 0 (body.Apply lane []) ∷
-    event.Returned 4 ∷
-    event.Delivered 4 (reply.Answer [] []) ∷
-    event.Sent 4 1 0 1 (body.Read lane None) ∷
-    event.Returned 3 ∷
-    event.Delivered 3 (reply.Answer [] []) ∷
-    event.Sent 3 1 0 0 (body.Read lane None) ∷
-    event.Decided 0 1 (choice.RoundBegun lane 3) ∷
-    opened_one
+    read_one
 
 -- a write that no node answers, one that both nodes answer, a split and a join
 abbrev pub life_one : Id → List LaneEvent

@@ -11,7 +11,7 @@ ghost use Rattle.lane_journals.specs.Meanings.{history};
 ghost use Rattle.lane_journals.specs.KeptJournals.{IsLegal};
 ghost use Rattle.lane_journals.specs.declared.event.LaneEvent.TheVariants.{Published, Prepared, Closed, Decided};
 ghost use Rattle.journal_examples.specs.Lives.{OfDocuments, lane, setting, stamp_one, stamp_two, stamp_three, asked_one, life_one, activated, life};
-ghost use Rattle.journal_examples.specs.WrongSteps.{IsRefused, IsRefusedByStates, opened_early, state_small, incomplete_read, acked_without_active, deleting_keeper};
+ghost use Rattle.journal_examples.specs.WrongSteps.{IsRefused, opened_early, state_small, incomplete_read, active_elsewhere, acked_without_active, one_copy, whole, deleting_keeper, IsNoKeeper};
 ghost use Rattle.journal_examples.specs.WrongCarriage.{IsRefused as IsMiscarried, in_time, early, once, twice, numbered, skipped, unanswered, answered, cut_off, reaching_stopped, late_cut_off, late_reaching_stopped, started_again, lost_at_started, late_started_again, late_lost_at_started};
 
 /// The journal `life` is legal for each document of its lane, and there are such documents: a lane may go
@@ -27,21 +27,24 @@ pub fn a_lane_may_live()
         → contains lane (key_of id) ≡ true }
 {}
 
-/// Six wrong steps make a journal one that isn't legal. Four come after a legal journal: an opening before all
-/// nodes answered, a state that leaves out too many nodes, recipients that aren't complete, and a second
-/// activation. Two come after a journal that means a legal one, whatever the order of the nodes: an
-/// acknowledgement without the active node, and a Delete whose keeper has itself an unanswered Delete.
+/// Six wrong steps, each after a legal journal: an opening before all nodes answered, a state that leaves out
+/// too many nodes, recipients that aren't complete, a second activation (of the same node, and of one that
+/// comes before it), an acknowledgement without the active node, and a Delete whose keeper has itself an
+/// unanswered Delete. What each names is there and where the states say; that it comes next is what is wrong.
 pub fn wrong_steps_are_refused()
-    ensures opened_before_all_answered { OfDocuments (λ id. IsRefused asked_one opened_early) }
-    ensures state_leaves_out_too_many { OfDocuments (λ id. IsRefused (life_one id) (Published state_small)) }
+    ensures opened_before_all_answered { IsRefused setting asked_one opened_early }
+    ensures state_leaves_out_too_many { OfDocuments (λ id.
+        IsRefused setting (life_one id) (Published state_small)) }
     ensures condition_read_from_an_incomplete_replica { OfDocuments (λ id.
-        IsRefused (incomplete_read id) (Prepared 1 lane 3)) }
+        IsRefused setting (incomplete_read id) (Prepared 1 lane 3)) }
     ensures row_activated_twice { OfDocuments (λ id.
-        IsRefused (activated id) (Decided 0 2 (ActiveOn lane 0))) }
+        IsRefused setting (activated id) (Decided 0 2 (ActiveOn lane 0))) }
+    ensures row_activated_on_another_node { IsRefused setting active_elsewhere (Decided 0 1 (ActiveOn lane 0)) }
     ensures acknowledged_without_the_active_node { OfDocuments (λ id.
-        IsRefusedByStates (acked_without_active id) (Closed 1 (Acked stamp_one))) }
-    ensures deleting_replica_counts_as_keeper { OfDocuments (λ id.
-        IsRefusedByStates deleting_keeper (Decided 0 1 (DeleteFrom lane 0 1))) }
+        IsRefused setting (acked_without_active id) (Closed 1 (Acked stamp_one))) }
+    ensures deleting_replica_counts_as_keeper { IsRefused one_copy deleting_keeper (Decided 0 1 (DeleteFrom whole 1 3)) }
+    // it took the union of the last round as a keeper does
+    ensures deleting_replica_keeps_nothing { IsNoKeeper 1 whole 1 0 deleting_keeper }
 {}
 
 /// Wrong journals, each beside the right one: a late message is delivered early, one is delivered twice, a

@@ -69,12 +69,12 @@ are-lanes laws types (f ∷ fs) h =
 -- ---- the node that is over a key
 
 -- a node that serves and has the key in a region, with a fact of it
-record IsAt (w key : ℕ) (P : NodeView → Type 0) (ns : List NodeView) : Type 0 where
-  node : ℕ
-  low : node < length ns
-  serving : serves w (node_at node ns) ≡ true
-  over : in_regions (node_at node ns).regions key ≡ true
-  fact : P (node_at node ns)
+pub record IsAt (w key : ℕ) (P : NodeView → Type 0) (ns : List NodeView) : Type 0 where
+  pub node : ℕ
+  pub low : node < length ns
+  pub serving : serves w (node_at node ns) ≡ true
+  pub over : in_regions (node_at node ns).regions key ≡ true
+  pub fact : P (node_at node ns)
 
 node-found : (w key : ℕ) (P : NodeView → Type 0) (ns : List NodeView) → SomeNode w key P ns → IsAt w key P ns
 node-found w key P [] s = absurd s
@@ -99,7 +99,7 @@ front-found types w key P [] s = absurd s
 front-found types w key P (f ∷ fs) (inl s) = record { front = f; among = inl refl; at = node-found w key P ((seen_at types f).view).nodes s }
 front-found types w key P (f ∷ fs) (inr s) = let r = front-found types w key P fs s in record { front = r.front; among = inr r.among; at = r.at }
 
-front-back : (types : Types) (w key : ℕ) (P : NodeView → Type 0) (fs : List Front) (f : Front) → In f fs → IsAt w key P ((seen_at types f).view).nodes → SomeSeen w key P (map (seen_at types) fs)
+pub front-back : (types : Types) (w key : ℕ) (P : NodeView → Type 0) (fs : List Front) (f : Front) → In f fs → IsAt w key P ((seen_at types f).view).nodes → SomeSeen w key P (map (seen_at types) fs)
 front-back types w key P [] f i a = absurd i
 front-back types w key P (g ∷ fs) f (inl is) a = inl (node-back w key P ((seen_at types g).view).nodes (subst (λ (x : Front). IsAt w key P ((seen_at types x).view).nodes) (sym is) a))
 front-back types w key P (g ∷ fs) f (inr i) a = inr (front-back types w key P fs f i a)
@@ -112,7 +112,7 @@ each-seen : (w : ℕ) (P : NodeView → Type 0) → ((n : NodeView) → P n) →
 each-seen w P all [] = tt
 each-seen w P all (l ∷ ls) = (each-node w P all (l.view).nodes, each-seen w P all ls)
 
-front-of : (fs : List Front) → AreFronts fs → (f : Front) → In f fs → IsFront f
+pub front-of : (fs : List Front) → AreFronts fs → (f : Front) → In f fs → IsFront f
 front-of [] h f i = absurd i
 front-of (g ∷ fs) h f (inl is) = subst IsFront is h.0
 front-of (g ∷ fs) h f (inr i) = front-of fs h.2 f i

@@ -8,3 +8,4 @@ mod Lanes
 mod Standing
 mod Counting
 mod Searched
+mod Covering

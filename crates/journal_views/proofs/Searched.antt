@@ -7,6 +7,7 @@ use Rattle.document_rows.specs.Rows.{Rows, has_row, document_of, AreDistinct}
 use Rattle.view_changes.specs.Views.{NodeView, View, node_at}
 use Rattle.view_changes.specs.Kept.{IsNode, AreNodes, IsView}
 use Rattle.view_changes.specs.Serving.{serves, node_regions}
+use Rattle.query_text.specs.Grammar.{said_of}
 use Rattle.query_text.specs.declared.query.Query.{Query}
 use Rattle.query_text.specs.Truth.{matches_document}
 use Rattle.search_views.specs.Answers.{documents_in, matched, all_matched, all_covered, capped, search_answer}
@@ -61,7 +62,7 @@ unfolding of_nodes
 by-number f [] = refl
 by-number f (n ∷ ns) = ap (λ xs. f n ++ xs) (by-number f ns ∙ sym (shifted (length ns) 0 (λ i. f (node_at i (n ∷ ns)))))
 
-matched-each : (q : Query) (w : ℕ) (ns : List NodeView) → matched q w ns ≡ one_by_one (λ n. cond (serves w n) (filter (matches_document q) (documents_in n.rows)) []) ns
+matched-each : (q : Query) (w : ℕ) (ns : List NodeView) → matched (said_of q) w ns ≡ one_by_one (λ n. cond (serves w n) (filter (matches_document q) (documents_in n.rows)) []) ns
 matched-each q w [] = refl
 matched-each q w (n ∷ ns) = ap (λ xs. cond (serves w n) (filter (matches_document q) (documents_in n.rows)) [] ++ xs) (matched-each q w ns)
 
@@ -82,7 +83,7 @@ module _ (w : ℕ) (r : LaneRead) (v : View) (shows : Shows r v) (is : IsView v)
   lane-listed : (n : ℕ) → n < 32 → AreDocuments (r n) (listed_in v n)
   lane-listed n l = let many = is.many in documents-listed (r n) (node_at n v.nodes) (shows.nodes n l) (node-is v.nodes is.nodes n (omega (arith, l, many)))
 
-  lane-matched : (q : Query) → matched q w v.nodes ≡ found_in q w r (listed_in v)
+  lane-matched : (q : Query) → matched (said_of q) w v.nodes ≡ found_in q w r (listed_in v)
   lane-matched q =
       matched-each q w v.nodes
       ∙ by-number (λ n. cond (serves w n) (filter (matches_document q) (documents_in n.rows)) []) v.nodes
@@ -106,7 +107,7 @@ all-listed [] (v ∷ vs) h = absurd h
 all-listed (r ∷ rs) [] h = absurd h
 all-listed (r ∷ rs) (v ∷ vs) h = (lane-listed 0 r v (h.0).0 (h.0).1, all-listed rs vs h.1)
 
-all-matched : (q : Query) (w : ℕ) (reads : List LaneRead) (vs : List View) → AreShown reads vs → all_matched q w vs ≡ all_found q w reads (map listed_in vs)
+all-matched : (q : Query) (w : ℕ) (reads : List LaneRead) (vs : List View) → AreShown reads vs → all_matched (said_of q) w vs ≡ all_found q w reads (map listed_in vs)
 all-matched q w [] [] h = refl
 all-matched q w [] (v ∷ vs) h = absurd h
 all-matched q w (r ∷ rs) [] h = absurd h
@@ -118,7 +119,7 @@ all-measured w [] (v ∷ vs) h = absurd h
 all-measured w (r ∷ rs) [] h = absurd h
 all-measured w (r ∷ rs) (v ∷ vs) h = ap₂ (λ x y. x + y) (ap measure_of (lane-regions w r v (h.0).0 (h.0).1)) (all-measured w rs vs h.1)
 
-pub answer-read : (q : Query) (w : ℕ) (reads : List LaneRead) (vs : List View) → AreShown reads vs → IsAnswer q w reads (search_answer q w vs)
+pub answer-read : (q : Query) (w : ℕ) (reads : List LaneRead) (vs : List View) → AreShown reads vs → IsAnswer q w reads (search_answer (said_of q) w vs)
 answer-read q w reads vs h = record {
   docs = map listed_in vs;
   listed = all-listed reads vs h;

@@ -47,6 +47,15 @@ seen_at types f = record { lane = (f.setting).lane; view = view_after (opening t
 abbrev pub one_if : Bool → ℕ
 one_if t = cond t 1 0
 
+-- a node that runs, at the version, has the key in its region there, in one of the prefixes
+pub record IsKeyRead (w key : ℕ) (fs : List Front) : Type 0 where
+  pub front : Front
+  pub among : Contains fs front
+  pub node : ℕ
+  pub version_is : version node (history front.journal) ≡ w
+  pub runs : stopped node (history front.journal) ≡ false
+  pub region : InRegion w node key (history front.journal)
+
 -- a document is counted once or not at all, as it stands at a node that serves and is over its key: as the entry has it
 -- that the node holds, where it holds one, which is no older than what was acknowledged, in any of the prefixes, under
 -- that version or a smaller one

@@ -20,10 +20,11 @@ ghost use Rattle.lane_durability.specs.Laws.{InAllKept};
 ghost use Rattle.lane_keeping.specs.NodeKeeping.{regions};
 ghost use Rattle.lane_changes.specs.Changes.{changes_of};
 ghost use Rattle.journal_views.specs.JournalViews.{IsWrittenAs, held_entry, NodeRead, view_of, view_at, body_in, AreFit, Shows, written_entries, FindRoom};
+ghost use Rattle.query_text.specs.Grammar.{said_of};
 ghost use Rattle.query_text.specs.declared.query.Query.{Query};
 ghost use Rattle.search_views.specs.Answers.{search_answer};
 ghost use Rattle.journal_views.specs.Searched.{LaneRead, IsAnswer, AreShown};
-ghost use Rattle.journal_views.specs.Fronts.{Front, AreFronts, seen_at, IsCountedAs};
+ghost use Rattle.journal_views.specs.Fronts.{Front, AreFronts, seen_at, IsKeyRead, IsCountedAs};
 
 use global_ids::laws::keys_locate;
 use lane_durability::theorem::regions_count_once;
@@ -75,7 +76,8 @@ pub fn journals_are_shown()
 
 /// A search under one version, over a prefix of the journal of each lane, counts each document once at most; and
 /// where the regions that it covers measure as much as all keys, it counts each document as an operation left it
-/// that is no older than what was acknowledged under that version and smaller ones.
+/// that is no older than what was acknowledged under that version and smaller ones. They measure as much where it
+/// reads each key at some node.
 pub fn fronts_count_once()
     ensures lanes { (types : Types) (fs : List Front) → AreFronts fs → AreLanes (map (seen_at types) fs) }
     ensures once { (types : Types) (w : ℕ) (id : Id) (fs : List Front) → AreFronts fs
@@ -83,6 +85,8 @@ pub fn fronts_count_once()
     ensures current { (types : Types) (w : ℕ) (id : Id) (fs : List Front) → AreFronts fs
         → covered w (map (seen_at types) fs) ≡ 2 ^ 58
         → IsCountedAs types w id fs (times_counted w id (map (seen_at types) fs)) }
+    ensures full { (types : Types) (w : ℕ) (fs : List Front) → AreFronts fs → ((key : ℕ) → key < 2 ^ 58 → IsKeyRead w key fs)
+        → covered w (map (seen_at types) fs) ≡ 2 ^ 58 }
 {
     journals_are_read();
     journals_are_shown();
@@ -95,5 +99,5 @@ pub fn fronts_count_once()
 /// the documents of each node, with each of them once. That lists in another order have the same groups isn't said.
 pub fn answers_are_of_what_is_read()
     ensures { (q : Query) (w : ℕ) (reads : List LaneRead) (vs : List View) → AreShown reads vs
-        → IsAnswer q w reads (search_answer q w vs) }
+        → IsAnswer q w reads (search_answer (said_of q) w vs) }
 {}

@@ -16,7 +16,7 @@ use Rattle.distributor_part.specs.declared.rules.Rules.{Rules}
 use Rattle.distributor_part.specs.Parts.{Part}
 use Rattle.merge_rounds.specs.Rounds.{RoundState, IsOver, IsNext}
 use Rattle.op_machine.specs.Outcomes.{Next, Asks, Finishes}
-use Rattle.lane_journals.specs.Readers.{began}
+use Rattle.lane_journals.specs.Readers.{before_line, began}
 use Rattle.lane_journals.specs.Meanings.{history}
 use Rattle.lane_journals.specs.Places.{state_in}
 use Rattle.lane_journals.specs.Buckets.{key_of}
@@ -52,7 +52,7 @@ module _ (lane : Low) (rules : Rules) (L : List LaneEvent) (line : ℕ) (o : Ope
   same-event : (x : LaneEvent) → Adds e ≡ Adds x → x ≡ e
   same-event x h = cc
 
-  by_step : (d : ℕ) (s : ClusterState) (p : Part) (x : Step) → OpeningGives L line d s p x (Adds e) → Is e
+  by_step : (d : ℕ) (s : ClusterState) (p : Part) (x : Step) → OpeningGives L (before_line line (history L)) d s p x (Adds e) → Is e
   by_step d s p (step.Send m) g = subst Is (sym g.1) (ASending g.0 m)
   by_step d s p (step.Open buckets) g = subst Is (sym g) (AnOpening d s.version buckets)
   by_step d s p (step.Decide x) g = absurd g
@@ -79,7 +79,7 @@ module _ (lane : Low) (rules : Rules) (L : List LaneEvent) (line : ℕ) (o : Ope
     by_round r k (Some m) n g = subst Is (sym g.1) (ASending g.0 m)
     by_round r k None n g = subst Is (sym g) (AnEnd d s r (record { distributor = d; stamp = stamp; begun = under_way.begun_as; published = acting.published; knows = k; over = n }))
 
-    by_unprepared : UnpreparedWants lane rules L line (key_of o.id) d s (Adds e) → Is e
+    by_unprepared : UnpreparedWants lane rules L line (before_line line (history L)) (key_of o.id) d s (Adds e) → Is e
     by_unprepared (inl x) = by_step d s x.part x.step x.gives
     by_unprepared (inr (inl x)) = subst Is (same-event _ x.is) (ARound d s.version (x.row).bucket x.receivers)
     by_unprepared (inr (inr (inl x))) = by_round x.round x.knows x.next x.is_next x.gives

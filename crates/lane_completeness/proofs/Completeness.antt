@@ -13,7 +13,7 @@ use Rattle.op_machine.specs.Judging.{looks}
 use Rattle.distributor_part.specs.declared.rules.Rules.{Rules}
 use Rattle.merge_rounds.specs.Rounds.{RoundState}
 use Rattle.lane_journals.specs.Buckets.{key_of}
-use Rattle.lane_journals.specs.Readers.{Journal, Beginning, prepared}
+use Rattle.lane_journals.specs.Readers.{Journal, Beginning, before_line, prepared}
 use Rattle.lane_journals.specs.Meanings.{history}
 use Rattle.lane_journals.specs.declared.event.LaneEvent.{LaneEvent}
 use Rattle.lane_keeping.specs.LaneKeeping.{setting_of}
@@ -44,7 +44,7 @@ module _ (lane : Low) (rules : Rules) (are : AreRules rules) (line d : ℕ) (o :
   known : At lane rules line d s.version o stamp J K
   known = at lane rules line d s.version o stamp J K u.run u.legal
 
-  unprepared-ends : prepared line (history K) ≡ None → (e : ℕ) → IsActing lane K e s → UnpreparedWants lane rules K line (key_of o.id) e s (Ends x) → FallsShort K line x
+  unprepared-ends : prepared line (history K) ≡ None → (e : ℕ) → IsActing lane K e s → UnpreparedWants lane rules K line (before_line line (history K)) (key_of o.id) e s (Ends x) → FallsShort K line x
   unprepared-ends none e acting (inl w) = opening-ends lane rules line d o stamp J K s known (key_of o.id) e acting.owner x w
   unprepared-ends none e acting (inr (inl w)) = absurd (no-event x _ w.is)
   unprepared-ends none e acting (inr (inr (inl w))) = absurd (no-round e s w.round w.next x w.gives)

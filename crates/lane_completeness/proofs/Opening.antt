@@ -23,7 +23,7 @@ use Rattle.distributor_part.specs.declared.stage.Stage.TheVariants.{Before, Ende
 use Rattle.distributor_part.specs.Parts.{Part}
 use Rattle.distributor_part.specs.Steps.{LacksAnswers, IsStep}
 use Rattle.bucket_db.specs.Rows.{Rows}
-use Rattle.lane_journals.specs.Readers.{Message, asked, held, opened}
+use Rattle.lane_journals.specs.Readers.{Message, before_line, asked, held, opened}
 use Rattle.lane_journals.specs.RowLists.{row_with, rows}
 use Rattle.lane_journals.specs.States.{state_of}
 use Rattle.lane_journals.specs.Meanings.{history}
@@ -32,7 +32,7 @@ use Rattle.lane_journals.specs.declared.event.LaneEvent.{LaneEvent}
 use Rattle.lane_keeping.specs.LaneKeeping.{KnowsOpening, Holds, PartKeeps}
 use Rattle.operation_keeping.specs.OperationKeeping.{WasShort}
 use Rattle.proof_basics.proofs.Tests.{not_answered}
-use Rattle.operation_keeping.specs.Wants.{Ends, EndsUnless, WasAskedIn, is_ask, OpeningGives, OpeningWants}
+use Rattle.operation_keeping.specs.Wants.{Ends, EndsUnless, WasAskedSince, is_ask, OpeningGives, OpeningWants}
 use Rattle.lane_completeness.specs.Completeness.{WantedMemory}
 use Rattle.lane_completeness.specs.Causes.{OfOpening, IsMissing}
 use Rattle.lane_journals.proofs.Replies.{IsOwed}
@@ -85,7 +85,7 @@ falls-short L line test answered needed absent x e lacks = elim e [
 
 module _ (lane : Low) (rules : Rules) (line d : ℕ) (o : Operation) (stamp : Option Stamp) (J : List LaneEvent) (L : List LaneEvent) (s : ClusterState) (a : At lane rules line d s.version o stamp J L)
     (e : ℕ) (owner : IsOwner lane s e) (p : Part) (keeps : PartKeeps lane rules L e p) (heard : p.state ≡ Some s)
-    (was_asked : (n : ℕ) → (has_node p.asked n ≡ true) ↔ WasAskedIn (history L) line s.version n) where
+    (was_asked : (n : ℕ) → (has_node p.asked n ≡ true) ↔ WasAskedSince (before_line line (history L)) (history L) s.version n) where
   abbrev HoldsState : Option ClusterState → Type 0
   HoldsState x = Holds lane e (held e (history L)) (λ w. state_in w L) (λ w n. asked w n (history L)) (λ w. opened w (history L)) (λ w key. row_with key (rows w (history L))) x p
 
@@ -93,7 +93,7 @@ module _ (lane : Low) (rules : Rules) (line d : ℕ) (o : Operation) (stamp : Op
   knows = let h : HoldsState (Some s) = subst HoldsState heard keeps.heard in h.2 owner
 
   -- who was asked and didn't answer
-  asked-missing : p.rows ≡ None → (WasShort (history L) line (is_ask s.version) → ⊥) → (n : ℕ) → WasAskedIn (history L) line s.version n → has_node p.answered n ≡ false → IsMissing (history L) line n
+  asked-missing : p.rows ≡ None → (WasShort (history L) line (is_ask s.version) → ⊥) → (n : ℕ) → WasAskedSince (before_line line (history L)) (history L) s.version n → has_node p.answered n ≡ false → IsMissing (history L) line n
   asked-missing unopened none n w unanswered = missing lane rules line d s.version o stamp J L a (is_ask s.version) w.number w.message n w.later w.was_sent w.version w.receiver
       (OfOpening (knows.opened_as ∙ ap is_some unopened) w.body)
       (owed-came lane rules line d s.version o stamp J L a (is_ask s.version) w.number w.message w.later w.was_sent (w.version, w.body) (subst IsOwed (sym w.body) tt))
@@ -137,10 +137,10 @@ module _ (lane : Low) (rules : Rules) (line d : ℕ) (o : Operation) (stamp : Op
       no-end h = cc
 
 pub opening-ends : (lane : Low) (rules : Rules) (line d : ℕ) (o : Operation) (stamp : Option Stamp) (J : List LaneEvent) (L : List LaneEvent) (s : ClusterState) → At lane rules line d s.version o stamp J L
-    → (key e : ℕ) → IsOwner lane s e → (x : Outcome) → OpeningWants lane rules L line key e s (Ends x) → FallsShort L line x
+    → (key e : ℕ) → IsOwner lane s e → (x : Outcome) → OpeningWants lane rules L (before_line line (history L)) key e s (Ends x) → FallsShort L line x
 opening-ends lane rules line d o stamp J L s a key e owner x w = by_step w.step w.is_step w.gives
   where
-    by_step : (y : Step) → IsStep w.part key y w.after → OpeningGives L line e s w.part y (Ends x) → FallsShort L line x
+    by_step : (y : Step) → IsStep w.part key y w.after → OpeningGives L (before_line line (history L)) e s w.part y (Ends x) → FallsShort L line x
     by_step (step.Send m) i g = absurd g
     by_step (step.Open buckets) i g = absurd g
     by_step (step.Decide y) i g = absurd g

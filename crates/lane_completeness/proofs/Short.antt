@@ -15,7 +15,7 @@ use Rattle.op_machine.specs.Outcomes.{absent_of}
 use Rattle.merge_rounds.specs.Rounds.{did_show, HaveAllShown}
 use Rattle.lane_journals.specs.Buckets.{key_of}
 use Rattle.lane_journals.specs.Events.{Body}
-use Rattle.lane_journals.specs.Readers.{Journal, Message, prepared, round_of, answer}
+use Rattle.lane_journals.specs.Readers.{Journal, Message, before_line, prepared, round_of, answer}
 use Rattle.lane_journals.specs.Facts.{AnsweredApply}
 use Rattle.lane_journals.specs.States.{state_of}
 use Rattle.lane_journals.specs.Meanings.{history}
@@ -44,7 +44,7 @@ but-not true false h = (refl, refl)
 but-not false u h = cc
 
 module _ (lane : Low) (rules : Rules) (line d : ℕ) (o : Operation) (stamp : Option Stamp) (J L : List LaneEvent) (s : ClusterState)
-    (a : At lane rules line d s.version o stamp J L) (legal : IsLegal (setting_of lane rules) L) (unprepared : prepared line (history L) ≡ None) (x : Outcome) (w : ShortWants rules L line (key_of o.id) s (Ends x)) where
+    (a : At lane rules line d s.version o stamp J L) (legal : IsLegal (setting_of lane rules) L) (unprepared : prepared line (history L) ≡ None) (x : Outcome) (w : ShortWants rules L (before_line line (history L)) (key_of o.id) s (Ends x)) where
   abbrev b : Low
   b = (w.row).bucket
 

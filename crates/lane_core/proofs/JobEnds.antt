@@ -1,6 +1,8 @@
 -- How the operation under way may end.
-use Rattle.std.proofs.Common.{◌≡◌, ℕ, true, Option, Some, sym, subst, ◌∙◌}
-use Rattle.bucket_ids.specs.Buckets.{IsIn}
+use Rattle.std.proofs.Common.{◌≡◌, ℕ, true, List, Option, Some, slice_get, sym, subst, ◌∙◌}
+use Rattle.bucket_ids.specs.Buckets.{Low, IsIn}
+use Rattle.distributor_part.specs.declared.rules.Rules.{Rules}
+use Rattle.lane_journals.specs.declared.event.LaneEvent.{LaneEvent}
 use Rattle.node_sets.specs.Members.{has_node}
 use Rattle.stamps.specs.declared.stamp.Stamp.{Stamp}
 use Rattle.messages.specs.declared.outcome.Outcome.{Outcome}
@@ -16,10 +18,10 @@ use Rattle.lane_lines.specs.Closing.{MayEndWith}
 use Rattle.lane_core.specs.declared.work.Job.{Job}
 use Rattle.lane_core.specs.declared.work.Phase.{Phase}
 use Rattle.lane_core.specs.declared.work.Phase.TheVariants.{Begun, Prepared, Over, Short}
-use Rattle.operation_keeping.specs.Wants.{IsEnd}
-use Rattle.lane_core.specs.Advancing.{EndsAs}
-use Rattle.lane_core.specs.Works.{progress_of, IsJob, PhaseKeeps, PhaseEnds, MayMark, IsEndedBy}
+use Rattle.lane_lives.specs.LaneValues.{EndsAs}
+use Rattle.lane_core.specs.Works.{progress_of, IsJob, PhaseKeeps, PhaseEnds, MayMark, IsEndedBy, AreJobs, HasJobToClose, IsToClosePhase}
 use Rattle.lane_core.proofs.Working.{same-key}
+use Rattle.lane_core.proofs.Places.{get-one}
 
 module _ (x : LaneState) (j : Job) (k : IsJob x.lane x.rules (journal_of x) j) where
   may-over : (answered : ℕ) (o : Outcome) → IsLegalStep (setting_of x.lane x.rules) (journal_of x) (Closed j.line o) → MayMark (history (journal_of x)) j k.state answered o
@@ -63,13 +65,19 @@ module _ (x : LaneState) (j : Job) (k : IsJob x.lane x.rules (journal_of x) j) w
       (by_phase j.phase o told answered k.phase_is e.ends gives)))
 
   -- the outcome that the caller is told
-  told_by : (p : Phase) (o told : Outcome) (answered : ℕ) → PhaseKeeps x.lane x.rules (journal_of x) j k.state p → PhaseEnds p o told answered → (told ≡ o) × EndsAs (progress_of p) x.lane x.rules j.line j.operation (journal_of x) told
+  told_by : (p : Phase) (o told : Outcome) (answered : ℕ) → PhaseKeeps x.lane x.rules (journal_of x) j k.state p → PhaseEnds p o told answered → (told ≡ o) × EndsAs (progress_of p) told
   told_by Begun o told answered h e = absurd e
   told_by (Prepared machine row written) o told answered h e = absurd e
   told_by (Over outcome copy set) o told answered h e =
       let same : told ≡ outcome = e.1.0 ∙ h.same in
-      (same ∙ sym e.0, subst (λ (y : Outcome). IsEnd x.lane x.rules j.line j.operation (journal_of x) y) (sym same) h.wanted)
+      (same ∙ sym e.0, same)
   told_by Short o told answered h e = (e.1 ∙ sym e.0, e.1)
 
-  pub ends-so : (line d key : ℕ) (o told : Outcome) (answered : ℕ) → IsEndedBy j line d key o told answered → (told ≡ o) × EndsAs (progress_of j.phase) x.lane x.rules j.line j.operation (journal_of x) told
+  pub ends-so : (line d key : ℕ) (o told : Outcome) (answered : ℕ) → IsEndedBy j line d key o told answered → (told ≡ o) × EndsAs (progress_of j.phase) told
   ends-so line d key o told answered e = told_by j.phase o told answered k.phase_is e.ends
+
+-- the job of the line is to be closed, wherever it is found
+pub to-close : (lane : Low) (rules : Rules) (J : List LaneEvent) (jobs : List Job) (line : ℕ) → AreJobs lane rules J jobs → HasJobToClose line jobs → (at : ℕ) (j : Job) → slice_get jobs at ≡ Some j → j.line ≡ line → IsToClosePhase j.phase
+to-close lane rules J jobs line are h at j found is =
+    let same : h.0 ≡ at = are.lines_apart h.0 at h.1 j (h.2).found found ((h.2).line_is ∙ sym is) in
+    subst (λ (z : Job). IsToClosePhase z.phase) (get-one jobs at h.1 j (subst (λ (i : ℕ). slice_get jobs i ≡ Some h.1) same (h.2).found) found) h.3

@@ -1,14 +1,19 @@
 -- Shared: other crates cite these.
 pub mod Served
 -- Of this crate alone.
+mod Places
+mod Blocking
+mod LaneJobs
+mod Shown
+mod Under
+mod Firsts
 mod JobEnds
 mod Stamps
-mod Generations
 mod Working
 mod Fitting
 mod Shortfalls
 mod Stepping
-mod Jobs
+mod JobsGo
 mod Searching
 mod Idling
 mod Upkeeping
@@ -18,3 +23,5 @@ mod Undisturbed
 mod Running
 mod LineRuns
 mod UpkeepSpans
+mod Lasting
+mod JobLists

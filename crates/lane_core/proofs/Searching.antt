@@ -1,22 +1,21 @@
 -- The work of a lane once the row of an operation that was begun was searched, and what the call comes to.
-use Rattle.std.proofs.Common.{◌≡◌, ◌≢◌, ◌<◌, ◌-◌, ℕ, Bool, true, false, List, Option, Some, None, Result, Ok, Err, IfOk, OnErr, is_some, not, nat_eq, vec_len, refl, sym, ap, ◌∙◌, subst, arith, inl, inr}
+use Rattle.std.proofs.Common.{◌≡◌, ◌≢◌, ◌≤◌, ◌-◌, ℕ, Bool, true, false, List, ◌∷◌, length, slice_get, slice_set, Option, Some, None, Result, Ok, Err, IfOk, OnErr, nat_eq, vec_len, refl, sym, ap, ◌∙◌, subst, arith, inl, inr}
 use Rattle.std.proofs.lemmas.Bool.Decides.{nat_tests}
-use Rattle.bucket_ids.specs.Buckets.{Low, IsIn}
+use Rattle.bucket_ids.specs.Buckets.{Low}
 use Rattle.stamps.specs.declared.stamp.Stamp.{Stamp}
 use Rattle.cluster_states.specs.declared.cluster_state.ClusterState.{ClusterState}
 use Rattle.carriers.specs.declared.fate.Fate.{Fate}
 use Rattle.messages.specs.declared.operation.Operation.{Operation}
 use Rattle.messages.specs.declared.outcome.Outcome.{Outcome}
-use Rattle.op_machine.specs.Plans.{is_get}
 use Rattle.distributor_part.specs.declared.rules.Rules.{Rules}
 use Rattle.distributor_part.specs.Parts.{Part}
-use Rattle.lane_journals.specs.Buckets.{key_of}
+use Rattle.lane_journals.specs.Buckets.{Id, key_of}
 use Rattle.lane_journals.specs.Meanings.{history, is_acked}
 use Rattle.lane_journals.specs.declared.event.LaneEvent.{LaneEvent}
 use Rattle.lane_journals.specs.declared.event.LaneEvent.TheVariants.{Prepared}
 use Rattle.lane_keeping.specs.Asking.{OthersStay}
 use Rattle.lane_keeping.specs.LaneKeeping.{part_in}
-use Rattle.operation_keeping.specs.Wants.{More, IsEnd}
+use Rattle.operation_keeping.specs.Wants.{Adds, WantsSince, IsRunSince, Longer, IsCutRunSince, IsEndSince}
 use Rattle.lane_states.specs.declared.lane_state.LaneState.{LaneState}
 use Rattle.lane_core.specs.declared.work.Job.{Job}
 use Rattle.lane_core.specs.declared.work.Phase.{Phase}
@@ -28,36 +27,44 @@ use Rattle.lane_lines.specs.declared.readying.Shortage.{Shortage}
 use Rattle.lane_lines.specs.declared.readying.Shortage.TheVariants as shortage
 use Rattle.lane_core.specs.declared.work.Work.{Work}
 use Rattle.lane_states.specs.LaneStates.{journal_of, IsKept, HasRoom, part_of, IsResting, AreResting}
-use Rattle.lane_lives.specs.LaneValues.{LaneValue, IsAt, with_run, under_way_of}
-use Rattle.lane_core.specs.Advancing.{WentOn, WasCut, IsAdvance}
-use Rattle.lane_core.specs.Works.{value_of, under_way_in, progress_of, IsUntouched, PhaseKeeps, PhaseLasts, IsJob, JobKeeps, JobLasts, IsWork}
+use Rattle.lane_lives.specs.LaneValues.{LaneValue, WantsMore, with_run, under_way_of}
+use Rattle.lane_core.specs.Advancing.{IsFree, AdvancesAt}
+use Rattle.lane_core.specs.Works.{value_of, under_way_at, progress_of, IsItsRow, IsUnprepared, PhaseKeeps, PhaseLasts, IsJob, AreJobs, IsWork}
 use Rattle.lane_lines.specs.Steps.{IsUneventful}
-use Rattle.lane_core.specs.Phases.{IsAtMessages, IsToStep}
-use Rattle.lane_core.specs.Preparations.{PreparesOf, PreparesBy, PreparesNext, MayFallShort, is_over}
-use Rattle.lane_lines.specs.Readying.{outcome_of, IsToPrepare, AskedNobody, BeganNoRound, IsForNewLine, OfUnprepared, GoesOnWith, IsCutOffWith, FindsOr}
-use Rattle.lane_core.specs.Searching.{is_begun, just_begun, HasCall, spent, WentAs, ComesToRow, EndsIn}
+use Rattle.lane_core.specs.Phases.{IsAtMessages}
+use Rattle.lane_core.specs.Preparations.{PreparesOf, PreparesAt, OverAt}
+use Rattle.lane_lines.specs.Readying.{outcome_of, IsToPrepare, IsForLine, OfUnprepared, search_from, GoesOnWith, IsCutOffWith, FindsOr}
+use Rattle.lane_core.specs.Searching.{is_begun, spent, WentAt, ComesToRow, WantsShort}
 use Rattle.lane_core.proofs.Working.{same-key}
 use Rattle.stamps.specs.Places.{place_of}
-use Rattle.lane_states.specs.Written.{AddsNoEntry}
+use Rattle.lane_states.specs.Written.{FindsEntries, AddsNoEntry}
 use Rattle.lane_lines.proofs.Entries.{finds-grown}
-use Rattle.lane_core.proofs.Jobs.{IsOnward, work-on}
+use Rattle.lane_core.proofs.Working.{IsOnward, work-set, value-set}
+use Rattle.lane_core.proofs.Places.{get-one, get-set, get-map, set-length, set-twice}
+use Rattle.lane_core.proofs.JobLists.{jobs-set, off-line, off-document}
+use Rattle.operation_keeping.specs.Others.{AreOthers}
+use Rattle.operation_keeping.proofs.Since.{run-begins, run-closes, cut-begins, cut-closes}
+use Rattle.operation_keeping.proofs.OthersRuns.{run-others, cut-others}
+use Rattle.lane_journals.specs.Readers.{began, closed}
+use Rattle.lane_journals.specs.KeptJournals.{IsLegal}
+use Rattle.lane_keeping.specs.LaneKeeping.{setting_of}
+use Rattle.stamps.specs.declared.places.StampPlaces.{StampPlaces}
 
-begun-so : (p : Phase) → is_begun p ≡ true → p ≡ phase.Begun
+pub begun-so : (p : Phase) → is_begun p ≡ true → p ≡ phase.Begun
 begun-so phase.Begun e = refl
 begun-so (phase.Prepared m r w) e = let none : false ≡ true = e in cc
 begun-so (phase.Over o t a) e = let none : false ≡ true = e in cc
 begun-so phase.Short e = let none : false ≡ true = e in cc
 
--- what runs and wasn't just begun is prepared
-pub to-step : (o : Option Job) (line : ℕ) → IsAt line progress.Runs (under_way_in o) → just_begun o ≡ false → IsToStep o
-to-step None line at e = absurd at
-to-step (Some j) line at e = by_phase j.phase at.1 e
+-- what wants more and wasn't just begun is prepared
+pub to-step : (j : Job) → WantsMore (progress_of j.phase) → is_begun j.phase ≡ false → IsAtMessages j.phase
+to-step j wants e = by_phase j.phase wants e
   where
-    by_phase : (p : Phase) → progress_of p ≡ progress.Runs → is_begun p ≡ false → IsAtMessages p
+    by_phase : (p : Phase) → WantsMore (progress_of p) → is_begun p ≡ false → IsAtMessages p
     by_phase phase.Begun a e = let none : true ≡ false = e in cc
     by_phase (phase.Prepared m r w) a e = tt
-    by_phase (phase.Over o t n) a e = let none : progress.Over ≡ progress.Runs = a in cc
-    by_phase phase.Short a e = let none : progress.Short ≡ progress.Runs = a in cc
+    by_phase (phase.Over o t n) a e = absurd a
+    by_phase phase.Short a e = absurd a
 
 unacked : (x : Shortage) → is_acked (outcome_of x) ≡ false
 unacked shortage.NoMemory = refl
@@ -75,6 +82,7 @@ onward-rested x y d e q rests others parted = record {
   newest = ap (λ (z : LaneState). z.newest) e;
   spare = ap (λ (z : LaneState). z.spare) e;
   parted = parted;
+  placed = ap (λ (z : LaneState). z.turn_room) e;
   resting = λ r n. by_test r n (nat_eq n d) refl;
   quiet = q;
 }
@@ -95,159 +103,275 @@ onward-rested x y d e q rests others parted = record {
 
 -- ---- the operation that was begun
 
-module _ (x : Work) (j : Job) (w : IsWork x) (is : x.job ≡ Some j) (begun : just_begun x.job ≡ true) where
+module _ (x : Work) (at : ℕ) (j : Job) (w : IsWork x) (found : slice_get x.jobs.items at ≡ Some j) (begun : is_begun j.phase ≡ true) where
   abbrev J : List LaneEvent
   J = journal_of x.state
 
   stage : j.phase ≡ phase.Begun
-  stage = begun-so j.phase (subst (λ (o : Option Job). just_begun o ≡ true) is begun)
+  stage = begun-so j.phase begun
 
   pub was-job : IsJob x.state.lane x.state.rules J j
-  was-job = subst (λ (o : Option Job). JobKeeps x.state.lane x.state.rules J o) is w.job_is
+  was-job = (w.jobs_are).each at j found
 
-  untouched : IsUntouched (history J) j.line (was-job).state.version × (is_some j.stamp ≡ not (is_get j.operation.kind))
-  untouched = subst (λ (p : Phase). PhaseKeeps x.state.lane x.state.rules J j (was-job).state p) stage (was-job).phase_is
+  pub unprepared : IsUnprepared (history J) j
+  unprepared = subst (λ (p : Phase). PhaseKeeps x.state.lane x.state.rules J j (was-job).state p) stage (was-job).phase_is
 
   calls : j.left ≡ 65
-  calls = subst (λ (p : Phase). PhaseLasts j.left p) stage (subst (λ (o : Option Job). JobLasts o) is w.lasts)
+  calls = subst (λ (p : Phase). PhaseLasts j.left p) stage ((w.jobs_are).lasts at j found)
 
-  pub has-call : HasCall x.job
-  has-call = subst (λ (o : Option Job). HasCall o) (sym is) (let all = calls in omega (arith, all))
+  pub has-call : 1 ≤ j.left
+  has-call = let all = calls in omega (arith, all)
 
   waits : IsToPrepare x.state.lane J j.line j.operation j.distributor (was-job).state j.stamp
   waits = record {
     acting = (was-job).acting;
-    knows = record { is_under_way = (was-job).under_way; unprepared = (untouched).0.unprepared; unwritten = (untouched).0.unwritten };
+    knows = record { is_under_way = (was-job).under_way; unprepared = (unprepared).unprepared; unwritten = (unprepared).unwritten };
   }
 
-  unasked : AskedNobody J j.line (was-job).state.version
-  unasked = (untouched).0.unasked
+  pub key-is : j.key ≡ key_of j.operation.id
+  key-is = (was-job).key_is ∙ same-key j.operation.id
 
-  no_round : BeganNoRound J j.line (was-job).state.version
-  no_round = (untouched).0.no_round
+  pub for-line : IsForLine x.state j.distributor j.key
+  for-line = record { line = j.line; operation = j.operation; state = (was-job).state; stamp = j.stamp; waits = waits; key_is = key-is }
 
-  key_is : j.key ≡ key_of j.operation.id
-  key_is = (was-job).key_is ∙ same-key j.operation.id
+  abbrev OfOwn : (ℕ → Operation → ClusterState → Option Stamp → Type 0) → Type 0
+  OfOwn L = OfUnprepared x.state j.distributor j.key L
 
-  pub for-new : IsForNewLine x.state j.distributor j.key
-  for-new = record {
-    line = j.line;
-    operation = j.operation;
-    state = (was-job).state;
-    stamp = j.stamp;
-    waits = waits;
-    key_is = key_is;
-    unasked = unasked;
-    no_round = no_round;
-  }
-
-  abbrev OfNew : (ℕ → Operation → ClusterState → Option Stamp → Type 0) → Type 0
-  OfNew L = OfUnprepared x.state j.distributor j.key (λ line o s stamp. AskedNobody J line s.version → BeganNoRound J line s.version → L line o s stamp)
-
-  of-new : (L : ℕ → Operation → ClusterState → Option Stamp → Type 0) → OfNew L → L j.line j.operation (was-job).state j.stamp
-  of-new L h = h j.line j.operation (was-job).state j.stamp waits key_is unasked no_round
+  of-own : (L : ℕ → Operation → ClusterState → Option Stamp → Type 0) → OfOwn L → L j.line j.operation (was-job).state j.stamp
+  of-own L h = h j.line j.operation (was-job).state j.stamp waits key-is
 
   module _ {E : Type 0} (y : LaneState) (r : Result (Option Shortage) E)
-      (goes : IfOk r (λ end. OfNew (λ line o s stamp. GoesOnWith x.state y line o j.distributor s stamp)))
-      (cuts : OnErr r (OfNew (λ line o s stamp. IsCutOffWith x.state y line o j.distributor s stamp)))
-      (on : IsOnward x.state y) where
-    abbrev after : Work
-    after = record { state = y; drawn = x.drawn; places = x.places; has_room = x.has_room; job = spent x.job }
+      (goes : IfOk r (λ end. OfOwn (λ line o s stamp. GoesOnWith (search_from x.state) x.state y line o j.distributor s stamp)))
+      (cuts : OnErr r (OfOwn (λ line o s stamp. IsCutOffWith (search_from x.state) x.state y line o j.distributor s stamp)))
+      (on : IsOnward x.state y) (kept : IsKept y) where
+    -- what the journal says of all other lines, whether the search came to its end or not
+    pub record Searched : Type 0 where
+      pub still : IsToPrepare x.state.lane (journal_of y) j.line j.operation j.distributor (was-job).state j.stamp
+      pub begins : (l : ℕ) → began l (history (journal_of y)) ≡ began l (history J)
+      pub ends : (l : ℕ) → closed l (history (journal_of y)) ≡ closed l (history J)
+      pub others : (line : ℕ) (id : Id) → j.line ≢ line → j.operation.id ≢ id → AreOthers line id J (journal_of y)
 
-    still-of : (q : Result (Option Shortage) E) → IfOk q (λ end. OfNew (λ line o s stamp. GoesOnWith x.state y line o j.distributor s stamp))
-        → OnErr q (OfNew (λ line o s stamp. IsCutOffWith x.state y line o j.distributor s stamp)) → IsToPrepare x.state.lane (journal_of y) j.line j.operation j.distributor (was-job).state j.stamp
-    still-of (Ok end) g c = (of-new (λ line o s stamp. GoesOnWith x.state y line o j.distributor s stamp) g).still
-    still-of (Err e) g c = (of-new (λ line o s stamp. IsCutOffWith x.state y line o j.distributor s stamp) c).still
+    searched-of : (q : Result (Option Shortage) E) → IfOk q (λ end. OfOwn (λ line o s stamp. GoesOnWith (search_from x.state) x.state y line o j.distributor s stamp))
+        → OnErr q (OfOwn (λ line o s stamp. IsCutOffWith (search_from x.state) x.state y line o j.distributor s stamp)) → Searched
+    searched-of (Ok end) g c =
+        let h : GoesOnWith (search_from x.state) x.state y j.line j.operation j.distributor (was-job).state j.stamp = of-own (λ line o s stamp. GoesOnWith (search_from x.state) x.state y line o j.distributor s stamp) g in
+        record {
+          still = h.still;
+          begins = run-begins x.state.lane x.state.rules j.line j.operation (history J) J (journal_of y) h.run;
+          ends = run-closes x.state.lane x.state.rules j.line j.operation (history J) J (journal_of y) h.run;
+          others = λ line id apart off. run-others line id x.state.lane x.state.rules j.line j.operation apart off J (journal_of y) h.run;
+        }
+    searched-of (Err e) g c =
+        let h : IsCutOffWith (search_from x.state) x.state y j.line j.operation j.distributor (was-job).state j.stamp = of-own (λ line o s stamp. IsCutOffWith (search_from x.state) x.state y line o j.distributor s stamp) c in
+        record {
+          still = h.still;
+          begins = cut-begins x.state.lane x.state.rules j.line j.operation (history J) J (journal_of y) h.run;
+          ends = cut-closes x.state.lane x.state.rules j.line j.operation (history J) J (journal_of y) h.run;
+          others = λ line id apart off. cut-others line id x.state.lane x.state.rules j.line j.operation apart off J (journal_of y) h.run;
+        }
+
+    done : Searched
+    done = searched-of r goes cuts
 
     still : IsToPrepare y.lane (journal_of y) j.line j.operation j.distributor (was-job).state j.stamp
-    still = subst (λ (l : Low). IsToPrepare l (journal_of y) j.line j.operation j.distributor (was-job).state j.stamp) (sym on.lane) (still-of r goes cuts)
+    still = subst (λ (l : Low). IsToPrepare l (journal_of y) j.line j.operation j.distributor (was-job).state j.stamp) (sym on.lane) (done).still
 
-    job : IsJob y.lane y.rules (journal_of y) (record j { left = j.left - 1; phase = phase.Short })
+    job : IsJob x.state.lane x.state.rules (journal_of y) (spent j)
     job = record {
       state = (was-job).state;
-      acting = (still).acting;
-      under_way = ((still).knows).is_under_way;
+      acting = ((done).still).acting;
+      under_way = (((done).still).knows).is_under_way;
       key_is = (was-job).key_is;
-      key_in = subst (λ (l : Low). IsIn l (key_of j.operation.id)) (sym on.lane) (was-job).key_in;
+      key_in = (was-job).key_in;
       own = (was-job).own;
       plain = (was-job).plain;
+      row_is = subst (IsItsRow j.row) (sym (((done).still).knows).unprepared) (subst (IsItsRow j.row) (unprepared).unprepared (was-job).row_is);
       phase_is = tt;
     }
 
-    pub keeps-searched : IsKept y → HasRoom 0 y → AddsNoEntry (journal_of x.state) (journal_of y) → IsWork after
-    keeps-searched kept room adds = subst (λ (o : Option Job). IsWork (record { state = y; drawn = x.drawn; places = x.places; has_room = x.has_room; job = spent o })) (sym is)
-        (work-on x y x.places j (record j { left = j.left - 1; phase = phase.Short }) w is on kept room job tt (finds-grown (place_of x.places) x.state.journal.events.items y.journal.events.items adds w.finds))
+    legal-now : IsLegal (setting_of x.state.lane x.state.rules) (journal_of y)
+    legal-now = subst (λ (s : Rules). IsLegal (setting_of x.state.lane s) (journal_of y)) on.rules (subst (λ (l : Low). IsLegal (setting_of l y.rules) (journal_of y)) on.lane (kept.keeps).legal)
 
-    -- ---- what it comes to
+    jobs : AreJobs x.state.lane x.state.rules (journal_of y) (slice_set x.jobs.items at (spent j))
+    jobs = jobs-set x.state.lane x.state.rules J (journal_of y) x.jobs.items w.jobs_are ((w.kept).keeps).legal legal-now at j found (spent j) refl refl job tt
+        (λ b m got off. (done).others m.line m.operation.id
+        (off-line x.state.lane x.state.rules J (journal_of y) x.jobs.items w.jobs_are ((w.kept).keeps).legal legal-now at j found b m got off)
+        (off-document x.state.lane x.state.rules J (journal_of y) x.jobs.items w.jobs_are ((w.kept).keeps).legal legal-now at j found b m got off))
+        (done).begins (done).ends
 
-    comes-to : (end : Option Shortage) → FindsOr y j.line j.operation (was-job).state end → ComesToRow (record { state = y; drawn = x.drawn; places = x.places; has_room = x.has_room; job = spent (Some j) }) end
-    comes-to None h = record {
-      state = (was-job).state;
-      acting = (still).acting;
-      unprepared = ((still).knows).unprepared;
-      unwritten = ((still).knows).unwritten;
-      opened_is = h.opened_is;
-      stamped = (untouched).1;
-      lasts = let all = calls in omega (arith, all);
-      enough = h.enough;
-    }
-    comes-to (Some e) h = record { wanted = h.wanted; same = refl; legal = h.legal; unacked = unacked e }
+    module _ (m : Work) (state : m.state ≡ y) (drawn : m.drawn ≡ x.drawn) (places : m.places ≡ x.places) (room : m.has_room ≡ x.has_room) (items : m.jobs.items ≡ slice_set x.jobs.items at (spent j)) where
+      found-now : slice_get m.jobs.items at ≡ Some (spent j)
+      found-now = ap (λ (js : List Job). slice_get js at) items ∙ get-set x.jobs.items at j (spent j) found
 
-    pub comes-searched : (end : Option Shortage) → OfNew (λ line o s stamp. FindsOr y line o s end) → ComesToRow after end
-    comes-searched end h = subst (λ (o : Option Job). ComesToRow (record { state = y; drawn = x.drawn; places = x.places; has_room = x.has_room; job = spent o }) end) (sym is)
-        (comes-to end (of-new (λ line o s stamp. FindsOr y line o s end) h))
+      pub keeps-searched : HasRoom 0 y → AddsNoEntry J (journal_of y) → IsWork m
+      keeps-searched free adds = work-set x m w (subst (IsOnward x.state) (sym state) on) drawn room (subst IsKept (sym state) kept) (subst (HasRoom 0) (sym state) free)
+          (subst (λ (z : LaneState). AreJobs z.lane z.rules (journal_of z) m.jobs.items) (sym state) (subst (λ (js : List Job). AreJobs y.lane y.rules (journal_of y) js) (sym items)
+          (subst (λ (l : Low). AreJobs l y.rules (journal_of y) (slice_set x.jobs.items at (spent j))) (sym on.lane) (subst (λ (s : Rules). AreJobs x.state.lane s (journal_of y) (slice_set x.jobs.items at (spent j))) (sym on.rules) jobs))))
+          (ap length items ∙ set-length x.jobs.items at (spent j))
+          (subst (λ (z : LaneState). FindsEntries (place_of m.places) z.journal.events.items) (sym state) (subst (λ (p : StampPlaces). FindsEntries (place_of p) y.journal.events.items) (sym places)
+          (finds-grown (place_of x.places) x.state.journal.events.items y.journal.events.items adds w.finds)))
 
-    module _ (given now planned : List Fate) (takes : Bool) where
-      fewer : j.left - 1 < j.left
-      fewer = let all = calls in omega (arith, all)
+      -- ---- what it comes to
 
-      value_is : value_of (record { state = y; drawn = x.drawn; places = x.places; has_room = x.has_room; job = spent (Some j) }) now planned takes
-          ≡ with_run (value_of x given planned takes) (journal_of y) now (under_way_of j.line j.operation j.distributor progress.Short (j.left - 1))
-      value_is = rw (on.lane, on.rules, on.shelf) refl
+      comes-to : (end : Option Shortage) → FindsOr (search_from x.state) y j.line j.operation (was-job).state end → ComesToRow (search_from x.state) (record m { state = y }) at end
+      comes-to None h = (
+        spent j,
+        found-now,
+        record {
+          state = (was-job).state;
+          acting = (still).acting;
+          unprepared = ((still).knows).unprepared;
+          unwritten = ((still).knows).unwritten;
+          opened_is = h.opened_is;
+          stamped = (unprepared).stamped;
+          lasts = let all = calls in omega (arith, all);
+          enough = h.enough;
+        },
+      )
+      comes-to (Some e) h = record {
+        may = (spent j, found-now, record { same = refl; legal = h.legal; unacked = unacked e });
+        wanted = (spent j, found-now, h.wanted);
+      }
 
-      pub went-searched : OfNew (λ line o s stamp. GoesOnWith x.state y line o j.distributor s stamp) → WentAs progress.Short (under_way_in x.job) (value_of x given planned takes) (value_of after now planned takes)
-      went-searched h = subst (λ (o : Option Job). WentAs progress.Short (under_way_in o) (value_of x given planned takes) (value_of (record { state = y; drawn = x.drawn; places = x.places; has_room = x.has_room; job = spent o }) now planned takes)) (sym is)
-          (record { left = j.left - 1; fewer = fewer; after = value_is; run = (of-new (λ line o s stamp. GoesOnWith x.state y line o j.distributor s stamp) h).run })
+      pub comes-searched : (end : Option Shortage) → OfOwn (λ line o s stamp. FindsOr (search_from x.state) y line o s end) → ComesToRow (search_from x.state) m at end
+      comes-searched end h = subst (λ (z : LaneState). ComesToRow (search_from x.state) (record m { state = z }) at end) (sym state) (comes-to end (of-own (λ line o s stamp. FindsOr (search_from x.state) y line o s end) h))
 
-      pub cut-searched : OfNew (λ line o s stamp. IsCutOffWith x.state y line o j.distributor s stamp)
-          → IsAdvance (under_way_in x.job) (value_of x given planned takes) (value_of after now planned takes) advance.NoMemory
-      cut-searched h = subst (λ (o : Option Job). IsAdvance (under_way_in o) (value_of x given planned takes) (value_of (record { state = y; drawn = x.drawn; places = x.places; has_room = x.has_room; job = spent o }) now planned takes) advance.NoMemory) (sym is)
-          (record { left = j.left - 1; after = value_is; run = (of-new (λ line o s stamp. IsCutOffWith x.state y line o j.distributor s stamp) h).run })
+      module _ (given now planned : List Fate) (takes : Bool) where
+        value-is : value_of m now planned takes ≡ with_run (value_of x given planned takes) (journal_of y) now at (under_way_at (spent j))
+        value-is = value-set x m given now planned takes at (spent j) (ap (λ (z : LaneState). z.lane) state ∙ on.lane) (ap (λ (z : LaneState). z.rules) state ∙ on.rules) (ap (λ (z : LaneState). z.shelf) state ∙ on.shelf) room items
+            ∙ ap (λ (z : LaneState). with_run (value_of x given planned takes) (journal_of z) now at (under_way_at (spent j))) state
+
+        same-journal : (value_of m now planned takes).journal ≡ journal_of y
+        same-journal = ap journal_of state
+
+        pub went-searched : IsFree (under_way_at j) (value_of x given planned takes) → OfOwn (λ line o s stamp. GoesOnWith (search_from x.state) x.state y line o j.distributor s stamp) → WentAt at (value_of x given planned takes) (value_of m now planned takes)
+        went-searched free h = (
+          under_way_at j,
+          get-map under_way_at x.jobs.items at j found,
+          record {
+            free = free;
+            left = j.left - 1;
+            fewer = (let all = calls in omega (arith, all));
+            after = subst (λ (K : List LaneEvent). value_of m now planned takes ≡ with_run (value_of x given planned takes) K now at (under_way_at (spent j))) (sym same-journal) value-is;
+            run = subst (λ (K : List LaneEvent). IsRunSince x.state.lane x.state.rules j.line j.operation (history J) J K) (sym same-journal) (of-own (λ line o s stamp. GoesOnWith (search_from x.state) x.state y line o j.distributor s stamp) h).run;
+          },
+        )
+
+        pub cut-searched : OfOwn (λ line o s stamp. IsCutOffWith (search_from x.state) x.state y line o j.distributor s stamp) → AdvancesAt at (value_of x given planned takes) (value_of m now planned takes) advance.NoMemory
+        cut-searched h = (
+          under_way_at j,
+          get-map under_way_at x.jobs.items at j found,
+          record {
+            left = j.left - 1;
+            after = subst (λ (K : List LaneEvent). value_of m now planned takes ≡ with_run (value_of x given planned takes) K now at (under_way_at (spent j))) (sym same-journal) value-is;
+            run = subst (λ (K : List LaneEvent). IsCutRunSince x.state.lane x.state.rules j.line j.operation (history J) J K) (sym same-journal) (of-own (λ line o s stamp. IsCutOffWith (search_from x.state) x.state y line o j.distributor s stamp) h).run;
+          },
+        )
 
 -- ---- the whole call
 
+-- what stands at the place after the search
+at-place : (a b : LaneValue) (at : ℕ) (h : WentAt at a b) → slice_get b.under_way at ≡ Some (under_way_of h.0.line h.0.operation h.0.distributor progress.Short (h.2).left)
+at-place a b at h = ap (λ (v : LaneValue). slice_get v.under_way at) (h.2).after ∙ get-set a.under_way at h.0 (under_way_of h.0.line h.0.operation h.0.distributor progress.Short (h.2).left) h.1
+
+again : (a b c : LaneValue) (at : ℕ) (u w : UnderWay) (J : List LaneEvent) → b ≡ with_run a b.journal b.given at u → c ≡ with_run b J b.given at w → c ≡ with_run a J b.given at w
+again a b c at u w J first next = next ∙ ap (λ (v : LaneValue). with_run v J b.given at w) first ∙ ap (λ (us : List UnderWay). record a { journal = J; given = b.given; under_way = us }) (set-twice a.under_way at u w)
+
+settled : (a c : LaneValue) (at : ℕ) (w : UnderWay) (J : List LaneEvent) (given : List Fate) → c ≡ with_run a J given at w → c ≡ with_run a c.journal c.given at w
+settled a c at w J given e = e ∙ (λ i. with_run a (sym (ap (λ (v : LaneValue). v.journal) e) i) (sym (ap (λ (v : LaneValue). v.given) e) i) at w)
+
 -- it is prepared in the row
-pub prepared-so : (o : Option UnderWay) (a b c : LaneValue) → WentAs progress.Short o a b → PreparesNext b c → IsAdvance o a c advance.More
-prepared-so None a b c h p = absurd h
-prepared-so (Some u) a b c h p = subst (λ (z : LaneValue). WentOn u progress.Runs a z) (sym (by_value).after) (record {
-  left = h.left;
-  fewer = h.fewer;
-  after = refl;
-  run = More (Prepared u.line (by_value).row.bucket (by_value).row.complete) b.journal h.run (inr (by_value).wanted);
-})
+pub prepared-so : (at : ℕ) (a b c : LaneValue) → WentAt at a b → PreparesAt at b c → AdvancesAt at a c advance.More
+prepared-so at a b c h p = (
+  h.0,
+  h.1,
+  (
+    record {
+      free = (h.2).free;
+      left = (h.2).left;
+      fewer = (h.2).fewer;
+      after = settled a c at (under_way_of h.0.line h.0.operation h.0.distributor progress.Runs (h.2).left) _ b.given whole;
+      run = subst (λ (K : List LaneEvent). IsRunSince a.lane a.rules h.0.line h.0.operation (history a.journal) a.journal K) (sym grown)
+          (Longer (Prepared h.0.line (q).row.bucket (q).row.complete) b.journal (h.2).run (inr wanted));
+    },
+    (q).there,
+  ),
+)
   where
-    by_value : PreparesOf (under_way_of u.line u.operation u.distributor progress.Short h.left) (with_run a b.journal b.given (under_way_of u.line u.operation u.distributor progress.Short h.left)) c
-    by_value = subst (λ (z : LaneValue). PreparesBy z.under_way z c) h.after p
+    short : UnderWay
+    short = under_way_of h.0.line h.0.operation h.0.distributor progress.Short (h.2).left
+
+    q : PreparesOf at short b c
+    q = subst (λ (u : UnderWay). PreparesOf at u b c) (get-one b.under_way at p.0 short p.1 (at-place a b at h)) p.2
+
+    grown : c.journal ≡ Prepared h.0.line (q).row.bucket (q).row.complete ∷ b.journal
+    grown = ap (λ (v : LaneValue). v.journal) (q).after
+
+    whole : c ≡ with_run a (Prepared h.0.line (q).row.bucket (q).row.complete ∷ b.journal) b.given at (under_way_of h.0.line h.0.operation h.0.distributor progress.Runs (h.2).left)
+    whole = again a b c at short (under_way_of h.0.line h.0.operation h.0.distributor progress.Runs (h.2).left) _ (h.2).after (q).after
+
+    wanted : WantsSince a.lane a.rules h.0.line h.0.operation (history a.journal) b.journal (Adds (Prepared h.0.line (q).row.bucket (q).row.complete))
+    wanted = subst (λ (l : Low). WantsSince l a.rules h.0.line h.0.operation (history a.journal) b.journal (Adds (Prepared h.0.line (q).row.bucket (q).row.complete))) (ap (λ (v : LaneValue). v.lane) (h.2).after)
+        (subst (λ (s : Rules). WantsSince b.lane s h.0.line h.0.operation (history a.journal) b.journal (Adds (Prepared h.0.line (q).row.bucket (q).row.complete))) (ap (λ (v : LaneValue). v.rules) (h.2).after) ((q).wanted (history a.journal)))
 
 -- memory was wanted
-pub cut-so : (o : Option UnderWay) (a b c : LaneValue) → WentAs progress.Short o a b → c ≡ b → IsAdvance o a c advance.NoMemory
-cut-so None a b c h e = absurd h
-cut-so (Some u) a b c h e = subst (λ (z : LaneValue). WasCut u a z) (sym e) (record { left = h.left; after = h.after; run = (b.journal, h.run, inl refl) })
+pub cut-so : (at : ℕ) (a b c : LaneValue) → WentAt at a b → c ≡ b → AdvancesAt at a c advance.NoMemory
+cut-so at a b c h e = subst (λ (z : LaneValue). AdvancesAt at a z advance.NoMemory) (sym e) (h.0, h.1, record { left = (h.2).left; after = (h.2).after; run = (b.journal, (h.2).run, inl refl) })
 
 -- it is over
-pub fell-so : (o : Option UnderWay) (a b c : LaneValue) (x : Outcome) → WentAs progress.Short o a b → EndsIn b.under_way b x → c ≡ record b { under_way = is_over b.under_way } → IsAdvance o a c advance.Done
-fell-so None a b c x h w e = absurd h
-fell-so (Some u) a b c x h w e = subst (λ (z : LaneValue). IsAdvance (Some u) a z advance.Done) (sym value) (record { left = h.left; fewer = h.fewer; after = refl; run = h.run }, (x, ends))
+pub fell-so : (at : ℕ) (a b c : LaneValue) (x : Outcome) → WentAt at a b → ((u : UnderWay) → slice_get a.under_way at ≡ Some u → IsEndSince a.lane a.rules u.line u.operation (history a.journal) b.journal x) → OverAt at x b c → AdvancesAt at a c advance.Done
+fell-so at a b c x h end o = (
+  h.0,
+  h.1,
+  (
+    x,
+    record {
+      free = (h.2).free;
+      left = (h.2).left;
+      fewer = (h.2).fewer;
+      after = settled a c at (under_way_of h.0.line h.0.operation h.0.distributor (progress.Over x) (h.2).left) b.journal b.given whole;
+      run = subst (λ (K : List LaneEvent). IsRunSince a.lane a.rules h.0.line h.0.operation (history a.journal) a.journal K) (sym same) (h.2).run;
+    },
+    subst (λ (K : List LaneEvent). IsEndSince a.lane a.rules h.0.line h.0.operation (history a.journal) K x) (sym same) (end h.0 h.1),
+  ),
+)
   where
-    value : c ≡ record (with_run a b.journal b.given (under_way_of u.line u.operation u.distributor progress.Short h.left)) { under_way = is_over (Some (under_way_of u.line u.operation u.distributor progress.Short h.left)) }
-    value = subst (λ (z : LaneValue). c ≡ record z { under_way = is_over z.under_way }) h.after e
+    short : UnderWay
+    short = under_way_of h.0.line h.0.operation h.0.distributor progress.Short (h.2).left
 
-    ends : IsEnd a.lane a.rules u.line u.operation b.journal x
-    ends = subst (λ (z : LaneValue). EndsIn z.under_way z x) h.after w
+    over : c ≡ with_run b b.journal b.given at (under_way_of short.line short.operation short.distributor (progress.Over x) short.left)
+    over = subst (λ (u : UnderWay). c ≡ with_run b b.journal b.given at (under_way_of u.line u.operation u.distributor (progress.Over x) u.left)) (get-one b.under_way at o.0 short o.1 (at-place a b at h)) o.2
 
-pub ends-in : (m : Work) (given planned : List Fate) (takes : Bool) (x t : Outcome) → MayFallShort m.state m.job x t → EndsIn (under_way_in m.job) (value_of m given planned takes) x
-ends-in m given planned takes x t h = by_job m.job h
-  where
-    by_job : (o : Option Job) → MayFallShort m.state o x t → EndsIn (under_way_in o) (value_of m given planned takes) x
-    by_job None h = absurd h
-    by_job (Some j) h = h.wanted
+    whole : c ≡ with_run a b.journal b.given at (under_way_of h.0.line h.0.operation h.0.distributor (progress.Over x) (h.2).left)
+    whole = again a b c at short (under_way_of h.0.line h.0.operation h.0.distributor (progress.Over x) (h.2).left) b.journal (h.2).after over
+
+    same : c.journal ≡ b.journal
+    same = ap (λ (v : LaneValue). v.journal) whole
+
+-- what was found, wanted by the operation that was under way
+module _ (x y : Work) (at : ℕ) (given now planned : List Fate) (takes : Bool) (went : WentAt at (value_of x given planned takes) (value_of y now planned takes)) where
+  abbrev before : LaneValue
+  before = value_of x given planned takes
+
+  abbrev later : LaneValue
+  later = value_of y now planned takes
+
+  abbrev w : UnderWay
+  w = went.0
+
+  abbrev Wants : Low → Rules → UnderWay → Outcome → Type 0
+  Wants l r v o = IsEndSince l r v.line v.operation (history before.journal) (journal_of y.state) o
+
+  wanted-end : (e : Shortage) (j : Job) → slice_get y.jobs.items at ≡ Some j → Wants y.state.lane y.state.rules (under_way_at j) (outcome_of e) → (u : UnderWay) → slice_get before.under_way at ≡ Some u → Wants before.lane before.rules u (outcome_of e)
+  wanted-end e j there end u got =
+      let here : under_way_at j ≡ under_way_of w.line w.operation w.distributor progress.Short (went.2).left
+      = get-one later.under_way at (under_way_at j) (under_way_of w.line w.operation w.distributor progress.Short (went.2).left) (get-map under_way_at y.jobs.items at j there) (at-place before later at went) in
+      let one : w ≡ u = get-one before.under_way at w u went.1 got in
+      subst (λ (v : UnderWay). Wants before.lane before.rules v (outcome_of e)) one
+      (subst (λ (l : Low). Wants l before.rules w (outcome_of e)) (ap (λ (v : LaneValue). v.lane) (went.2).after)
+      (subst (λ (r : Rules). Wants y.state.lane r w (outcome_of e)) (ap (λ (v : LaneValue). v.rules) (went.2).after)
+      (subst (λ (v : UnderWay). Wants y.state.lane y.state.rules v (outcome_of e)) here end)))
+
+  pub wants-short : (end : Option Shortage) → ComesToRow (search_from x.state) y at end → WantsShort before at later end
+  wants-short None h = tt
+  wants-short (Some e) h = λ u got. wanted-end e (h.wanted).0 (h.wanted).1 (h.wanted).2 u got

@@ -55,6 +55,10 @@ module _ (asks : (t : Standing) (m : Message) → next_at t ≡ Asks m → 1 ≤
   }
   comes-by phase.Short advance.NoMemory h = tt
   comes-by phase.Begun advance.More h = absurd h
+  comes-by phase.Begun (advance.Waits by) h = absurd h
+  comes-by (phase.Prepared m r w) (advance.Waits by) h = absurd h
+  comes-by (phase.Over outcome said answered) (advance.Waits by) h = absurd h
+  comes-by phase.Short (advance.Waits by) h = absurd h
   comes-by phase.Begun advance.Done h = absurd h
   comes-by phase.Begun advance.NoMemory h = absurd h
   comes-by (phase.Prepared m r w) advance.Done h = absurd h

@@ -1,5 +1,5 @@
 -- What an upkeep's answer says of the lane's value.
-use Rattle.std.proofs.Common.{◌≡◌, ◌⊎◌, ◌≤◌, ◌+◌, ℕ, Bool, true, false, List, [], ◌∷◌, ◌++◌, length, Option, Some, None, if◌then◌else◌, inl, inr, refl, sym, ap, subst, ◌∙◌, arith, length-append}
+use Rattle.std.proofs.Common.{◌≡◌, ◌⊎◌, ◌≤◌, ◌+◌, ℕ, Bool, true, false, List, [], ◌∷◌, ◌++◌, length, Option, Some, None, slice_get, if◌then◌else◌, inl, inr, refl, sym, ap, subst, ◌∙◌, arith, length-append}
 use Rattle.carriers.specs.declared.fate.Fate.{Fate}
 use Rattle.cluster_states.specs.declared.cluster_state.ClusterState.{ClusterState}
 use Rattle.lane_journals.specs.Readers.{held, returned}
@@ -17,12 +17,12 @@ use Rattle.upkeep_spans.specs.Causes.{first_absent, cause_of, IsCause, IsUndistu
 use Rattle.upkeep_spans.proofs.Leaving.{before}
 use Rattle.upkeep_spans.proofs.Rested.{all_back, was_undisturbed}
 use Rattle.upkeep_spans.proofs.Seeing.{length-past}
-use Rattle.lane_lives.specs.LaneValues.{LaneValue}
-use Rattle.lane_lives.specs.declared.progress.UnderWay.{UnderWay}
+use Rattle.lane_lives.specs.LaneValues.{LaneValue, OfFirst, IsAny}
+use Rattle.lane_core.specs.declared.work.Job.{Job}
 use Rattle.lane_core.specs.declared.work.Work.{Work}
-use Rattle.lane_core.specs.Works.{value_of, under_way_in}
+use Rattle.lane_core.specs.Works.{value_of, under_way_at, under_way_in}
 use Rattle.lane_core.specs.Upkeeping.{MaintainsBy, MayMaintain, OpensBy, RestsBy}
-use Rattle.lane_lives.specs.Upkept.{Maintains, IsHeldBy, HasOpened, IsLaneAtRest, IsUpkept}
+use Rattle.lane_lives.specs.Upkept.{Maintains, HasOpened, HaveRun, IsLaneAtRest, IsUpkept}
 
 -- ---- the answer
 
@@ -31,10 +31,10 @@ not-held by (Some n) absent e = Prim.cc
 not-held by None (Some n) e = Prim.cc
 not-held by None None e = Prim.cc
 
-pub upkept-told : (old new : LaneValue) (answer : Upkeep) → old.under_way ≡ None → Maintains old new → (first_absent (λ n. returned n (history new.journal)) (later (length old.journal) new.journal) ≡ None → HasOpened new.journal) → (IsUndisturbed new.given old.journal new.journal → IsLaneAtRest new) → (answer ≡ NoMemory) ⊎ IsCause new.given (length old.journal) new.journal answer → IsUpkept old new answer
+pub upkept-told : (old new : LaneValue) (answer : Upkeep) → old.under_way ≡ [] → Maintains old new → (first_absent (λ n. returned n (history new.journal)) (later (length old.journal) new.journal) ≡ None → HasOpened new.journal × HaveRun new.journal) → (IsUndisturbed new.given old.journal new.journal → IsLaneAtRest new) → (answer ≡ NoMemory) ⊎ IsCause new.given (length old.journal) new.journal answer → IsUpkept old new answer
 upkept-told old new NoMemory idle m f g t = (idle, inr m)
 upkept-told old new Rested idle m f g (inl e) = Prim.cc
-upkept-told old new Rested idle m f g (inr c) = (idle, m, c, f (all_back _ _ c), g (was_undisturbed _ _ _ c))
+upkept-told old new Rested idle m f g (inr c) = (idle, m, c, (f (all_back _ _ c)).0, (f (all_back _ _ c)).1, g (was_undisturbed _ _ _ c))
 upkept-told old new (Blocked n) idle m f g (inl e) = Prim.cc
 upkept-told old new (Blocked n) idle m f g (inr c) = (idle, m, c)
 upkept-told old new (Disturbed n) idle m f g (inl e) = Prim.cc
@@ -88,19 +88,31 @@ cause-of xs K given answer t = subst (λ (n : ℕ). (answer ≡ NoMemory) ⊎ Is
 
 -- ---- an operation under way
 
-pub held-by : (o : Option UnderWay) (u : UnderWay) → o ≡ Some u → IsHeldBy u.line o
-held-by None u e = Prim.cc
-held-by (Some w) u e = let same : w ≡ u = cc in ap (λ (z : UnderWay). z.line) same
+-- without a first one there is none
+pub none-there : (jobs : List Job) → slice_get jobs 0 ≡ None → jobs ≡ []
+none-there [] h = refl
+none-there (j ∷ jobs) h = absurd (cc)
+
+-- the first of them is of any
+pub held-first : (jobs : List Job) (j : Job) → slice_get jobs 0 ≡ Some j → OfFirst IsAny (under_way_in jobs) j.line
+held-first [] j h = absurd (cc)
+held-first (k ∷ jobs) j h = record {
+  at = 0;
+  operation = under_way_at k;
+  place = record { found = refl; line_is = (let same : k ≡ j = cc in ap (λ (z : Job). z.line) same) };
+  is = tt;
+  first = λ n u less found none. absurd (omega (arith, less));
+}
 
 -- ---- want of memory
 
-pub upkept-short : (x y : Work) (given now planned : List Fate) (takes : Bool) → x.job ≡ None → MayMaintain x y given now → IsUpkept (value_of x given planned takes) (value_of y now planned takes) NoMemory
+pub upkept-short : (x y : Work) (given now planned : List Fate) (takes : Bool) → x.jobs.items ≡ [] → MayMaintain x y given now → IsUpkept (value_of x given planned takes) (value_of y now planned takes) NoMemory
 upkept-short x y given now planned takes idle (inl same) = (ap under_way_in idle, inl (ap (λ (g : List Fate). value_of y g planned takes) same.1 ∙ same.0 given planned takes))
 upkept-short x y given now planned takes idle (inr m) = (ap under_way_in idle, inr (m planned takes))
 
 -- ---- the lane's value behind its view
 
-pub lane-told : (x y : Work) (given now p q : List Fate) (t u : Bool) (v : LaneValue) (answer result : Upkeep) (from : ℕ) → value_of x given p t ≡ v → q ≡ p → u ≡ t → x.job ≡ None → from ≡ length x.state.journal.events.items → MaintainsBy x y given now → OpensBy x y → RestsBy x y now
+pub lane-told : (x y : Work) (given now p q : List Fate) (t u : Bool) (v : LaneValue) (answer result : Upkeep) (from : ℕ) → value_of x given p t ≡ v → q ≡ p → u ≡ t → x.jobs.items ≡ [] → from ≡ length x.state.journal.events.items → MaintainsBy x y given now → OpensBy x y → RestsBy x y now
     → (answer ≡ NoMemory) ⊎ IsCause now from (journal_of y.state) answer → result ≡ answer → IsUpkept v (value_of y now q u) result
 lane-told x y given now p q t u v answer result from view planned kind idle at m opens rests told is =
     subst (λ (o : LaneValue). IsUpkept o (value_of y now q u) result) view
@@ -110,7 +122,7 @@ lane-told x y given now p q t u v answer result from view planned kind idle at m
     (upkept-told (value_of x given p t) (value_of y now p t) answer (ap under_way_in idle) (m p t) opens rests
     (cause-of x.state.journal.events.items (journal_of y.state) now answer (subst (λ (n : ℕ). (answer ≡ NoMemory) ⊎ IsCause now n (journal_of y.state) answer) at told))))))
 
-pub lane-short : (x y : Work) (given now p q : List Fate) (t u : Bool) (v : LaneValue) (result : Upkeep) → value_of x given p t ≡ v → q ≡ p → u ≡ t → x.job ≡ None → MayMaintain x y given now → result ≡ NoMemory → IsUpkept v (value_of y now q u) result
+pub lane-short : (x y : Work) (given now p q : List Fate) (t u : Bool) (v : LaneValue) (result : Upkeep) → value_of x given p t ≡ v → q ≡ p → u ≡ t → x.jobs.items ≡ [] → MayMaintain x y given now → result ≡ NoMemory → IsUpkept v (value_of y now q u) result
 lane-short x y given now p q t u v result view planned kind idle m is =
     subst (λ (o : LaneValue). IsUpkept o (value_of y now q u) result) view
     (subst (λ (a : Upkeep). IsUpkept (value_of x given p t) (value_of y now q u) a) (sym is)

@@ -25,11 +25,11 @@ use Rattle.upkeep_spans.specs.Scans.{ArePlaced}
 use Rattle.upkeep_spans.specs.declared.answers.Upkeep.{Upkeep}
 use Rattle.upkeep_spans.specs.declared.answers.Upkeep.TheVariants.{Rested, Blocked, Disturbed, Held, NoMemory}
 use Rattle.upkeep_spans.proofs.Placing.{placed}
-use Rattle.lane_lives.specs.LaneValues.{LaneValue, IsLaneValue}
-use Rattle.lane_lives.specs.declared.progress.UnderWay.{UnderWay}
-use Rattle.lane_lives.specs.Upkept.{Maintains, IsHeldBy, IsUpkept}
+use Rattle.lane_lives.specs.LaneValues.{LaneValue, IsLaneValue, IsAny}
+use Rattle.lane_lives.specs.Upkept.{Maintains, IsUpkept}
 use Rattle.lane_core.specs.Undisturbed.{IsUndisturbed}
 use Rattle.lane_core.proofs.Newest.{newest_is}
+use Rattle.lane_core.proofs.Running.{none-first}
 
 abbrev Events : Type 0
 Events = List LaneEvent
@@ -270,7 +270,7 @@ pub undisturbed : OfCarried (λ given J. last_sent J ≡ length given)
     → OfUpkeep (λ J K. (v : ℕ) → state_in v K ≡ state_in v J)
     → OfUpkeep (λ J K. (n : ℕ) → stopped n (history K) ≡ stopped n (history J))
     → (old new : LaneValue) (answer : Upkeep) → IsLaneValue old → IsLaneValue new → IsUpkept old new answer → IsUndisturbed old new → (answer ≡ Rested) ⊎ (answer ≡ NoMemory)
-undisturbed last back serve behind states stops old new (Held by) was is h u = absurd (subst (λ (o : Option UnderWay). IsHeldBy by o) u.idle h.0)
+undisturbed last back serve behind states stops old new (Held by) was is h u = absurd (none-first IsAny old.under_way by u.idle h.0)
 undisturbed last back serve behind states stops old new NoMemory was is h u = inr refl
 undisturbed last back serve behind states stops old new Rested was is h u = inl refl
 undisturbed last back serve behind states stops old new (Blocked n) was is h u = inl (rested last back serve behind states stops old new was is h.1 u (Blocked n) h.2)

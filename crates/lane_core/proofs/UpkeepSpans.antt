@@ -1,5 +1,5 @@
 -- The span of an upkeep that a lane made.
-use Rattle.std.proofs.Common.{◌≡◌, ◌⊎◌, ℕ, List, length, None, inl, inr, sym, ap, ◌∙◌, subst}
+use Rattle.std.proofs.Common.{◌≡◌, ◌⊎◌, ℕ, List, [], length, inl, inr, sym, ap, ◌∙◌, subst}
 use Rattle.std.proofs.lemmas.List.{length-reverse}
 use Rattle.lane_journals.specs.KeptJournals.{past}
 use Rattle.lane_journals.specs.declared.event.LaneEvent.{LaneEvent}
@@ -25,7 +25,7 @@ abbrev pub IsTold : Upkeep → Type 0
 IsTold answer = (answer ≡ Rested) ⊎ (((n : ℕ) × (answer ≡ Blocked n)) ⊎ ((n : ℕ) × (answer ≡ Disturbed n)))
 
 -- a lane that is so is undisturbed
-calm_is : (old new : LaneValue) → old.under_way ≡ None → WasCalm old.journal new.journal old.given new.given → IsUndisturbed old new
+calm_is : (old new : LaneValue) → old.under_way ≡ [] → WasCalm old.journal new.journal old.given new.given → IsUndisturbed old new
 calm_is old new idle h = record { idle = idle; state = h.state; newest = h.newest; run = h.run; answered = h.answered; unlate = h.unlate }
 
 -- such an answer is no want of memory
@@ -46,7 +46,7 @@ module _ (old new : LaneValue) (shown now : List LaneEvent) (before : past shown
   from_is = sym (length-past shown) ∙ ap length before
 
   -- what an upkeep with such an answer made
-  by_answer : (answer : Upkeep) → IsTold answer → IsUpkept old new answer → (old.under_way ≡ None) × (Maintains old new × IsCause new.given (length old.journal) new.journal answer)
+  by_answer : (answer : Upkeep) → IsTold answer → IsUpkept old new answer → (old.under_way ≡ []) × (Maintains old new × IsCause new.given (length old.journal) new.journal answer)
   by_answer answer (inl is) upkept = let u = subst (IsUpkept old new) is upkept in (u.0, (u.1, subst (IsCause new.given (length old.journal) new.journal) (sym is) u.2))
   by_answer answer (inr (inl is)) upkept = let u = subst (IsUpkept old new) is.1 upkept in (u.0, (u.1, subst (IsCause new.given (length old.journal) new.journal) (sym is.1) u.2))
   by_answer answer (inr (inr is)) upkept = let u = subst (IsUpkept old new) is.1 upkept in (u.0, (u.1, subst (IsCause new.given (length old.journal) new.journal) (sym is.1) u.2))
@@ -58,5 +58,6 @@ module _ (old new : LaneValue) (shown now : List LaneEvent) (before : past shown
     to = sym (length-past now) ∙ ap length after;
     cause = subst (λ n. IsCause new.given n new.journal answer) (sym from_is) u.1.1;
     rests = λ calm. remembers answer told (rests (calm_is old new u.0 calm));
-    at_rest = λ is. (subst (IsUpkept old new) is upkept).4;
+    run = λ is. (subst (IsUpkept old new) is upkept).4;
+    at_rest = λ is. (subst (IsUpkept old new) is upkept).5;
   }

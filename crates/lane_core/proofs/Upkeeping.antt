@@ -1,15 +1,16 @@
 -- A lane's work after an upkeep, and its value.
-use Rattle.std.proofs.Common.{◌≡◌, ◌≢◌, ◌≤◌, ◌<◌, ℕ, Bool, true, false, not, nat_eq, List, [], ◌∷◌, ◌++◌, length, Option, Some, None, if◌then◌else◌, IfSome, refl, sym, ap, subst, ◌∙◌, arith, vec_len, Result, Ok, Err, OnOk, OnErr}
+use Rattle.std.proofs.Common.{◌≡◌, ◌≢◌, ◌≤◌, ◌<◌, ℕ, Bool, true, false, not, nat_eq, List, [], ◌∷◌, ◌++◌, length, Option, Some, None, slice_get, inl, inr, if◌then◌else◌, IfSome, refl, sym, ap, subst, ◌∙◌, arith, vec_len, Result, Ok, Err, OnOk, OnErr}
 use Rattle.std.proofs.lemmas.Bool.Decides.{nat_tests}
 use Rattle.std.proofs.lemmas.List.{append_assoc}
 use Rattle.bucket_ids.specs.Buckets.{Low}
+use Rattle.cluster_states.specs.Publishing.{serves}
 use Rattle.cluster_states.specs.declared.cluster_state.ClusterState.{ClusterState}
 use Rattle.carriers.specs.declared.fate.Fate.{Fate}
 use Rattle.distributor_part.specs.declared.rules.Rules.{Rules}
 use Rattle.distributor_part.specs.Parts.{Part}
 use Rattle.ideal_nodes.specs.Placement.{IsOwner}
 use Rattle.lane_journals.specs.Facts.{IsOpen, AllClosed}
-use Rattle.lane_journals.specs.Readers.{Beginning, Preparing, or_else, only_if, began, closed, stamps_of, held, opened, returned}
+use Rattle.lane_journals.specs.Readers.{Beginning, Preparing, or_else, only_if, began, closed, stamps_of, held, opened, stopped, returned}
 use Rattle.lane_keeping.specs.Acting.{IsActing}
 use Rattle.lane_journals.specs.Meanings.{history}
 use Rattle.lane_journals.specs.declared.event.LaneEvent.{LaneEvent}
@@ -32,7 +33,7 @@ use Rattle.lane_lives.specs.LaneValues.{LaneValue}
 use Rattle.lane_core.specs.Upkeeping.{MaintainsBy, OpensBy, RestsBy}
 use Rattle.lane_core.specs.declared.work.Work.{Work}
 use Rattle.lane_core.specs.declared.work.Job.{Job}
-use Rattle.lane_core.specs.Works.{IsWork, JobKeeps, JobLasts, value_of}
+use Rattle.lane_core.specs.Works.{IsWork, AreJobs, value_of}
 
 -- ---- the span
 
@@ -70,13 +71,32 @@ all-rest x y d lane rules rests others r n = by_test (nat_eq n d) refl
 
 -- ---- the work
 
+-- without operations under way each line that was begun is closed
+no-item : (at : ℕ) (j : Job) → ◌≡◌ {A = Option Job} (slice_get [] at) (Some j) → ⊥
+no-item at j h = cc
+
+jobs-closed : (x : Work) → IsWork x → x.jobs.items ≡ [] → AllClosed (history (journal_of x.state))
+jobs-closed x w idle line begin begun = elim ((subst (λ (js : List Job). AreJobs x.state.lane x.state.rules (journal_of x.state) js) idle w.jobs_are).others line begin begun) [
+  | inl closed_is ↦ closed_is
+  | inr there ↦ absurd (no-item there.0 there.1 there.2)
+]
+
+no-jobs : (lane : Low) (rules : Rules) (J : List LaneEvent) → AllClosed (history J) → AreJobs lane rules J []
+no-jobs lane rules J all = record {
+  each = λ at j h. absurd (no-item at j h);
+  lasts = λ at j h. absurd (no-item at j h);
+  lines_apart = λ a b j k h. absurd (no-item a j h);
+  documents_apart = λ a b j k h. absurd (no-item a j h);
+  others = λ line begin begun. inl (all line begin begun);
+}
+
 -- what stays of lines over a span
 pub record Leaves (J K : List LaneEvent) : Type 0 where
   pub begun : (line : ℕ) → began line (history K) ≡ began line (history J)
   pub ended : (line : ℕ) → closed line (history K) ≡ closed line (history J)
   pub stamps : (v : ℕ) → stamps_of v (history K) ≡ stamps_of v (history J)
 
-pub work-passed : (x : Work) (y : LaneState) (o : Owner) (now : List Fate) → IsWork x → x.job ≡ None → Leaves (journal_of x.state) (journal_of y) → IsBetween y o now → PassesOn x.state y o → IsWork (record x { state = y })
+pub work-passed : (x : Work) (y : LaneState) (o : Owner) (now : List Fate) → IsWork x → x.jobs.items ≡ [] → Leaves (journal_of x.state) (journal_of y) → IsBetween y o now → PassesOn x.state y o → IsWork (record x { state = y })
 work-passed x y o now w idle leaves b on =
     let lane : y.lane ≡ x.state.lane = ap (λ (z : LaneState). z.lane) on.after in
     let rules : y.rules ≡ x.state.rules = ap (λ (z : LaneState). z.rules) on.after in
@@ -88,18 +108,18 @@ work-passed x y o now w idle leaves b on =
       room = b.spare;
       spare_is = spare ∙ w.spare_is;
       parted = λ made. let all = w.parted made in let same = on.parts in omega (arith, all, same);
+      placed = λ made. ap (λ (z : LaneState). z.turn_room) on.after ∙ w.placed made;
       resting = all-rest x.state y o.distributor lane rules b.resting on.others w.resting;
       newest_is = newest ∙ w.newest_is ∙ sym (newest-span o.distributor (o.state).version (journal_of x.state) (journal_of y) on.grows);
       counts_are = λ v. w.counts_are v ∙ sym (leaves.stamps v);
       no_round = b.none_runs;
-      job_is = subst (λ (j : Option Job). JobKeeps y.lane y.rules (journal_of y) j) (sym idle)
-          (all-closed (journal_of x.state) (journal_of y) leaves.begun leaves.ended (subst (λ (j : Option Job). JobKeeps x.state.lane x.state.rules (journal_of x.state) j) idle w.job_is));
-      lasts = subst JobLasts (sym idle) tt;
+      jobs_are = subst (λ (js : List Job). AreJobs y.lane y.rules (journal_of y) js) (sym idle)
+          (no-jobs y.lane y.rules (journal_of y) (all-closed (journal_of x.state) (journal_of y) leaves.begun leaves.ended (jobs-closed x w idle)));
       finds = finds-grown _ x.state.journal.events.items y.journal.events.items (adds-span o.distributor (o.state).version (journal_of x.state) (journal_of y) on.grows) w.finds;
     }
 
 -- between two lines the owner may make a pass
-pub between-work : (x : Work) (o : Owner) (given : List Fate) → IsWork x → x.job ≡ None → IsCarriedBy x.state given → o.distributor < vec_len x.state.parts → IsActing x.state.lane (journal_of x.state) o.distributor o.state → IsBetween x.state o given
+pub between-work : (x : Work) (o : Owner) (given : List Fate) → IsWork x → x.jobs.items ≡ [] → IsCarriedBy x.state given → o.distributor < vec_len x.state.parts → IsActing x.state.lane (journal_of x.state) o.distributor o.state → IsBetween x.state o given
 between-work x o given w idle carried there acting = record {
   keeps = w.kept;
   spare = w.room;
@@ -112,7 +132,7 @@ between-work x o given w idle carried there acting = record {
 }
   where
     all : AllClosed (history (journal_of x.state))
-    all = subst (λ (j : Option Job). JobKeeps x.state.lane x.state.rules (journal_of x.state) j) idle w.job_is
+    all = jobs-closed x w idle
 
     open-closed : (line : ℕ) (begin : Beginning) (p : Preparing) (v : ℕ) → IsOpen v line begin p (history (journal_of x.state)) → ⊥
     open-closed line begin p v is = let wrong : true ≡ false = sym (all line begin is.began) ∙ is.unclosed in Prim.cc
@@ -137,7 +157,7 @@ maintains-by x h y o given now newest owner heard grows after on = λ planned ta
         ap (λ (w : Work). value_of w now planned takes) after
         ∙ ap (λ (z : LaneState). record (value_of (record h { state = z }) given planned takes) { journal = journal_of y.state; given = now }) on.after
 
--- ---- the state is opened
+-- ---- the state is opened, and nodes ran
 
 late-end : (given : List Fate) (d v : ℕ) (N : List LaneEvent) → first_late given (N ++ (event.Heard d v ∷ [])) ≡ first_late given N
 late-end given d v [] = refl
@@ -170,17 +190,19 @@ module _ (span : OfUpkeep (λ J K. K ≡ later (length J) K ++ J)) (behind : (J 
       by_test false = refl
 
   pub opens-by : {X E : Type 0} (r : Result X E) (x h y : Work) (o : Owner) → last_state (journal_of x.state) ≡ Some o.state → journal_of h.state ≡ heard_next o.distributor (Some o.state) (journal_of x.state) → PassesOn h.state y.state o
-      → OnOk r (AreReturned h.state y.state → maintaining.HasOpened y.state o) → OnOk r (OpensBy x y)
-  opens-by (Err e) x h y o newest grows on f = tt
-  opens-by (Ok a) x h y o newest grows on f = λ none.
+      → OnOk r (AreReturned h.state y.state → maintaining.HasOpened y.state o) → OnOk r (AreReturned h.state y.state → maintaining.HaveRun y.state o) → OnOk r (OpensBy x y)
+  opens-by (Err e) x h y o newest grows on f g = tt
+  opens-by (Ok a) x h y o newest grows on f g = λ none.
       let J : List LaneEvent = journal_of x.state in
       let K : List LaneEvent = journal_of y.state in
       let p : ℕ → Bool = (λ n. returned n (history K)) in
       let up : AreUpkeep o.distributor (o.state).version (heard_next o.distributor (Some o.state) J) K = subst (λ (L : List LaneEvent). AreUpkeep o.distributor (o.state).version L K) grows on.grows in
       let quiet : first_absent p (later (length (journal_of h.state)) K) ≡ None =
       subst (λ (L : List LaneEvent). first_absent p (later (length L) K) ≡ None) (sym grows) (none-heard (first_absent p) (heard-end p) o.distributor (o.state).version o.state J K up none) in
-      let last : last_state K ≡ Some o.state = newest-span o.distributor (o.state).version (heard_next o.distributor (Some o.state) J) K up ∙ newest-heard o.distributor o.state J ∙ newest in
-      subst (λ (z : Option ClusterState). IfSome z (λ (s : ClusterState). opened s.version (history K) ≡ true)) (sym last) (f quiet)
+      let last : last_state K ≡ Some o.state = newest-span o.distributor (o.state).version (heard_next o.distributor (Some o.state) J) K up ∙ newest-heard o.distributor o.state J ∙ newest in (
+        subst (λ (z : Option ClusterState). IfSome z (λ (s : ClusterState). opened s.version (history K) ≡ true)) (sym last) (f quiet),
+        subst (λ (z : Option ClusterState). IfSome z (λ (s : ClusterState). (n : ℕ) → serves s n ≡ true → stopped n (history K) ≡ false)) (sym last) (g quiet),
+      )
 
   -- where nothing disturbed the whole call nothing disturbed the pass
   pub rests-by : {X E : Type 0} (r : Result X E) (x h y : Work) (o : Owner) (now : List Fate) → journal_of h.state ≡ heard_next o.distributor (Some o.state) (journal_of x.state) → PassesOn h.state y.state o

@@ -14,8 +14,8 @@ use Rattle.lane_core.specs.declared.work.Job.{Job}
 use Rattle.lane_core.specs.declared.work.Phase.{Phase}
 use Rattle.lane_core.specs.declared.work.Phase.TheVariants.{Prepared, Over, Short}
 use Rattle.lane_core.specs.declared.work.Work.{Work}
-use Rattle.lane_core.specs.Advancing.{IsAdvance}
-use Rattle.lane_core.specs.Works.{under_way_in, value_of}
+use Rattle.lane_core.specs.Advancing.{AdvancesAt}
+use Rattle.lane_core.specs.Works.{value_of, OfJob}
 use Rattle.lane_lines.specs.Steps.{StandsIn}
 
 -- it wants one more message, with one less left
@@ -64,11 +64,10 @@ abbrev pub IsAtMessages : Phase → Type 0
 IsAtMessages (Prepared machine row written) = Unit {0}
 IsAtMessages _ = ⊥
 
--- the operation under way is prepared
-abbrev pub IsToStep : Option Job → Type 0
-IsToStep None = ⊥
-IsToStep (Some j) = IsAtMessages j.phase
+-- the operation at the place is prepared
+abbrev pub IsToStep : List Job → ℕ → Type 0
+IsToStep jobs at = OfJob (λ j. IsAtMessages j.phase) jobs at
 
 -- what a call made of the lane's value, whatever was planned
-abbrev pub AdvancesBy : Work → Work → List Fate → List Fate → Advance → Type 0
-AdvancesBy old new given now answer = (planned : List Fate) (takes_plans : Bool) → IsAdvance (under_way_in old.job) (value_of old given planned takes_plans) (value_of new now planned takes_plans) answer
+abbrev pub AdvancesBy : ℕ → Work → Work → List Fate → List Fate → Advance → Type 0
+AdvancesBy at old new given now answer = (planned : List Fate) (takes_plans : Bool) → AdvancesAt at (value_of old given planned takes_plans) (value_of new now planned takes_plans) answer

@@ -1,5 +1,5 @@
 -- When an upkeep rests, or wants memory.
-use Rattle.std.specs.Prelude.{◌≡◌, ◌≤◌, ◌<◌, ℕ, true, false, length, None, Some}
+use Rattle.std.specs.Prelude.{◌≡◌, ◌≤◌, ◌<◌, ℕ, true, false, length, [], None, Some}
 use Rattle.cluster_states.specs.declared.cluster_state.ClusterState.{ClusterState}
 use Rattle.cluster_states.specs.Publishing.{serves}
 use Rattle.lane_journals.specs.Readers.{stopped}
@@ -13,7 +13,7 @@ use Rattle.lane_lives.specs.LaneValues.{LaneValue}
 -- no operation is under way, each node that serves under the newest state runs, the fate of each message of the call
 -- lets its reply come back, and no late message is delivered
 pub record IsUndisturbed (old new : LaneValue) : Type 0 where
-  pub idle : old.under_way ≡ None
+  pub idle : old.under_way ≡ []
   pub state : ClusterState
   pub newest : last_state old.journal ≡ Some state
   pub run : (n : ℕ) → serves state n ≡ true → stopped n (history old.journal) ≡ false

@@ -10,7 +10,7 @@ use Rattle.upkeep_spans.specs.Spans.{later}
 use Rattle.upkeep_spans.specs.Causes.{first_absent, IsUndisturbed}
 use Rattle.lane_core.specs.declared.work.Work.{Work}
 use Rattle.lane_core.specs.Works.{value_of, SameValue}
-use Rattle.lane_lives.specs.Upkept.{Maintains, HasOpened}
+use Rattle.lane_lives.specs.Upkept.{Maintains, HasOpened, HaveRun}
 
 -- the owner made a pass, whatever was planned
 abbrev pub MaintainsBy : Work → Work → List Fate → List Fate → Type 0
@@ -20,9 +20,9 @@ MaintainsBy old new given now = (planned : List Fate) (takes_plans : Bool) → M
 abbrev pub MayMaintain : Work → Work → List Fate → List Fate → Type 0
 MayMaintain old new given now = (SameValue old new × (now ≡ given)) ⊎ MaintainsBy old new given now
 
--- where each message of the pass was returned, the newest state is opened
+-- where each message of the pass was returned, the newest state is opened, and each node that serves under it ran
 abbrev pub OpensBy : Work → Work → Type 0
-OpensBy old new = first_absent (λ n. returned n (history (journal_of new.state))) (later (length (journal_of old.state)) (journal_of new.state)) ≡ None → HasOpened (journal_of new.state)
+OpensBy old new = first_absent (λ n. returned n (history (journal_of new.state))) (later (length (journal_of old.state)) (journal_of new.state)) ≡ None → HasOpened (journal_of new.state) × HaveRun (journal_of new.state)
 
 -- where nothing was lost or late, the lane is at rest
 abbrev pub RestsBy : Work → Work → List Fate → Type 0

@@ -1,11 +1,12 @@
--- What a lane keeps behind its value: its fields, the stamps that were drawn, and the operation under way, of which
+-- What a lane keeps behind its value: its fields, the stamps that were drawn, and the operations under way, of which
 -- the journal says what was done.
-use Rattle.std.specs.Prelude.{◌≡◌, ◌==◌, ◌≤◌, ◌+◌, ℕ, Bool, true, false, not, List, ◌∷◌, Option, None, Some, is_some, vec_len, if◌then◌else◌}
+use Rattle.std.specs.Prelude.{◌≡◌, ◌⊎◌, ◌==◌, ◌≤◌, ◌<◌, ◌+◌, ℕ, Bool, true, false, not, List, [], ◌∷◌, ◌++◌, map, length, Option, None, Some, is_some, slice_get, vec_len, if◌then◌else◌}
 use Rattle.std.specs.Ordering.{nat_cmp}
 use Rattle.std.specs.Map.{count_at}
 use Rattle.std.specs.BTreeMap as tree
 use Rattle.std.specs.BTreeMap.{BTreeMap}
-use Rattle.bucket_ids.specs.Buckets.{Low, IsIn}
+use Rattle.bucket_ids.specs.Buckets as buckets
+use Rattle.bucket_ids.specs.Buckets.{Low}
 use Rattle.node_sets.specs.Members.{has_node}
 use Rattle.stamps.specs.declared.stamp.Stamp.{Stamp}
 use Rattle.cluster_states.specs.declared.cluster_state.ClusterState.{ClusterState}
@@ -19,7 +20,7 @@ use Rattle.op_machine.specs.declared.machine.Standing.{Standing}
 use Rattle.op_machine.specs.Plans.{IsOwn, is_get}
 use Rattle.global_ids.specs.Keys as keys
 use Rattle.lane_journals.specs.Buckets.{key_of}
-use Rattle.lane_journals.specs.Readers.{Journal, prepared, wrote, opened, stamps_of, running, complete, answered_store, before_line, round_of}
+use Rattle.lane_journals.specs.Readers.{Journal, Beginning, Preparing, began, prepared, wrote, closed, opened, stamps_of, running, complete, answered_store}
 use Rattle.lane_journals.specs.Meanings.{history}
 use Rattle.lane_journals.specs.KeptJournals.{IsLegalStep}
 use Rattle.lane_journals.specs.declared.event.LaneEvent.{LaneEvent}
@@ -29,7 +30,6 @@ use Rattle.lane_keeping.specs.LaneKeeping.{setting_of}
 use Rattle.lane_keeping.specs.Acting.{IsActing}
 use Rattle.operation_keeping.specs.OperationKeeping.{IsUnderWay}
 use Rattle.op_machine.specs.Plans.{IsPlainGet}
-use Rattle.lane_journals.specs.Facts.{AllClosed}
 use Rattle.operation_keeping.specs.Left.{messages_left}
 use Rattle.lane_core.specs.declared.work.Job.{Job}
 use Rattle.lane_core.specs.declared.work.Phase.{Phase}
@@ -39,23 +39,26 @@ use Rattle.lane_lives.specs.declared.progress.Progress.TheVariants as progress
 use Rattle.lane_lives.specs.declared.progress.UnderWay.{UnderWay}
 use Rattle.lane_core.specs.declared.work.Work.{Work}
 use Rattle.lane_states.specs.LaneStates.{journal_of, IsKept, HasRoom, AreResting, IsSetUp}
+use Rattle.lane_states.specs.Told.{shown_by}
 use Rattle.stamps.specs.Places.{place_of}
 use Rattle.lane_states.specs.Written.{FindsEntries}
-use Rattle.operation_keeping.specs.Wants.{IsAtStanding, IsEnd, WasAskedIn}
+use Rattle.operation_keeping.specs.Wants.{IsAtStanding}
 use Rattle.lane_lives.specs.LaneValues.{LaneValue, drawn, under_way_of}
 use Rattle.lane_keeping.specs.Tidings.{last_state}
 
 -- ---- the value
 
 abbrev pub progress_of : Phase → Progress
-progress_of Begun = progress.Runs
+progress_of Begun = progress.Begun
 progress_of (Prepared machine row written) = progress.Runs
-progress_of (Over outcome told answered) = progress.Over
+progress_of (Over outcome told answered) = progress.Over outcome
 progress_of Short = progress.Short
 
-abbrev pub under_way_in : Option Job → Option UnderWay
-under_way_in None = None
-under_way_in (Some j) = Some (under_way_of j.line j.operation j.distributor (progress_of j.phase) j.left)
+abbrev pub under_way_at : Job → UnderWay
+under_way_at j = under_way_of j.line j.operation j.distributor (progress_of j.phase) j.left
+
+abbrev pub under_way_in : List Job → List UnderWay
+under_way_in jobs = map under_way_at jobs
 
 abbrev pub value_of : Work → List Fate → List Fate → Bool → LaneValue
 value_of w given planned takes_plans = record {
@@ -63,11 +66,12 @@ value_of w given planned takes_plans = record {
   rules = w.state.rules;
   types = ((w.state.shelf).opening).types;
   journal = journal_of w.state;
+  shown = shown_by w.state.shelf;
   given = given;
   planned = planned;
   takes_plans = takes_plans;
   has_room = w.has_room;
-  under_way = under_way_in w.job;
+  under_way = under_way_in w.jobs.items;
 }
 
 -- a relation of the lane's values, whatever its carrier
@@ -79,20 +83,25 @@ SameValue old new = OfValues (λ a b. b ≡ a) old new
 
 -- the operation of a line begins at a distributor under a version
 abbrev pub begun_by : ℕ → Operation → ℕ → ℕ → LaneValue → LaneValue
-begun_by line o d v old = record old { journal = event.Begun line d v o.id (drawn o.kind v old.journal) ∷ old.journal; under_way = Some (under_way_of line o d progress.Runs 65) }
+begun_by line o d v old = record old { journal = event.Begun line d v o.id (drawn o.kind v old.journal) ∷ old.journal; under_way = old.under_way ++ under_way_of line o d progress.Begun 65 ∷ [] }
 
--- ---- the operation under way
+-- ---- an operation under way
 
 -- the job of an operation that was begun and for which nothing was done
 abbrev pub new_job : ℕ → Operation → ℕ → Option Stamp → Job
-new_job line o d stamp = record { line = line; operation = o; key = keys.key_of o.id; distributor = d; stamp = stamp; left = 65; phase = Begun }
+new_job line o d stamp = record { line = line; operation = o; key = keys.key_of o.id; distributor = d; stamp = stamp; row = None; left = 65; phase = Begun }
 
--- nothing was asked for it, and no round begun
-pub record IsUntouched (H : Journal) (line v : ℕ) : Type 0 where
-  pub unprepared : prepared line H ≡ None
-  pub unwritten : wrote line H ≡ false
-  pub unasked : (n : ℕ) → WasAskedIn H line v n → ⊥
-  pub no_round : (b : Low) → round_of v b H ≡ round_of v b (before_line line H)
+-- the row in which the journal says that it is prepared
+abbrev pub IsItsRow : Option Low → Option Preparing → Type 0
+IsItsRow None None = Unit {0}
+IsItsRow (Some row) (Some p) = p.row ≡ row
+IsItsRow _ _ = ⊥
+
+-- it isn't prepared, and draws a stamp unless it is a get
+pub record IsUnprepared (H : Journal) (j : Job) : Type 0 where
+  pub unprepared : prepared j.line H ≡ None
+  pub unwritten : wrote j.line H ≡ false
+  pub stamped : is_some j.stamp ≡ not (is_get j.operation.kind)
 
 -- where it is acknowledged, these members of its row are those that answered its Store
 pub record IsAnswered (H : Journal) (j : Job) (s : ClusterState) (stamp : Stamp) (answered : ℕ) : Type 0 where
@@ -105,7 +114,6 @@ MayMark H j s answered (Acked stamp) = IsAnswered H j s stamp answered
 MayMark H j s answered _ = Unit {0}
 
 pub record IsLineOver (lane : Low) (rules : Rules) (J : List LaneEvent) (j : Job) (s : ClusterState) (outcome told : Outcome) (answered : ℕ) : Type 0 where
-  pub wanted : IsEnd lane rules j.line j.operation J outcome
   pub same : told ≡ outcome
   pub legal : IsLegalStep (setting_of lane rules) J (Closed j.line outcome)
   pub marks : MayMark (history J) j s answered outcome
@@ -118,7 +126,7 @@ pub record IsPrepared (lane : Low) (rules : Rules) (J : List LaneEvent) (j : Job
   pub written_is : written ≡ is_some entry
 
 abbrev pub PhaseKeeps : Low → Rules → List LaneEvent → Job → ClusterState → Phase → Type 0
-PhaseKeeps lane rules J j s Begun = IsUntouched (history J) j.line s.version × (is_some j.stamp ≡ not (is_get j.operation.kind))
+PhaseKeeps lane rules J j s Begun = IsUnprepared (history J) j
 PhaseKeeps lane rules J j s (Prepared machine row written) = IsPrepared lane rules J j s row written machine
 PhaseKeeps lane rules J j s (Over outcome told answered) = IsLineOver lane rules J j s outcome told answered
 PhaseKeeps lane rules J j s Short = Unit {0}
@@ -128,14 +136,11 @@ pub record IsJob (lane : Low) (rules : Rules) (J : List LaneEvent) (j : Job) : T
   pub acting : IsActing lane J j.distributor state
   pub under_way : IsUnderWay lane (history J) j.distributor state j.line j.operation j.stamp
   pub key_is : j.key ≡ keys.key_of j.operation.id
-  pub key_in : IsIn lane (key_of j.operation.id)
+  pub key_in : buckets.IsIn lane (key_of j.operation.id)
   pub own : IsOwn j.operation.id j.operation.kind
   pub plain : IsPlainGet j.operation
+  pub row_is : IsItsRow j.row (prepared j.line (history J))
   pub phase_is : PhaseKeeps lane rules J j state j.phase
-
-abbrev pub JobKeeps : Low → Rules → List LaneEvent → Option Job → Type 0
-JobKeeps lane rules J None = AllClosed (history J)
-JobKeeps lane rules J (Some j) = IsJob lane rules J j
 
 -- so many calls are left as the operation may need
 abbrev pub PhaseLasts : ℕ → Phase → Type 0
@@ -144,9 +149,13 @@ PhaseLasts left (Prepared machine row written) = (1 ≤ left) × (messages_left 
 PhaseLasts left (Over outcome told answered) = Unit {0}
 PhaseLasts left Short = Unit {0}
 
-abbrev pub JobLasts : Option Job → Type 0
-JobLasts None = Unit {0}
-JobLasts (Some j) = PhaseLasts j.left j.phase
+-- the operations under way, of different lines and documents: each line that was begun is closed, but for these
+pub record AreJobs (lane : Low) (rules : Rules) (J : List LaneEvent) (jobs : List Job) : Type 0 where
+  pub each : (at : ℕ) (j : Job) → slice_get jobs at ≡ Some j → IsJob lane rules J j
+  pub lasts : (at : ℕ) (j : Job) → slice_get jobs at ≡ Some j → PhaseLasts j.left j.phase
+  pub lines_apart : (a b : ℕ) (j k : Job) → slice_get jobs a ≡ Some j → slice_get jobs b ≡ Some k → j.line ≡ k.line → a ≡ b
+  pub documents_apart : (a b : ℕ) (j k : Job) → slice_get jobs a ≡ Some j → slice_get jobs b ≡ Some k → j.operation.id ≡ k.operation.id → a ≡ b
+  pub others : (line : ℕ) (begin : Beginning) → began line (history J) ≡ Some begin → (closed line (history J) ≡ true) ⊎ ((at : ℕ) × (j : Job) × (slice_get jobs at ≡ Some j) × (j.line ≡ line))
 
 -- it is over, or memory was wanted
 abbrev pub IsToClosePhase : Phase → Type 0
@@ -155,9 +164,39 @@ IsToClosePhase (Prepared machine row written) = ⊥
 IsToClosePhase (Over outcome told answered) = Unit {0}
 IsToClosePhase Short = Unit {0}
 
-abbrev pub IsToClose : Option Job → Type 0
-IsToClose None = ⊥
-IsToClose (Some j) = IsToClosePhase j.phase
+-- the job of a place, of the line
+pub record IsJobAt (line : ℕ) (jobs : List Job) (at : ℕ) (j : Job) : Type 0 where
+  pub found : slice_get jobs at ≡ Some j
+  pub line_is : j.line ≡ line
+
+abbrev pub HasJob : ℕ → List Job → Type 0
+HasJob line jobs = (at : ℕ) × (j : Job) × IsJobAt line jobs at j
+
+abbrev pub HasJobToClose : ℕ → List Job → Type 0
+HasJobToClose line jobs = (at : ℕ) × (j : Job) × IsJobAt line jobs at j × IsToClosePhase j.phase
+
+-- what holds of the job at a place
+abbrev pub OfJob : (Job → Type 0) → List Job → ℕ → Type 0
+OfJob P jobs at = (j : Job) × (slice_get jobs at ≡ Some j) × P j
+
+-- it holds of none; the line is that of the first of which it holds
+abbrev pub OfNoJob : (Job → Type 0) → List Job → Type 0
+OfNoJob P jobs = (at : ℕ) (j : Job) → slice_get jobs at ≡ Some j → P j → ⊥
+
+pub record OfFirstJob (P : Job → Type 0) (jobs : List Job) (line : ℕ) : Type 0 where
+  pub at : ℕ
+  pub job : Job
+  pub place : IsJobAt line jobs at job
+  pub is : P job
+  pub first : (k : ℕ) (j : Job) → k < at → slice_get jobs k ≡ Some j → P j → ⊥
+
+abbrev pub IsOneOrNone : (Job → Type 0) → List Job → Option ℕ → Type 0
+IsOneOrNone P jobs None = OfNoJob P jobs
+IsOneOrNone P jobs (Some line) = OfFirstJob P jobs line
+
+-- the distributor prepared it in the row
+abbrev pub IsPreparedAt : ℕ → Low → Job → Type 0
+IsPreparedAt d row j = (j.distributor ≡ d) × (j.row ≡ Some row)
 
 -- the outcome of a phase that is to be closed, for the journal and for the caller, and who answered its Store
 abbrev pub PhaseEnds : Phase → Outcome → Outcome → ℕ → Type 0
@@ -182,9 +221,6 @@ abbrev pub count_after : Option Stamp → (ℕ → ℕ) → ℕ → ℕ
 count_after None counts v = counts v
 count_after (Some s) counts v = if s.version == v then s.count else counts v
 
-abbrev pub one_if : Bool → ℕ
-one_if b = if b then 1 else 0
-
 -- room for a publication with all that hear it
 abbrev pub room_for : Bool → ℕ
 room_for has_room = if has_room then 33 else 0
@@ -193,14 +229,15 @@ pub record IsWork (w : Work) : Type 0 where
   pub set_up : IsSetUp w.state.lane w.state.rules
   pub kept : IsKept w.state
   pub room : HasRoom 0 w.state
-  -- there is room for a publication with all that hear it, and for the close of the operation
-  pub spare_is : w.state.spare ≡ room_for w.has_room + one_if (is_some w.job)
+  -- there is room for a publication with all that hear it, and for the close of each operation
+  pub spare_is : w.state.spare ≡ room_for w.has_room + length w.jobs.items
   -- and then each distributor has its part
   pub parted : w.has_room ≡ true → 32 ≤ vec_len w.state.parts
+  -- and a place is kept free for the change that a stop or a start is
+  pub placed : w.has_room ≡ true → w.state.turn_room ≡ true
   pub resting : AreResting w.state
   pub newest_is : w.state.newest ≡ last_state (journal_of w.state)
   pub counts_are : (v : ℕ) → count_of w.drawn v ≡ stamps_of v (history (journal_of w.state))
   pub no_round : (v : ℕ) (b : Low) → running v b (history (journal_of w.state)) ≡ false
-  pub job_is : JobKeeps w.state.lane w.state.rules (journal_of w.state) w.job
-  pub lasts : JobLasts w.job
+  pub jobs_are : AreJobs w.state.lane w.state.rules (journal_of w.state) w.jobs.items
   pub finds : FindsEntries (place_of w.places) w.state.journal.events.items

@@ -15,24 +15,23 @@ ghost use Rattle.lane_keeping.specs.NodeKeeping.{NodeKeeps};
 ghost use Rattle.lane_keeping.specs.LaneKeeping.{setting_of};
 ghost use Rattle.lane_keeping.specs.Lines.{IsFresh};
 ghost use Rattle.op_machine.specs.Plans.{IsPlainGet};
-ghost use Rattle.lane_keeping.specs.Tidings.{heard_next, announced, stopped_next, started_next, last_state};
-ghost use Rattle.lane_lives.specs.LaneValues.{LaneValue, new_value, IsLaneValue, IsBeginning, BeginsAtOwner, IsAt, MayClose, closed_by};
-ghost use Rattle.lane_core.specs.Advancing.{IsAdvance, IsOutcome};
+ghost use Rattle.lane_keeping.specs.Tidings.{announced, stopped_next, started_next, last_state};
+ghost use Rattle.lane_lives.specs.LaneValues.{LaneValue, new_value, IsLaneValue, IsHearing, IsBeginning, IsBeginningAtOwner, MayAdvance, MayClose, Closes};
+ghost use Rattle.lane_core.specs.Advancing.{IsAdvance};
 ghost use Rattle.lane_states.specs.LaneStates.{IsSetUp};
 ghost use Rattle.lane_states.specs.Told.{IsUnused, change_count};
 ghost use Rattle.lane_keeping.specs.Shown.{node_or_new, HasEntries, HasRows};
 ghost use Rattle.lane_lives.specs.Upkept.{IsUpkept};
-ghost use Rattle.lane_lives.specs.declared.progress.Progress.TheVariants as progress;
 ghost use Rattle.lane_lives.specs.Settings.{IsSetting};
 ghost use Rattle.lane_lives.specs.Serving.{IsServing};
-ghost use Rattle.lane_core.specs.Runs.{IsLineRun, IsFinish};
-ghost use Rattle.lane_core.specs.Showing.{view_in};
-ghost use Rattle.lane_changes.specs.Changes.{changes_of};
+ghost use Rattle.lane_core.specs.Runs.{IsLineRun, HasAlone, IsFinish};
+ghost use Rattle.lane_core.specs.Showing.{all_changes, shown_view, IsSettled, ShowsMore};
 ghost use Rattle.lane_lives.specs.Upkeep.{IsSpan, MayBeUpkept};
 ghost use Rattle.lane_core.specs.Undisturbed.{IsUndisturbed};
 ghost use Rattle.upkeep_spans.specs.declared.answers.Upkeep.{Upkeep};
 ghost use Rattle.upkeep_spans.specs.declared.answers.Upkeep.TheVariants as upkeep;
 
+use crate::jobs::place_of;
 use crate::work::Work;
 use bucket_db::Row;
 use bucket_ids::Bucket;
@@ -44,7 +43,7 @@ use lane_carriage::laws::messages_are_carried;
 use lane_journals::LaneEvent;
 use lane_journals::laws::states_are_published;
 use lane_lives::Setting;
-use lane_lives::answers::{Advance, Begin};
+use lane_lives::answers::{Advance, Begin, Hear};
 use lane_lives::spans::UpkeepSpan;
 use lane_states::known_owner::KnownOwner;
 use lane_states::written::entry_in;
@@ -60,8 +59,8 @@ use upkeep_spans::laws::{upkeep_goes_on, upkeep_leaves_states};
 use upkeep_spans::{Upkeep, Watching};
 use value_lists::NoMemory;
 
-/// A lane: its journal and what it says, the carrier of its messages, and the operation under way. One
-/// operation is under way at a time; with several feeders there will be more.
+/// A lane: its journal and what it says, the carrier of its messages, and the operations under way, of any number of lines
+/// and at any distributors.
 #[derive(Drop)]
 pub struct Lane<C: Carrier + Drop> {
     work: Work,
@@ -120,7 +119,6 @@ impl<C: Carrier + Drop> Lane<C> {
 
     /// Publishes a state. Room was made for it since the last one.
     pub fn publish(&mut self, state: &ClusterState)
-        requires idle { self.old.under_way ≡ None }
         requires room { self.old.has_room ≡ true }
         requires accepted { publish_fault (told (setting_of self.old.lane self.old.rules) self.old.journal) state.now
             ≡ None }
@@ -134,7 +132,7 @@ impl<C: Carrier + Drop> Lane<C> {
     /// Publishes a state, which all distributors hear but the deaf ones, in rising number. Room
     /// was made for it since the last one.
     pub fn announce(&mut self, state: &ClusterState, deaf: NodeSet)
-        requires idle { self.old.under_way ≡ None }
+        requires idle { self.old.under_way ≡ [] }
         requires room { self.old.has_room ≡ true }
         requires accepted { publish_fault (told (setting_of self.old.lane self.old.rules) self.old.journal) state.now
             ≡ None }
@@ -152,15 +150,12 @@ impl<C: Carrier + Drop> Lane<C> {
         self.work.state.held(distributor)
     }
 
-    /// A distributor hears the newest state, where it holds none or an older one; answers its version.
-    pub fn hear(&mut self, distributor: u8) -> Result<u32, NoMemory>
-        requires idle { self.old.under_way ≡ None }
+    /// A distributor hears the newest state, where it holds none or an older one; that asks that none of its operations is
+    /// under way.
+    pub fn hear(&mut self, distributor: u8) -> Hear
         requires published { IsSome (last_state self.old.journal) }
         requires number { distributor < 32 }
-        ensures version { IfOk result (λ version. IfSome (last_state self.old.journal) (λ s. version ≡ s.version)) }
-        ensures heard { OnOk result (self.new
-            ≡ record self.old { journal = heard_next distributor (last_state self.old.journal) self.old.journal }) }
-        ensures err { OnErr result (self.new ≡ self.old) }
+        ensures { IsHearing distributor self.old self.new result }
     {
         self.work.hear(distributor)
     }
@@ -169,7 +164,6 @@ impl<C: Carrier + Drop> Lane<C> {
 
     /// A node stops; nothing happens where it is stopped already. Room was made for it.
     pub fn stop(&mut self, node: u8)
-        requires idle { self.old.under_way ≡ None }
         requires room { self.old.has_room ≡ true }
         requires number { node < 32 }
         ensures { self.new ≡ record self.old { journal = stopped_next node self.old.journal; has_room = false } }
@@ -179,7 +173,6 @@ impl<C: Carrier + Drop> Lane<C> {
 
     /// A node starts; nothing happens where it isn't stopped. Room was made for it.
     pub fn start(&mut self, node: u8)
-        requires idle { self.old.under_way ≡ None }
         requires room { self.old.has_room ≡ true }
         requires number { node < 32 }
         ensures { self.new ≡ record self.old { journal = started_next node self.old.journal; has_room = false } }
@@ -187,13 +180,13 @@ impl<C: Carrier + Drop> Lane<C> {
         self.work.start(node);
     }
 
-    // ---- one operation
+    // ---- operations
 
     /// Begins the operation of a line at a distributor, which draws its stamp; refused exactly where that
-    /// distributor doesn't own the lane under the state that it holds. Room is made for its close.
+    /// distributor doesn't own the lane under the state that it holds, and else held exactly where an operation of the
+    /// document is under way. Room is made for its close.
     pub fn begin(&mut self, line: u32, key: u64, operation: &Operation, via: u8) -> Begin
         requires key { key ≡ keys.key_of operation.now.id }
-        requires idle { self.old.under_way ≡ None }
         requires line { 1 ≤ line }
         requires fresh { IsFresh (history self.old.journal) line }
         requires number { via < 32 }
@@ -207,53 +200,48 @@ impl<C: Carrier + Drop> Lane<C> {
             .begin(line, key, operation, via, self.owner.as_ref())
     }
 
-    /// Begins the operation of a line at the lane's owner under the newest state, which first hears that state.
-    /// Room is made for its close. The only error is want of memory, and then nothing has changed.
-    pub fn begin_at_owner(
-        &mut self,
-        line: u32,
-        key: u64,
-        operation: &Operation,
-    ) -> Result<(), NoMemory>
+    /// Begins the operation of a line at the lane's owner under the newest state, which first hears that state; held where
+    /// an operation stands against either. Room is made for its close. The other error is want of memory, and then nothing has
+    /// changed.
+    pub fn begin_at_owner(&mut self, line: u32, key: u64, operation: &Operation) -> Begin
         requires key { key ≡ keys.key_of operation.now.id }
-        requires idle { self.old.under_way ≡ None }
         requires line { 1 ≤ line }
         requires fresh { IsFresh (history self.old.journal) line }
         requires published { IsSome (last_state self.old.journal) }
         requires in_lane { IsIn self.old.lane (key_of operation.now.id) }
         requires own { IsOwn operation.now.id operation.now.kind }
         requires plain { IsPlainGet operation.now }
-        ensures ok { OnOk result (BeginsAtOwner line operation.now self.old self.new) }
-        ensures err { OnErr result (self.new ≡ self.old) }
+        ensures { IsBeginningAtOwner line operation.now self.old self.new result }
     {
         self.work
             .begin_at_owner(line, key, operation, self.owner.as_ref())
     }
 
-    /// Prepares the operation that was begun, and then sends one message with each call and deals with it. At
-    /// most 65 calls are needed.
+    /// Prepares the operation of the line, which was begun, and then sends one message with each call and deals with it. At
+    /// most 65 calls are needed that answer `More` or `Done`. It waits exactly where it wants a round of its row and another
+    /// operation is prepared there.
     pub fn advance(&mut self, line: u32) -> Advance
-        requires { IsAt line progress.Runs self.old.under_way }
-        ensures { IsAdvance self.old.under_way self.old self.new result }
+        requires { MayAdvance line self.old.under_way }
+        ensures { IsAdvance line self.old self.new result }
     {
-        if self.work.is_begun() {
-            return self.work.prepare(&mut self.carrier);
+        let at = place_of(&self.work.jobs, line);
+        if self.work.is_begun(at) {
+            return self.work.prepare(at, &mut self.carrier);
         }
-        self.work.step(&mut self.carrier)
+        self.work.step(at, &mut self.carrier)
     }
 
-    /// Closes the operation, which is over or wanted memory.
+    /// Closes the operation of the line, which is over or wanted memory.
     pub fn close(&mut self, line: u32) -> Outcome
         requires { MayClose line self.old.under_way }
-        ensures outcome { IsOutcome self.old.under_way self.old result }
-        ensures after { self.new ≡ closed_by result self.old }
+        ensures { Closes line result self.old self.new }
     {
-        self.work.close()
+        self.work.close(line)
     }
 
     // ---- upkeep
 
-    /// The lane's owner under the newest state hears it, and makes a pass of upkeep, unless an operation is under way.
+    /// The lane's owner under the newest state hears it, and makes a pass of upkeep, unless an operation is under way; then the first is named.
     /// `Rested`, `Blocked` and `Disturbed` say what came of its messages, and `Rested` that the lane is at rest; after
     /// `NoMemory` what was done stays.
     pub fn upkeep(&mut self) -> Upkeep
@@ -262,7 +250,7 @@ impl<C: Carrier + Drop> Lane<C> {
     {
         upkeep_goes_on();
         messages_are_carried();
-        if let Some(job) = &self.work.job {
+        if let Some(job) = self.work.jobs.first() {
             return Upkeep::Held { by: job.line };
         }
         let from = self.work.state.journal.events.len();
@@ -291,7 +279,7 @@ impl<C: Carrier + Drop> Lane<C> {
     // ---- what it has
 
     /// The events, oldest first. They are a legal journal, each message had just the events of its fate,
-    /// and each line that was begun is closed but for the one under way.
+    /// and each line that was begun is closed but for those under way.
     pub fn journal(&self) -> &[LaneEvent]
         ensures events { past result.now ≡ self.now.journal }
         ensures lane { IsLaneValue self.now }
@@ -308,24 +296,21 @@ impl<C: Carrier + Drop> Lane<C> {
 
     // ---- what searches see
 
-    /// Shows all changes that its events gave so far. The only error is want of memory; nothing is lost then, and the lane
-    /// is as it was but for what is shown.
+    /// Shows all changes that its events gave so far. The only error is want of memory, also for a count of 2^64 - 1 changes.
     pub fn settle(&mut self) -> Result<(), NoMemory>
-        ensures { self.new ≡ self.old }
+        ensures ok { OnOk result (self.new ≡ record self.old { shown = all_changes self.old }) }
+        ensures more { ShowsMore self.old self.new }
     {
         self.work.settle()
     }
 
-    /// Its view, where all changes of its events are shown: right behind a settling.
-    pub fn shown(&self) -> Option<&LaneView>
-        ensures view { IfSome result (λ view. view.now ≡ view_in self.now) }
-        ensures counted { IfSome result (λ view. (view.now).generation ≡ length (changes_of self.now.journal)) }
+    /// The view that is shown; its generation says after how many changes.
+    pub fn shown(&self) -> &LaneView
+        ensures view { result.now ≡ shown_view self.now }
+        ensures counted { (result.now).generation ≡ self.now.shown }
+        ensures within { self.now.shown ≤ all_changes self.now }
     {
-        let view = self.work.state.shown()?.view();
-        if view.generation() == u64::MAX {
-            return None;
-        }
-        Some(view)
+        self.work.state.shelf().view()
     }
 
     /// The entry that was written with a stamp.
@@ -357,8 +342,8 @@ impl<C: Carrier + Drop> Lane<C> {
     }
 }
 
-/// The lane of a number with its carrier, where the first state was published and heard by all distributors. Its shelf
-/// is over the types of the setting.
+/// The lane of a number with its carrier, where the first state was published and heard by all distributors, and is
+/// shown. Its shelf is over the types of the setting.
 pub fn open_lane<C: Carriers>(
     alloc: Global,
     lane: u8,
@@ -371,6 +356,7 @@ pub fn open_lane<C: Carriers>(
     requires unused { IsUnused shelf }
     requires types { (shelf.opening).types ≡ setting.now.schema }
     ensures new { IfOk result (IsServing setting.now (C.plans carriers.old lane) lane []) }
+    ensures settled { IfOk result IsSettled }
     ensures same { (other : ℕ) → C.plans carriers.new other ≡ C.plans carriers.old other }
 {
     let carrier = carriers.make(alloc, lane)?;
@@ -379,6 +365,7 @@ pub fn open_lane<C: Carriers>(
     made.announce(&setting.initial, NodeSet::none());
     // that its journal is legal is known once it is read
     let _journal = made.journal();
+    made.settle()?;
     Ok(made)
 }
 
@@ -395,7 +382,7 @@ pub fn run_line<C: Carrier + Drop>(
     via: Option<u8>,
 ) -> Result<Outcome, NoMemory>
     requires key { key ≡ keys.key_of operation.now.id }
-    requires idle { lane.old.under_way ≡ None }
+    requires idle { lane.old.under_way ≡ [] }
     requires line { 1 ≤ line }
     requires fresh { IsFresh (history lane.old.journal) line }
     requires published { IsSome (last_state lane.old.journal) }
@@ -422,7 +409,7 @@ fn run_at_owner<C: Carrier + Drop>(
     operation: &Operation,
 ) -> Result<Outcome, NoMemory>
     requires key { key ≡ keys.key_of operation.now.id }
-    requires idle { lane.old.under_way ≡ None }
+    requires idle { lane.old.under_way ≡ [] }
     requires line { 1 ≤ line }
     requires fresh { IsFresh (history lane.old.journal) line }
     requires published { IsSome (last_state lane.old.journal) }
@@ -433,7 +420,11 @@ fn run_at_owner<C: Carrier + Drop>(
         IsLineRun (record { number = line; operation = operation.now; via = None }) lane.old lane.new outcome) }
     ensures err { OnErr result (lane.new ≡ lane.old) }
 {
-    lane.begin_at_owner(line, key, operation)?;
+    match lane.begin_at_owner(line, key, operation) {
+        Begin::Begun => {}
+        Begin::NoMemory => return Err(NoMemory),
+        Begin::Refused { .. } | Begin::Held { .. } => unreachable!(),
+    }
     let outcome = finish(lane, line);
     // that its journal is legal is known once it is read
     let _journal = lane.journal();
@@ -449,7 +440,7 @@ fn run_via<C: Carrier + Drop>(
     via: u8,
 ) -> Result<Outcome, NoMemory>
     requires key { key ≡ keys.key_of operation.now.id }
-    requires idle { lane.old.under_way ≡ None }
+    requires idle { lane.old.under_way ≡ [] }
     requires line { 1 ≤ line }
     requires fresh { IsFresh (history lane.old.journal) line }
     requires number { via < 32 }
@@ -468,6 +459,7 @@ fn run_via<C: Carrier + Drop>(
             return Ok(outcome);
         }
         Begin::NoMemory => return Err(NoMemory),
+        Begin::Held { .. } => unreachable!(),
     }
     let outcome = finish(lane, line);
     // that its journal is legal is known once it is read
@@ -475,14 +467,15 @@ fn run_via<C: Carrier + Drop>(
     Ok(outcome)
 }
 
-/// Lets the operation that was begun go on until it wants nothing more, and closes it.
+/// Lets the operation that was begun, alone, go on until it wants nothing more, and closes it.
 fn finish<C: Carrier + Drop>(lane: &mut Lane<C>, line: u32) -> Outcome
-    requires { IsAt line progress.Runs lane.old.under_way }
-    ensures { IsFinish lane.old.under_way lane.old lane.new result }
+    requires { HasAlone line lane.old }
+    ensures { IsFinish line lane.old lane.new result }
 {
     loop {
         match lane.advance(line) {
             Advance::More => {}
+            Advance::Waits { .. } => unreachable!(),
             Advance::Done | Advance::NoMemory => return lane.close(line),
         }
     }
@@ -490,7 +483,7 @@ fn finish<C: Carrier + Drop>(lane: &mut Lane<C>, line: u32) -> Outcome
 
 /// Publishes a state in a lane, which all distributors hear but the deaf ones.
 pub fn announce<C: Carrier + Drop>(lane: &mut Lane<C>, state: &ClusterState, deaf: NodeSet)
-    requires idle { lane.old.under_way ≡ None }
+    requires idle { lane.old.under_way ≡ [] }
     requires room { lane.old.has_room ≡ true }
     requires accepted { publish_fault (told (setting_of lane.old.lane lane.old.rules) lane.old.journal) state.now
         ≡ None }
@@ -504,7 +497,7 @@ pub fn announce<C: Carrier + Drop>(lane: &mut Lane<C>, state: &ClusterState, dea
 
 /// A node stops in a lane; nothing happens where it is stopped already.
 pub fn stop<C: Carrier + Drop>(lane: &mut Lane<C>, node: u8)
-    requires idle { lane.old.under_way ≡ None }
+    requires idle { lane.old.under_way ≡ [] }
     requires room { lane.old.has_room ≡ true }
     requires number { node < 32 }
     ensures after { lane.new ≡ record lane.old { journal = stopped_next node lane.old.journal; has_room = false } }
@@ -516,7 +509,7 @@ pub fn stop<C: Carrier + Drop>(lane: &mut Lane<C>, node: u8)
 
 /// A node starts in a lane; nothing happens where it isn't stopped.
 pub fn start<C: Carrier + Drop>(lane: &mut Lane<C>, node: u8)
-    requires idle { lane.old.under_way ≡ None }
+    requires idle { lane.old.under_way ≡ [] }
     requires room { lane.old.has_room ≡ true }
     requires number { node < 32 }
     ensures after { lane.new ≡ record lane.old { journal = started_next node lane.old.journal; has_room = false } }
@@ -530,7 +523,7 @@ pub fn start<C: Carrier + Drop>(lane: &mut Lane<C>, node: u8)
 /// tells, and rests where nothing disturbs it; where it rests the lane is at rest. The only error is want of memory, and
 /// then a part of the pass may have been made.
 pub fn maintain<C: Carrier + Drop>(lane: &mut Lane<C>) -> Result<UpkeepSpan, NoMemory>
-    requires idle { lane.old.under_way ≡ None }
+    requires idle { lane.old.under_way ≡ [] }
     requires published { IsSome (last_state lane.old.journal) }
     ensures ok { IfOk result (λ span. IsSpan span lane.old lane.new) }
     ensures err { OnErr result (MayBeUpkept lane.old lane.new) }

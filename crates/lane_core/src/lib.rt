@@ -1,6 +1,6 @@
-//! One lane: what it keeps (`lane_states`), the operation under way, the carrier of its messages, and what a session does there.
+//! One lane: what it keeps (`lane_states`), the operations under way, the carrier of its messages, and what a session does there.
 //!
-//! A `Work` is a `LaneState` with the operation under way: it begins one at the owner of the lane, or refuses it, and closes it.
+//! A `Work` is a `LaneState` with the operations under way: it begins one at the owner of the lane, or refuses it, and closes it.
 //! `operation_keeping` says what the operation of a line wants next. A `Lane` is a `Work` with the carrier of its messages;
 //! `LaneValues` of `lane_lives` says what it is to its callers. `open_lane` publishes the first state there, `run_line` runs a
 //! line from its beginning to its end, and `maintain` makes a pass of upkeep: they are the deeds of `lane_lives`.
@@ -12,6 +12,7 @@
 //! ```
 #![tactic(auto)]
 
+pub mod jobs;
 pub mod lane;
 pub mod operations;
 pub mod work;

@@ -1,4 +1,4 @@
-ghost use Rattle.std.specs.Prelude.{◌≡◌, ◌≤◌, ◌+◌, ◌≢◌, ℕ, None, IsSome, IfSome, IfOk, OnOk, OnErr, vec_len, vec_capacity, true, ◌<◌, ◌-◌};
+ghost use Rattle.std.specs.Prelude.{◌≡◌, ◌≤◌, ◌+◌, ◌≢◌, ℕ, None, is_some, IsSome, IfSome, IfOk, OnOk, OnErr, vec_len, vec_capacity, true, false, Some, IfNone, slice_get, slice_set, ◌<◌, ◌-◌};
 ghost use Rattle.std.specs.Ordering.{nat_cmp};
 ghost use Rattle.bucket_ids.specs.Buckets.{IsIn};
 ghost use Rattle.ideal_nodes.specs.Placement.{IsOwner};
@@ -9,11 +9,12 @@ ghost use Rattle.lane_keeping.specs.Acting.{IsActing};
 ghost use Rattle.lane_keeping.specs.Lines.{IsFresh};
 ghost use Rattle.op_machine.specs.Plans.{IsPlainGet};
 ghost use Rattle.lane_states.specs.LaneStates.{journal_of, part_of, HasRoom, StaysCarried, IsCarriedBy, IsKept};
-ghost use Rattle.lane_lives.specs.LaneValues.{drawn, Begins, BeginsAtOwner, Refuses, IsBeginning};
-ghost use Rattle.lane_keeping.specs.Tidings.{last_state};
-ghost use Rattle.lane_core.specs.Works.{IsWork, OfValues, SameValue, count_of, count_after, begun_by};
+ghost use Rattle.lane_lives.specs.LaneValues.{drawn, Begins, BeginsAtOwner, Refuses, IsBeginning, IsBeginningAtOwner};
+ghost use Rattle.lane_keeping.specs.Tidings.{is_older, last_state};
+ghost use Rattle.lane_core.specs.Works.{IsWork, OfValues, SameValue, OfJob, OfNoJob, count_of, count_after, begun_by};
 ghost use Rattle.lane_core.specs.Phases.{AdvancesBy, HasEnded, IsPhaseOf, OfPrepared, IsAtMessages, ComesTo, IsToStep};
-ghost use Rattle.lane_core.specs.Searching.{just_begun, is_begun, HasCall, spent, SearchesBy, ComesToRow, AdvancesFrom};
+ghost use Rattle.lane_core.specs.declared.work.Phase.TheVariants as phase;
+ghost use Rattle.lane_core.specs.Searching.{JustBegun, is_begun, spent, IsFreeFor, IsBlocked, SearchesBy, ComesToRow, MayCome, ComesFrom};
 ghost use Rattle.std.specs.BTreeMap as tree;
 ghost use Rattle.global_ids.specs.Keys as keys;
 ghost use Rattle.lane_journals.specs.Buckets as buckets;
@@ -23,10 +24,13 @@ ghost use Rattle.lane_lines.specs.Steps.{GoesIn, RunsIn, StandsIn, IsUneventful}
 ghost use Rattle.stamps.specs.Places.{place_of};
 ghost use Rattle.lane_states.specs.Written.{FindsEntries};
 ghost use Rattle.op_machine.specs.Standings.{IsBegun};
-ghost use Rattle.lane_core.specs.Preparations.{with_phase, IsReady, PreparesNext, MayFallShort, is_over};
+ghost use Rattle.lane_core.specs.Preparations.{IsReady, PreparesAt, MayFallShort, OverAt};
+ghost use Rattle.lane_lines.specs.Readying.{search_from};
 
-use crate::work::{Job, Phase, Work, put_job};
+use crate::jobs::{holder_of, prepared_in};
+use crate::work::{Job, Phase, Work, push_job};
 use bucket_db::Row;
+use bucket_ids::Bucket;
 use carriers::Carrier;
 use cluster_states::ClusterState;
 use document_ids::DocId;
@@ -131,7 +135,6 @@ impl Work {
     ) -> Begin
         requires keeps { IsWork self.old }
         requires key { key ≡ keys.key_of operation.now.id }
-        requires idle { self.old.job ≡ None }
         requires fresh { IsFresh (history (journal_of self.old.state)) line }
         requires holds { IsSome (held via (history (journal_of self.old.state))) }
         requires in_lane { IsIn self.old.state.lane (buckets.key_of operation.now.id) }
@@ -141,11 +144,15 @@ impl Work {
         ensures carried { StaysCarried self.old.state self.new.state }
         ensures begins { OfValues (λ old new. IsBeginning line operation.now via old new result) self.old self.new }
     {
+        owners_act();
         let Some(state) = self.state.state_at(via) else {
             unreachable!();
         };
         let owner = self.state.owner_by(known, &state);
         if owner == via {
+            if let Some(by) = holder_of(&self.jobs, &operation.id) {
+                return Begin::Held { by };
+            }
             return match self.begin_at(line, key, operation, via, &state) {
                 Ok(()) => Begin::Begun,
                 Err(NoMemory) => Begin::NoMemory,
@@ -168,10 +175,10 @@ impl Work {
     ) -> Result<(), NoMemory>
         requires keeps { IsWork self.old }
         requires key { key ≡ keys.key_of operation.now.id }
-        requires idle { self.old.job ≡ None }
         requires fresh { IsFresh (history (journal_of self.old.state)) line }
         requires holds { (part_of self.old.state via).state ≡ Some state.now }
         requires owner { IsOwner self.old.state.lane state.now via }
+        requires free { OfNoJob (λ j. j.operation.id ≡ operation.now.id) self.old.jobs.items }
         requires in_lane { IsIn self.old.state.lane (buckets.key_of operation.now.id) }
         requires own { IsOwn operation.now.id operation.now.kind }
         requires plain { IsPlainGet operation.now }
@@ -196,12 +203,51 @@ impl Work {
         key: u64,
         operation: &Operation,
         known: Option<&KnownOwner>,
+    ) -> Begin
+        requires keeps { IsWork self.old }
+        requires key { key ≡ keys.key_of operation.now.id }
+        requires fresh { IsFresh (history (journal_of self.old.state)) line }
+        requires published { IsSome (last_state (journal_of self.old.state)) }
+        requires in_lane { IsIn self.old.state.lane (buckets.key_of operation.now.id) }
+        requires own { IsOwn operation.now.id operation.now.kind }
+        requires plain { IsPlainGet operation.now }
+        ensures keeps { IsWork self.new }
+        ensures carried { StaysCarried self.old.state self.new.state }
+        ensures begins { OfValues (λ old new. IsBeginningAtOwner line operation.now old new result) self.old self.new }
+    {
+        let Some(state) = self.state.newest else {
+            unreachable!();
+        };
+        let owner = self.state.owner_by(known, &state);
+        if let Some(by) = self.hearing_held(owner, &state) {
+            return Begin::Held { by };
+        }
+        if let Some(by) = holder_of(&self.jobs, &operation.id) {
+            return Begin::Held { by };
+        }
+        match self.begin_hearing(line, key, operation, owner, &state) {
+            Ok(()) => Begin::Begun,
+            Err(NoMemory) => Begin::NoMemory,
+        }
+    }
+
+    /// The owner hears the newest state, and begins it; nothing stands against either.
+    fn begin_hearing(
+        &mut self,
+        line: u32,
+        key: u64,
+        operation: &Operation,
+        owner: u8,
+        state: &ClusterState,
     ) -> Result<(), NoMemory>
         requires keeps { IsWork self.old }
         requires key { key ≡ keys.key_of operation.now.id }
-        requires idle { self.old.job ≡ None }
         requires fresh { IsFresh (history (journal_of self.old.state)) line }
-        requires published { IsSome (last_state (journal_of self.old.state)) }
+        requires newest { self.old.state.newest ≡ Some state.now }
+        requires owner { IsOwner self.old.state.lane state.now owner }
+        requires free_to_hear { is_older (held owner (history (journal_of self.old.state))) state.now.version ≡ true
+            → OfNoJob (λ j. j.distributor ≡ owner) self.old.jobs.items }
+        requires free { OfNoJob (λ j. j.operation.id ≡ operation.now.id) self.old.jobs.items }
         requires in_lane { IsIn self.old.state.lane (buckets.key_of operation.now.id) }
         requires own { IsOwn operation.now.id operation.now.kind }
         requires plain { IsPlainGet operation.now }
@@ -210,16 +256,12 @@ impl Work {
         ensures ok { OnOk result (OfValues (BeginsAtOwner line operation.now) self.old self.new) }
         ensures err { OnErr result (SameValue self.old self.new) }
     {
-        let Some(state) = self.state.newest else {
-            unreachable!();
-        };
-        let owner = self.state.owner_by(known, &state);
         let id = operation.id.copy(self.state.alloc)?;
         let copy = shared_copy(self.state.alloc, operation)?;
         self.room_to_begin(3, state.version())?;
         self.need_part(owner)?;
-        self.hear_within(owner, &state);
-        self.note_begun(line, key, id, copy, owner, &state);
+        self.hear_within(owner, state);
+        self.note_begun(line, key, id, copy, owner, state);
         Ok(())
     }
 
@@ -233,15 +275,19 @@ impl Work {
         ensures counted { OnOk result (IsSome (tree.get nat_cmp self.new.drawn version)) }
         ensures same { SameValue self.old self.new }
         ensures items { self.new.state.journal.events.items ≡ self.old.state.journal.events.items }
+        ensures place { OnOk result (vec_len self.new.jobs + 1 ≤ vec_capacity self.new.jobs) }
+        ensures jobs { self.new.jobs.items ≡ self.old.jobs.items }
         ensures after { self.new ≡ record self.old {
           state = record self.old.state { journal = self.new.state.journal };
           drawn = self.new.drawn;
+          jobs = self.new.jobs;
         } }
     {
         self.state
             .journal
             .events
             .reserve(events + self.state.spare)?;
+        self.jobs.reserve(1)?;
         make_count(&mut self.drawn, version)
     }
 
@@ -259,8 +305,9 @@ impl Work {
         requires keeps { IsWork self.old }
         requires key { key ≡ keys.key_of operation.id }
         requires id { id ≡ operation.id }
-        requires idle { self.old.job ≡ None }
         requires fresh { IsFresh (history (journal_of self.old.state)) line }
+        requires free { OfNoJob (λ j. j.operation.id ≡ operation.id) self.old.jobs.items }
+        requires place { vec_len self.old.jobs + 1 ≤ vec_capacity self.old.jobs }
         requires acting { IsActing self.old.state.lane (journal_of self.old.state) via state.now }
         requires in_lane { IsIn self.old.state.lane (buckets.key_of operation.id) }
         requires own { IsOwn operation.id operation.kind }
@@ -283,14 +330,15 @@ impl Work {
             stamp,
         });
         self.state.spare += 1;
-        put_job(
-            &mut self.job,
+        push_job(
+            &mut self.jobs,
             Job {
                 line,
                 operation,
                 key,
                 distributor: via,
                 stamp,
+                row: None,
                 left: 65,
                 phase: Phase::Begun,
             },
@@ -306,7 +354,6 @@ impl Work {
         state: &ClusterState,
     ) -> Result<Outcome, NoMemory>
         requires keeps { IsWork self.old }
-        requires idle { self.old.job ≡ None }
         requires fresh { IsFresh (history (journal_of self.old.state)) line }
         requires holds { (part_of self.old.state via).state ≡ Some state.now }
         requires owner { IsOwner self.old.state.lane state.now owner }
@@ -338,88 +385,118 @@ fn is_begun(phase: &Phase) -> bool
     }
 }
 
-/// Takes one call of the job, which wants memory until more is known of it.
-fn spend(place: &mut Option<Job>)
-    requires { HasCall place.old }
-    ensures { place.new ≡ spent place.old }
+/// Takes one call of the job at a place, which wants memory until more is known of it.
+fn spend(jobs: &mut Vec<Job>, at: usize)
+    requires { OfJob (λ j. 1 ≤ j.left) jobs.old.items at }
+    ensures { OfJob (λ j. jobs.new.items ≡ slice_set jobs.old.items at (spent j)) jobs.old.items at }
 {
-    let Some(job) = place else {
-        unreachable!();
-    };
+    let job = &mut jobs[at];
     job.left -= 1;
     job.phase = Phase::Short;
 }
 
 impl Work {
-    /// Whether nothing was done for the operation under way since it was begun.
-    pub fn is_begun(&self) -> bool
-        ensures { result ≡ just_begun self.now.job }
+    /// Whether nothing was done for the operation at a place since it was begun.
+    pub fn is_begun(&self, at: usize) -> bool
+        requires { at < vec_len self.now.jobs }
+        ensures { OfJob (λ j. result ≡ is_begun j.phase) self.now.jobs.items at }
     {
-        match &self.job {
-            Some(job) => is_begun(&job.phase),
-            None => false,
-        }
+        is_begun(&self.jobs[at].phase)
     }
 
-    /// Finds the row for the operation that was begun, or how it ends without one. The only error is want of
+    /// Whether a distributor opened its state.
+    fn has_opened(&self, distributor: u8) -> bool
+        requires there { distributor < vec_len self.now.state.parts }
+        ensures { result ≡ is_some (part_of self.now.state distributor).rows }
+    {
+        self.state.parts[usize::from(distributor)].is_opened()
+    }
+
+    /// The line that stands against the search for the row of the operation at a place: where the state is opened and the
+    /// row has too few complete members, the first of its distributor that is prepared there.
+    fn blocker(&self, at: usize) -> Option<u32>
+        requires keeps { IsWork self.now }
+        requires begun { JustBegun self.now.jobs.items at }
+        ensures { OfJob (λ j. IsBlocked self.now j result) self.now.jobs.items at }
+    {
+        owners_act();
+        let job = &self.jobs[at];
+        if !self.has_opened(job.distributor) {
+            return None;
+        }
+        let row = row_with(&self.state, job.distributor, job.key);
+        if self.state.rules.acks <= row.complete.len() {
+            return None;
+        }
+        prepared_in(&self.jobs, job.distributor, row.bucket)
+    }
+
+    /// Finds the row for the operation at a place, which was begun, or how it ends without one. The only error is want of
     /// memory, and then the operation goes no further.
-    fn search<C: Carrier>(&mut self, carrier: &mut C) -> Result<Option<Shortage>, NoMemory>
+    fn search<C: Carrier>(
+        &mut self,
+        at: usize,
+        carrier: &mut C,
+    ) -> Result<Option<Shortage>, NoMemory>
         requires keeps { IsWork self.old }
         requires carried { IsCarriedBy self.old.state (C.given carrier.old) }
-        requires begun { just_begun self.old.job ≡ true }
+        requires begun { JustBegun self.old.jobs.items at }
+        requires free { OfJob (IsFreeFor self.old) self.old.jobs.items at }
         ensures keeps { IsWork self.new }
         ensures carried { IsCarriedBy self.new.state (C.given carrier.new) }
         ensures planned { C.planned carrier.new ≡ C.planned carrier.old }
         ensures kind { C.takes_plans carrier.new ≡ C.takes_plans carrier.old }
         ensures searches { IfOk result
-            (λ end. SearchesBy self.old self.new (C.given carrier.old) (C.given carrier.new)) }
-        ensures comes { IfOk result (ComesToRow self.new) }
+            (λ end. SearchesBy at self.old self.new (C.given carrier.old) (C.given carrier.new)) }
+        ensures comes { IfOk result (ComesToRow (search_from self.old.state) self.new at) }
         ensures cut { OnErr result
-            (AdvancesBy self.old self.new (C.given carrier.old) (C.given carrier.new) advance.NoMemory) }
+            (AdvancesBy at self.old self.new (C.given carrier.old) (C.given carrier.new) advance.NoMemory) }
     {
         owners_act();
-        let Some(job) = &self.job else {
-            unreachable!();
-        };
+        let job = &self.jobs[at];
         let distributor = job.distributor;
         let key = job.key;
-        spend(&mut self.job);
+        spend(&mut self.jobs, at);
         find_row(&mut self.state, distributor, key, carrier)
     }
 
-    /// Prepares the operation in the row that was found; where none was, it is over with the outcome of that.
-    fn come(&mut self, found: Option<Shortage>) -> Advance
+    /// Prepares the operation at a place in the row that was found; where none was, it is over with the outcome of that.
+    fn come(&mut self, at: usize, found: Option<Shortage>) -> Advance
         requires keeps { IsWork self.old }
-        requires comes { ComesToRow self.old found }
+        requires comes { MayCome self.old at found }
         ensures keeps { IsWork self.new }
         ensures carried { StaysCarried self.old.state self.new.state }
-        ensures advances { AdvancesFrom self.old self.new result }
+        ensures advances { ComesFrom at self.old found self.new result }
     {
         match found {
-            None => match self.prepare_in_row() {
+            None => match self.prepare_in_row(at) {
                 Ok(()) => Advance::More,
                 Err(NoMemory) => Advance::NoMemory,
             },
             Some(shortage) => {
-                self.fall_short(shortage.outcome(), shortage.outcome());
+                self.fall_short(at, shortage.outcome(), shortage.outcome());
                 Advance::Done
             }
         }
     }
 
-    /// The first call of an operation that was begun: it is prepared in its row, or is over. It takes memory.
-    pub fn prepare<C: Carrier>(&mut self, carrier: &mut C) -> Advance
+    /// The first call of the operation at a place, which was begun: it is prepared in its row, or is over, or waits. It
+    /// takes memory.
+    pub fn prepare<C: Carrier>(&mut self, at: usize, carrier: &mut C) -> Advance
         requires keeps { IsWork self.old }
         requires carried { IsCarriedBy self.old.state (C.given carrier.old) }
-        requires begun { just_begun self.old.job ≡ true }
+        requires begun { JustBegun self.old.jobs.items at }
         ensures keeps { IsWork self.new }
         ensures carried { IsCarriedBy self.new.state (C.given carrier.new) }
         ensures planned { C.planned carrier.new ≡ C.planned carrier.old }
         ensures kind { C.takes_plans carrier.new ≡ C.takes_plans carrier.old }
-        ensures advances { AdvancesBy self.old self.new (C.given carrier.old) (C.given carrier.new) result }
+        ensures advances { AdvancesBy at self.old self.new (C.given carrier.old) (C.given carrier.new) result }
     {
-        match self.search(carrier) {
-            Ok(found) => self.come(found),
+        if let Some(by) = self.blocker(at) {
+            return Advance::Waits { by };
+        }
+        match self.search(at, carrier) {
+            Ok(found) => self.come(at, found),
             Err(NoMemory) => Advance::NoMemory,
         }
     }
@@ -559,28 +636,24 @@ fn step_job<C: Carrier>(
 }
 
 impl Work {
-    /// One call of an operation that is prepared: its next message is sent and dealt with. It takes memory.
-    pub fn step<C: Carrier>(&mut self, carrier: &mut C) -> Advance
+    /// One call of the operation at a place, which is prepared: its next message is sent and dealt with. It takes memory.
+    pub fn step<C: Carrier>(&mut self, at: usize, carrier: &mut C) -> Advance
         requires keeps { IsWork self.old }
         requires carried { IsCarriedBy self.old.state (C.given carrier.old) }
-        requires prepared { IsToStep self.old.job }
+        requires prepared { IsToStep self.old.jobs.items at }
         ensures keeps { IsWork self.new }
         ensures carried { IsCarriedBy self.new.state (C.given carrier.new) }
         ensures planned { C.planned carrier.new ≡ C.planned carrier.old }
         ensures kind { C.takes_plans carrier.new ≡ C.takes_plans carrier.old }
-        ensures advances { AdvancesBy self.old self.new (C.given carrier.old) (C.given carrier.new) result }
+        ensures advances { AdvancesBy at self.old self.new (C.given carrier.old) (C.given carrier.new) result }
     {
         operations_end();
-        let Some(job) = &self.job else {
-            unreachable!();
-        };
-        let Phase::Prepared { .. } = &job.phase else {
-            unreachable!();
-        };
-        let Some(job) = &mut self.job else {
-            unreachable!();
-        };
-        step_job(&mut self.state, job, &mut self.places, carrier)
+        step_job(
+            &mut self.state,
+            &mut self.jobs[at],
+            &mut self.places,
+            carrier,
+        )
     }
 }
 
@@ -609,25 +682,37 @@ fn machine_of(
     ))
 }
 
-/// Puts a job into another phase.
-pub fn set_phase(place: &mut Option<Job>, phase: Phase)
-    requires { IsSome place.old }
-    ensures { place.new ≡ with_phase phase place.old }
+/// Puts the job at a place into another phase.
+pub fn set_phase(jobs: &mut Vec<Job>, at: usize, phase: Phase)
+    requires { at < vec_len jobs.old }
+    ensures { OfJob (λ j. jobs.new.items ≡ slice_set jobs.old.items at (record j { phase = phase })) jobs.old.items at }
 {
-    let Some(job) = place else {
-        unreachable!();
+    jobs[at].phase = phase;
+}
+
+/// The job at a place is prepared in a row.
+fn set_prepared(jobs: &mut Vec<Job>, at: usize, row: Bucket, machine: OpMachine)
+    requires { at < vec_len jobs.old }
+    ensures { OfJob (λ j. jobs.new.items ≡ slice_set jobs.old.items at
+        (record j { row = Some row; phase = phase.Prepared machine row false })) jobs.old.items at }
+{
+    let job = &mut jobs[at];
+    job.row = Some(row);
+    job.phase = Phase::Prepared {
+        machine,
+        row,
+        written: false,
     };
-    job.phase = phase;
 }
 
 impl Work {
-    /// Prepares the operation under way in the row of its key, which has enough complete members.
-    pub fn prepare_in_row(&mut self) -> Result<(), NoMemory>
+    /// Prepares the operation at a place in the row of its key, which has enough complete members.
+    pub fn prepare_in_row(&mut self, at: usize) -> Result<(), NoMemory>
         requires keeps { IsWork self.old }
-        requires ready { IsReady self.old.state self.old.job }
+        requires ready { IsReady self.old.state self.old.jobs.items at }
         ensures keeps { IsWork self.new }
         ensures carried { StaysCarried self.old.state self.new.state }
-        ensures ok { OnOk result (OfValues PreparesNext self.old self.new) }
+        ensures ok { OnOk result (OfValues (PreparesAt at) self.old self.new) }
         ensures err { OnErr result (SameValue self.old self.new) }
     {
         owners_act();
@@ -635,9 +720,7 @@ impl Work {
         operations_shorten();
         one_active_copy();
         kept_journals_mean_legal_ones();
-        let Some(job) = &self.job else {
-            unreachable!();
-        };
+        let job = &self.jobs[at];
         let Some(state) = self.state.state_at(job.distributor) else {
             unreachable!();
         };
@@ -655,30 +738,24 @@ impl Work {
             row: row.bucket,
             recipients: row.complete,
         });
-        set_phase(
-            &mut self.job,
-            Phase::Prepared {
-                machine,
-                row: row.bucket,
-                written: false,
-            },
-        );
+        set_prepared(&mut self.jobs, at, row.bucket, machine);
         Ok(())
     }
 }
 
 impl Work {
-    /// The operation under way, which couldn't be prepared, is over with this outcome, which is handed over
+    /// The operation at a place, which couldn't be prepared, is over with this outcome, which is handed over
     /// for the journal and for the caller.
-    pub fn fall_short(&mut self, outcome: Outcome, told: Outcome)
+    pub fn fall_short(&mut self, at: usize, outcome: Outcome, told: Outcome)
         requires keeps { IsWork self.old }
-        requires short { MayFallShort self.old.state self.old.job outcome told }
+        requires short { MayFallShort self.old.state self.old.jobs.items at outcome told }
         ensures keeps { IsWork self.new }
         ensures carried { StaysCarried self.old.state self.new.state }
-        ensures over { OfValues (λ old new. new ≡ record old { under_way = is_over old.under_way }) self.old self.new }
+        ensures over { OfValues (OverAt at outcome) self.old self.new }
     {
         set_phase(
-            &mut self.job,
+            &mut self.jobs,
+            at,
             Phase::Over {
                 outcome,
                 told,

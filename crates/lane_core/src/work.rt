@@ -1,7 +1,6 @@
-ghost use Rattle.std.specs.Prelude.{◌≡◌, Some, ◌<◌, ◌+◌, [], ◌∷◌, ℕ, Bool, true, false, None, IsSome, IfSome, IfOk, OnOk, OnErr, List, vec_len};
-ghost use Rattle.lane_lives.specs.LaneValues.{closed_by, new_value};
-ghost use Rattle.lane_core.specs.Advancing.{IsOutcome};
-ghost use Rattle.lane_core.specs.Works.{IsWork, OfValues, IsToClosePhase, IsToClose, IsEndedBy, value_of, SameValue};
+ghost use Rattle.std.specs.Prelude.{◌≡◌, Some, ◌<◌, ◌≤◌, ◌+◌, [], ◌∷◌, ◌++◌, ℕ, Bool, true, false, IsSome, IfSome, IfNone, OnOk, OnErr, List, vec_len, vec_capacity};
+ghost use Rattle.lane_lives.specs.LaneValues.{Closes, IsHearing, new_value};
+ghost use Rattle.lane_core.specs.Works.{IsWork, OfValues, OfNoJob, OfFirstJob, IsToClosePhase, HasJobToClose, IsEndedBy, value_of, SameValue};
 ghost use Rattle.lane_states.specs.LaneStates.{StaysCarried, journal_of, IsCarriedBy, HasRoom, IsSetUp};
 ghost use Rattle.lane_states.specs.Told.{IsUnused};
 ghost use Rattle.carriers.specs.declared.fate.Fate.{Fate};
@@ -10,12 +9,16 @@ ghost use Rattle.lane_journals.specs.Places.{told};
 ghost use Rattle.ideal_nodes.specs.Placement.{IsOwner};
 ghost use Rattle.lane_keeping.specs.LaneKeeping.{setting_of};
 ghost use Rattle.lane_keeping.specs.Acting.{IsActing};
-ghost use Rattle.lane_keeping.specs.Tidings.{heard_next, announced, stopped_next, started_next, last_state};
+ghost use Rattle.lane_keeping.specs.Tidings.{heard_next, is_older, announced, stopped_next, started_next, last_state};
+ghost use Rattle.lane_journals.specs.Readers.{held};
+ghost use Rattle.lane_journals.specs.Meanings.{history};
 ghost use Rattle.lane_upkeep.specs.Passing.{PassesOn};
-ghost use Rattle.lane_upkeep.specs.Maintaining.{AreReturned, HasOpened};
+ghost use Rattle.lane_upkeep.specs.Maintaining.{AreReturned, HasOpened, HaveRun};
+ghost use Rattle.lane_core.specs.Showing.{all_changes, ShowsMore};
 ghost use Rattle.lane_core.specs.Upkeeping.{MaintainsBy, MayMaintain, OpensBy, RestsBy};
 ghost use Rattle.lane_journals.specs.declared.event.LaneEvent.TheVariants as event;
 
+use crate::jobs::{first_of, place_of};
 use bucket_ids::Bucket;
 use carriers::Carrier;
 use cluster_states::ClusterState;
@@ -23,6 +26,7 @@ use distributor_part::Rules;
 use lane_carriage::laws::late_messages_wait;
 use lane_journals::laws::kept_journals_mean_legal_ones;
 use lane_lines::closing::note_end;
+use lane_lives::answers::Hear;
 use lane_states::known_owner::KnownOwner;
 use lane_states::lane_state::LaneState;
 use lane_upkeep::{Owner, maintain};
@@ -38,7 +42,7 @@ use upkeep_spans::laws::{upkeep_goes_on, upkeep_leaves_lines, upkeep_leaves_stat
 use value_lists::NoMemory;
 
 /// A lane with what it keeps of its lines: how many stamps were drawn under each version, where in the journal
-/// the entry of each stamp stands, and the operation that is under way.
+/// the entry of each stamp stands, and the operations that are under way.
 #[derive(Drop)]
 pub struct Work {
     pub state: LaneState,
@@ -46,7 +50,8 @@ pub struct Work {
     pub places: StampPlaces,
     /// Whether room was made for a publication, a stop or a start.
     pub has_room: bool,
-    pub job: Option<Job>,
+    /// In the order in which they began; a handful at a time.
+    pub jobs: Vec<Job>,
 }
 
 /// An operation that is to be closed: with an outcome for the journal and one for the caller.
@@ -97,27 +102,29 @@ fn end_of(job: Job) -> Ended
     }
 }
 
-/// Puts a job into its place.
-pub fn put_job(place: &mut Option<Job>, job: Job)
-    ensures { place.new ≡ Some job }
+/// Adds a job, for which there is room, behind the others.
+pub fn push_job(jobs: &mut Vec<Job>, job: Job)
+    requires { vec_len jobs.old + 1 ≤ vec_capacity jobs.old }
+    ensures { jobs.new.items ≡ jobs.old.items ++ job ∷ [] }
 {
-    *place = Some(job);
+    match jobs.push(job) {
+        Ok(()) => {}
+        Err(_) => unreachable!(),
+    }
 }
 
 impl Work {
-    /// Closes the operation under way, which is over or wanted memory.
-    pub fn close(&mut self) -> Outcome
+    /// Closes the operation of a line, which is over or wanted memory.
+    pub fn close(&mut self, line: u32) -> Outcome
         requires keeps { IsWork self.old }
-        requires over { IsToClose self.old.job }
+        requires over { HasJobToClose line self.old.jobs.items }
         ensures keeps { IsWork self.new }
         ensures carried { StaysCarried self.old.state self.new.state }
-        ensures outcome { OfValues (λ old new. IsOutcome old.under_way old result) self.old self.new }
-        ensures after { OfValues (λ old new. new ≡ closed_by result old) self.old self.new }
+        ensures closes { OfValues (Closes line result) self.old self.new }
     {
         operations_end();
-        let Some(job) = self.job.take() else {
-            unreachable!();
-        };
+        let at = place_of(&self.jobs, line);
+        let job = self.jobs.remove(at);
         let Ended {
             line,
             distributor,
@@ -153,7 +160,7 @@ pub enum Phase {
     Short,
 }
 
-/// The operation under way, as its lane keeps it.
+/// An operation under way, as its lane keeps it.
 #[derive(Drop)]
 pub struct Job {
     pub line: u32,
@@ -164,6 +171,8 @@ pub struct Job {
     pub distributor: u8,
     /// The stamp that it drew; none for a get.
     pub stamp: Option<Stamp>,
+    /// The row in which it is prepared, until it is closed.
+    pub row: Option<Bucket>,
     pub left: u8,
     pub phase: Phase,
 }
@@ -184,7 +193,7 @@ impl Work {
             drawn: BTreeMap::new(alloc),
             places: StampPlaces::none(alloc),
             has_room: false,
-            job: None,
+            jobs: Vec::new(alloc),
         }
     }
 
@@ -200,8 +209,8 @@ impl Work {
             return Ok(());
         }
         self.need_part(31)?;
-        self.state.journal.events.reserve(33 + self.state.spare)?;
-        self.state.journal.kept.reserve(1)?;
+        let events = 33 + self.state.spare;
+        self.state.room(events)?;
         self.state.spare += 33;
         self.has_room = true;
         Ok(())
@@ -212,15 +221,18 @@ impl Work {
         requires keeps { IsWork self.old }
         ensures keeps { IsWork self.new }
         ensures carried { StaysCarried self.old.state self.new.state }
-        ensures same { SameValue self.old self.new }
+        ensures ok { OnOk result (OfValues (λ old new. new ≡ record old { shown = all_changes old }) self.old self.new) }
+        ensures more { OfValues ShowsMore self.old self.new }
     {
-        self.state.settle()
+        let settled = self.state.settle();
+        // that no more is shown than there is is known once the shelf is read
+        let _shelf = self.state.shelf();
+        settled
     }
 
     /// Publishes a state, for which room was made.
     pub fn publish(&mut self, state: &ClusterState)
         requires keeps { IsWork self.old }
-        requires idle { self.old.job ≡ None }
         requires room { self.old.has_room ≡ true }
         requires accepted { publish_fault (told (setting_of self.old.state.lane self.old.state.rules) (journal_of self.old.state)) state.now
             ≡ None }
@@ -238,7 +250,7 @@ impl Work {
     /// number.
     pub fn announce(&mut self, state: &ClusterState, deaf: NodeSet)
         requires keeps { IsWork self.old }
-        requires idle { self.old.job ≡ None }
+        requires idle { self.old.jobs.items ≡ [] }
         requires room { self.old.has_room ≡ true }
         requires accepted { publish_fault (told (setting_of self.old.state.lane self.old.state.rules) (journal_of self.old.state)) state.now
             ≡ None }
@@ -254,29 +266,76 @@ impl Work {
         self.state.hear_all(state, deaf);
     }
 
-    /// A distributor hears the newest state, where it holds none or an older one; answers its version.
-    pub fn hear(&mut self, distributor: u8) -> Result<u32, NoMemory>
+    /// Whether a distributor holds no state, or an older one than this.
+    fn is_behind(&self, distributor: u8, state: &ClusterState) -> bool
+        requires keeps { IsWork self.now }
+        ensures { result ≡ is_older (held distributor (history (journal_of self.now.state))) state.now.version }
+    {
+        match self.state.held(distributor) {
+            Some(version) => version < state.version(),
+            None => true,
+        }
+    }
+
+    /// The first operation of a distributor that is to hear a state, if it is to; it stands against it.
+    pub fn hearing_held(&self, distributor: u8, state: &ClusterState) -> Option<u32>
+        requires keeps { IsWork self.now }
+        ensures held { IfSome result (λ by.
+            (is_older (held distributor (history (journal_of self.now.state))) state.now.version ≡ true)
+            × OfFirstJob (λ j. j.distributor ≡ distributor) self.now.jobs.items by) }
+        ensures free { IfNone result (is_older (held distributor (history (journal_of self.now.state))) state.now.version ≡ true
+            → OfNoJob (λ j. j.distributor ≡ distributor) self.now.jobs.items) }
+    {
+        if self.is_behind(distributor, state) {
+            return first_of(&self.jobs, distributor);
+        }
+        None
+    }
+
+    /// A distributor hears the newest state, where it holds none or an older one; none of its operations may be under way
+    /// then. Answers its version.
+    pub fn hear(&mut self, distributor: u8) -> Hear
         requires keeps { IsWork self.old }
-        requires idle { self.old.job ≡ None }
         requires published { IsSome (last_state (journal_of self.old.state)) }
         ensures keeps { IsWork self.new }
         ensures carried { StaysCarried self.old.state self.new.state }
-        ensures version { IfOk result (λ version. IfSome (last_state (journal_of self.old.state)) (λ s. version ≡ s.version)) }
-        ensures heard { OnOk result (OfValues (λ old new. new
-            ≡ record old { journal = heard_next distributor (last_state old.journal) old.journal }) self.old self.new) }
-        ensures err { OnErr result (SameValue self.old self.new) }
+        ensures hears { OfValues (λ old new. IsHearing distributor old new result) self.old self.new }
     {
         let Some(state) = self.state.newest else {
             unreachable!();
         };
-        self.state.hear(distributor)?;
-        Ok(state.version())
+        if let Some(by) = self.hearing_held(distributor, &state) {
+            return Hear::Held { by };
+        }
+        match self.hear_newest(distributor, &state) {
+            Ok(()) => Hear::Heard {
+                version: state.version(),
+            },
+            Err(NoMemory) => Hear::NoMemory,
+        }
+    }
+
+    /// It hears that state; none of its operations stands against it.
+    fn hear_newest(&mut self, distributor: u8, state: &ClusterState) -> Result<(), NoMemory>
+        requires keeps { IsWork self.old }
+        requires newest { self.old.state.newest ≡ Some state.now }
+        requires free { is_older (held distributor (history (journal_of self.old.state))) state.now.version ≡ true
+            → OfNoJob (λ j. j.distributor ≡ distributor) self.old.jobs.items }
+        ensures keeps { IsWork self.new }
+        ensures carried { StaysCarried self.old.state self.new.state }
+        ensures heard { OnOk result (OfValues (λ old new. new
+            ≡ record old { journal = heard_next distributor (Some state.now) old.journal }) self.old self.new) }
+        ensures err { OnErr result (SameValue self.old self.new) }
+    {
+        self.room_to_begin(1, state.version())?;
+        self.need_part(distributor)?;
+        self.hear_within(distributor, state);
+        Ok(())
     }
 
     /// A node stops, where it runs. Room was made for it.
     pub fn stop(&mut self, node: u8)
         requires keeps { IsWork self.old }
-        requires idle { self.old.job ≡ None }
         requires room { self.old.has_room ≡ true }
         requires number { node < 32 }
         ensures keeps { IsWork self.new }
@@ -292,7 +351,6 @@ impl Work {
     /// A node starts, where it is stopped. Room was made for it.
     pub fn start(&mut self, node: u8)
         requires keeps { IsWork self.old }
-        requires idle { self.old.job ≡ None }
         requires room { self.old.has_room ≡ true }
         requires number { node < 32 }
         ensures keeps { IsWork self.new }
@@ -321,7 +379,8 @@ impl Work {
     /// A distributor whose part is there hears the newest state, where it holds none or an older one. Room was made for it. An owner acts under that state then.
     pub fn hear_within(&mut self, distributor: u8, state: &ClusterState)
         requires keeps { IsWork self.old }
-        requires idle { self.old.job ≡ None }
+        requires free { is_older (held distributor (history (journal_of self.old.state))) state.now.version ≡ true
+            → OfNoJob (λ j. j.distributor ≡ distributor) self.old.jobs.items }
         requires newest { self.old.state.newest ≡ Some state.now }
         requires there { distributor < vec_len self.old.state.parts }
         requires room { HasRoom 1 self.old.state }
@@ -342,7 +401,9 @@ impl Work {
           };
         } }
     {
-        self.state.hear_within(distributor, state);
+        if self.is_behind(distributor, state) {
+            self.state.hear_within(distributor, state);
+        }
     }
 }
 
@@ -352,7 +413,7 @@ impl Work {
     fn maintain<C: Carrier>(&mut self, carrier: &mut C, owner: &Owner) -> Result<(), NoMemory>
         requires keeps { IsWork self.old }
         requires carried { IsCarriedBy self.old.state (C.given carrier.old) }
-        requires idle { self.old.job ≡ None }
+        requires idle { self.old.jobs.items ≡ [] }
         requires there { owner.now.distributor < vec_len self.old.state.parts }
         requires acting { IsActing self.old.state.lane (journal_of self.old.state) owner.now.distributor
             owner.now.state }
@@ -363,6 +424,7 @@ impl Work {
         ensures kind { C.takes_plans carrier.new ≡ C.takes_plans carrier.old }
         ensures on { PassesOn self.old.state self.new.state owner.now }
         ensures opened { OnOk result (AreReturned self.old.state self.new.state → HasOpened self.new.state owner.now) }
+        ensures run { OnOk result (AreReturned self.old.state self.new.state → HaveRun self.new.state owner.now) }
         ensures rests { OnOk result (RestsBy self.old self.new (C.given carrier.new)) }
         ensures after { self.new ≡ record self.old { state = self.new.state } }
     {
@@ -380,7 +442,7 @@ impl Work {
     ) -> Result<(), NoMemory>
         requires keeps { IsWork self.old }
         requires carried { IsCarriedBy self.old.state (C.given carrier.old) }
-        requires idle { self.old.job ≡ None }
+        requires idle { self.old.jobs.items ≡ [] }
         requires published { IsSome (last_state (journal_of self.old.state)) }
         ensures keeps { IsWork self.new }
         ensures carried { IsCarriedBy self.new.state (C.given carrier.new) }
@@ -390,7 +452,7 @@ impl Work {
         ensures opened { OnOk result (OpensBy self.old self.new) }
         ensures rests { OnOk result (RestsBy self.old self.new (C.given carrier.new)) }
         ensures err { OnErr result (MayMaintain self.old self.new (C.given carrier.old) (C.given carrier.new)) }
-        ensures idle { self.new.job ≡ None }
+        ensures idle { self.new.jobs.items ≡ [] }
     {
         upkeep_goes_on();
         let Some(state) = self.state.newest else {

@@ -1,5 +1,5 @@
 -- The events of versions below a version are a legal journal, as it is kept.
-use Rattle.std.proofs.Common.{◌≡◌, ℕ, ◌<◌, ◌≤◌, Bool, true, false, cond, List, [], ◌∷◌, Option, Some, None, refl, sym, ap, ◌∙◌, subst, subst₂, arith, inl, inr, eqb, ltb, eq-eqb}
+use Rattle.std.proofs.Common.{◌≡◌, ℕ, ◌<◌, ◌≤◌, Bool, true, false, cond, List, [], ◌∷◌, ◌++◌, Option, Some, None, refl, sym, ap, ◌∙◌, subst, subst₂, arith, inl, inr, eqb, ltb, eq-eqb}
 use Rattle.std.proofs.lemmas.Bool.{cases_lt}
 use Rattle.std.proofs.lemmas.Bool.Decides.{nat_tests}
 use Rattle.cluster_states.specs.declared.cluster_state.ClusterState.{ClusterState}
@@ -18,7 +18,7 @@ use Rattle.lane_journals.specs.Below.{keeps, keeps_line, kept, below}
 use Rattle.lane_journals.specs.Meanings.{version_in, entry_at, id_in, written, pick, content, names, id_at, meaning_body, meaning_reply, meaning, history}
 use Rattle.lane_journals.specs.Naming.{IsEntry, IsHeld, Each, NamesSent, NamesReplied, NamesShown, EntriesShown, PiecesShown, ShowsPieces, WellNoted}
 use Rattle.lane_journals.specs.Places.{Setting, state_in, Owns, IsAmongFirst, IsActive, IsTarget, receivers_of, NamesRow, WasNamed, IsPartition, PlacedBody, PlacedDecision, IsElsewhere, Placed}
-use Rattle.lane_journals.specs.Endings.{HasSeen, IsDocument, NoDocument, FellShort, OpeningFellShort, RoundFellShort, UnionFellShort, ReadsFellShort, StoresFellShort, UnpreparedFellShort, PreparedFellShort, MayEnd, Ended}
+use Rattle.lane_journals.specs.Endings.{HasSeen, IsDocument, NoDocument, FellShort, OpeningFellShort, RoundFellShort, UnionFellShort, ReadsFellShort, StoresFellShort, UnpreparedFellShort, HasFallenShort, PreparedFellShort, MayEnd, Ended}
 use Rattle.lane_journals.specs.KeptJournals.{IsLegal}
 use Rattle.pieces.specs.declared.piece.Piece.{Piece}
 use Rattle.messages.specs.declared.outcome.Outcome.{Outcome}
@@ -516,6 +516,43 @@ module _ (S : Setting) (P : ℕ → ℕ → Bool) (v : ℕ) where
     short-map _ _ _ _ a x (λ m y. y) (λ m y. y) (λ m y. answered_store-below S.acks P v J l b.version b.id s m lt ∙ y) (λ m y. sym (answered_store-below S.acks P v J l b.version b.id s m lt) ∙ y) h.2,
   )
 
+  -- ---- a line that isn't prepared
+
+  under-front : (later moment : List LaneEvent) → Under S P (later ++ moment) → Under S P moment
+  under-front [] moment l = l
+  under-front (e ∷ later) moment l = under-front later moment l.0
+
+  below-front : (later moment : List LaneEvent) → (rest : List LaneEvent) × (kept_below v (later ++ moment) ≡ rest ++ kept_below v moment)
+  below-front [] moment = ([], refl)
+  below-front (e ∷ later) moment = by_kept (kept v (history (later ++ moment)) (meaning (later ++ moment) e)) (below-front later moment)
+    where
+      by_kept : (t : Bool) → (rest : List LaneEvent) × (kept_below v (later ++ moment) ≡ rest ++ kept_below v moment)
+          → (rest : List LaneEvent) × (cond t (e ∷ kept_below v (later ++ moment)) (kept_below v (later ++ moment)) ≡ rest ++ kept_below v moment)
+      by_kept true ih = (e ∷ ih.0, ap (λ (K : List LaneEvent). e ∷ K) ih.1)
+      by_kept false ih = ih
+
+  unprepared-below : (J : List LaneEvent) → (l : Under S P J) → (line : ℕ) (b : Beginning) → began line (history J) ≡ Some b → b.version < v → (a n y : ℕ) → UnpreparedFellShort S J line b a n y → UnpreparedFellShort S (kept_below v J) line b a n y
+  unprepared-below J l line b f lt a n y h = record {
+    unprepared = move (λ K. prepared line K ≡ None) (prepared-below S.acks P v line (history J) lJ (low-line S.acks P v line (history J) b f lt) ∙ h.unprepared);
+    short = elim h.short [
+      | inl o ↦ inl (move (λ K. opened b.version K ≡ false) (opened-below v b.version lt (history J) ∙ o.0), move (λ K. OpeningFellShort K b.version a n y) (opening-below (history J) lJ b.version a n y lt o.1))
+      | inr r ↦ inr (
+        r.0,
+        move (λ K. row_at b.version (key_of b.id) K ≡ Some r.0) (row_at-below v b.version lt (history J) (key_of b.id) ∙ r.1),
+        elim r.2 [
+          | inl k ↦ inl (move (λ K. RoundFellShort K b.version r.0 a n y) (round-below (history J) lJ b.version r.0 a n y lt k))
+          | inr k ↦ inr (union-below J l b.version (key_of b.id) r.0 a n y lt k)
+        ],
+      )
+    ];
+  }
+    where
+      lJ : Legal S.acks P (history J)
+      lJ = under-legal S P J l
+
+      move : (Q : Journal → Type 0) → Q (below v (history J)) → Q (history (kept_below v J))
+      move Q q = subst Q (sym (history-below J l)) q
+
   end-below : (J : List LaneEvent) → (l : Under S P J) → (line : ℕ) (b : Beginning) (x : Outcome) → began line (history J) ≡ Some b → b.version < v → MayEnd S J line b x → MayEnd S (kept_below v J) line b x
   end-below J l line b x f lt = by_outcome x
     where
@@ -534,20 +571,14 @@ module _ (S : Setting) (P : ℕ → ℕ → Bool) (v : ℕ) where
       seen' : (seen : Option Stamp) → HasSeen S.acks (history J) line b seen → HasSeen S.acks (history (kept_below v J)) line b seen
       seen' seen h = move (λ K. HasSeen S.acks K line b seen) (seen-below (history J) lJ line b seen f lt h)
 
-      unprepared : (a n y : ℕ) → UnpreparedFellShort S J line b a n y → UnpreparedFellShort S (kept_below v J) line b a n y
-      unprepared a n y h = record {
+      fallen : (a n y : ℕ) → HasFallenShort S J line b a n y → HasFallenShort S (kept_below v J) line b a n y
+      fallen a n y h = let earlier = subst (Under S P) h.whole l in let later = below-front h.later h.moment in record {
         unprepared = move (λ K. prepared line K ≡ None) (prepared-below S.acks P v line (history J) lJ (low-line S.acks P v line (history J) b f lt) ∙ h.unprepared);
-        short = elim h.short [
-          | inl o ↦ inl (move (λ K. opened b.version K ≡ false) (opened-below v b.version lt (history J) ∙ o.0), move (λ K. OpeningFellShort K b.version a n y) (opening-below (history J) lJ b.version a n y lt o.1))
-          | inr r ↦ inr (
-            r.0,
-            move (λ K. row_at b.version (key_of b.id) K ≡ Some r.0) (row_at-below v b.version lt (history J) (key_of b.id) ∙ r.1),
-            elim r.2 [
-              | inl k ↦ inl (move (λ K. RoundFellShort K b.version r.0 a n y) (round-below (history J) lJ b.version r.0 a n y lt k))
-              | inr k ↦ inr (union-below J l b.version (key_of b.id) r.0 a n y lt k)
-            ],
-          )
-        ];
+        moment = kept_below v h.moment;
+        later = later.0;
+        whole = ap (kept_below v) h.whole ∙ later.1;
+        begun = subst (λ (K : Journal). began line K ≡ Some b) (sym (history-below h.moment (under-front h.later h.moment earlier))) (began-below S.acks P v (history h.moment) (under-legal S P h.moment (under-front h.later h.moment earlier)) line b h.begun lt);
+        short = unprepared-below h.moment (under-front h.later h.moment earlier) line b h.begun lt a n y h.short;
       }
 
       ready : (a n y : ℕ) → PreparedFellShort S.acks (history J) line b a n y → PreparedFellShort S.acks (history (kept_below v J)) line b a n y
@@ -567,7 +598,7 @@ module _ (S : Setting) (P : ℕ → ℕ → Bool) (v : ℕ) where
       by_outcome (Missing seen) h = (h.0, seen' seen h.1, no_document-below J l seen h.2)
       by_outcome (ConditionFailed seen) h = (h.0, wrote' false h.1, seen' seen h.2)
       by_outcome (BadUpdate fault) h = (h.0, wrote' false h.1, (h.2.0, seen' h.2.0 h.2.1))
-      by_outcome (TooFew a n y) (inl h) = inl (unprepared a n y h)
+      by_outcome (TooFew a n y) (inl h) = inl (fallen a n y h)
       by_outcome (TooFew a n y) (inr h) = inr (ready a n y h)
       by_outcome (OwnedElsewhere owner w) h = absurd h
       by_outcome outcome.NoMemory h = tt

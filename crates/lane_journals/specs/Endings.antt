@@ -1,5 +1,5 @@
 -- What the outcome of an operation says of its journal.
-use Rattle.std.specs.Prelude.{◌≡◌, ◌⊎◌, ◌↔◌, ◌<◌, ℕ, Bool, true, false, List, Option, Some, None, IsSome}
+use Rattle.std.specs.Prelude.{◌≡◌, ◌⊎◌, ◌↔◌, ◌<◌, ◌++◌, ℕ, Bool, true, false, List, Option, Some, None, IsSome}
 use Rattle.documents.specs.declared.entry.Entry.{Entry}
 use Rattle.lane_journals.specs.Sets.{count}
 use Rattle.lane_journals.specs.Stamps.{Stamp, Le}
@@ -78,6 +78,16 @@ pub record UnpreparedFellShort (S : Setting) (J : List LaneEvent) (line : ℕ) (
       ⊎ ((row : Bucket) × (row_at b.version (key_of b.id) (history J) ≡ Some row)
       × (RoundFellShort (history J) b.version row answered needed absent ⊎ UnionFellShort S J b.version (key_of b.id) row answered needed absent))
 
+-- it did at some moment since it began, and isn't prepared yet; what others do meanwhile may mend the shortage
+pub record HasFallenShort (S : Setting) (J : List LaneEvent) (line : ℕ) (b : Beginning) (answered needed absent : ℕ) : Type 0 where
+  pub unprepared : prepared line (history J) ≡ None
+  -- the journal at that moment, and what came later
+  pub moment : List LaneEvent
+  pub later : List LaneEvent
+  pub whole : J ≡ later ++ moment
+  pub begun : began line (history moment) ≡ Some b
+  pub short : UnpreparedFellShort S moment line b answered needed absent
+
 pub record PreparedFellShort (acks : ℕ) (J : Journal) (line : ℕ) (b : Beginning) (answered needed absent : ℕ) : Type 0 where
   pub preparing : Preparing
   pub was_prepared : prepared line J ≡ Some preparing
@@ -97,7 +107,7 @@ MayEnd S J line b (Found stamp) = (b.stamp ≡ None) × HasSeen S.acks (history 
 MayEnd S J line b (Missing seen) = (b.stamp ≡ None) × HasSeen S.acks (history J) line b seen × NoDocument J seen
 MayEnd S J line b (ConditionFailed seen) = IsSome b.stamp × IsUnwritten (history J) line × HasSeen S.acks (history J) line b seen
 MayEnd S J line b (BadUpdate fault) = IsSome b.stamp × IsUnwritten (history J) line × ((seen : Option Stamp) × HasSeen S.acks (history J) line b seen)
-MayEnd S J line b (TooFew answered needed absent) = UnpreparedFellShort S J line b answered needed absent ⊎ PreparedFellShort S.acks (history J) line b answered needed absent
+MayEnd S J line b (TooFew answered needed absent) = HasFallenShort S J line b answered needed absent ⊎ PreparedFellShort S.acks (history J) line b answered needed absent
 MayEnd S J line b (OwnedElsewhere owner version) = ⊥
 MayEnd S J line b NoMemory = Unit {0}
 

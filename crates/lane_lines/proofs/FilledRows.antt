@@ -23,11 +23,10 @@ use Rattle.op_machine.proofs.NodeLaws.{none_is, first_node-least, first_node-all
 use Rattle.lane_journals.specs.Buckets.{contains, key_of}
 use Rattle.lane_journals.specs.Events as plain
 use Rattle.lane_journals.specs.Sets.{count}
-use Rattle.lane_journals.specs.Readers.{Journal, Message, complete, began, sent, before_line, rounds, round_of, row_at}
+use Rattle.lane_journals.specs.Readers.{Journal, Message, complete, sent, rounds, round_of, row_at}
 use Rattle.lane_journals.specs.Endings.{RoundFellShort, UnionFellShort}
 use Rattle.lane_journals.specs.Meanings.{history, nodes}
 use Rattle.lane_journals.specs.Places.{receivers_of}
-use Rattle.lane_journals.proofs.Meant.{meant-legal}
 use Rattle.lane_journals.specs.KeptJournals.{IsLegalStep}
 use Rattle.lane_journals.specs.declared.event.LaneEvent.{LaneEvent}
 use Rattle.lane_journals.specs.declared.event.LaneEvent.TheVariants.{Closed}
@@ -35,7 +34,7 @@ use Rattle.lane_keeping.specs.LaneKeeping.{setting_of, PartKeeps}
 use Rattle.lane_keeping.specs.Acting.{IsKnownRow}
 use Rattle.round_keeping.specs.Laws.{OfAnswers, HasTooFew}
 use Rattle.operation_keeping.specs.Laws.{OfPreparing, OfUnderWay}
-use Rattle.operation_keeping.specs.OperationKeeping.{WasShort, beginning_of}
+use Rattle.operation_keeping.specs.OperationKeeping.{WasShortSince}
 use Rattle.operation_keeping.proofs.Counting.{small, count_nodes-is}
 use Rattle.proof_basics.proofs.Tests.{not_answered}
 use Rattle.operation_keeping.specs.Wants.{Ends, EndsUnless, NoRoundSince, reads_short, union_short, is_round_read, is_round_apply, AfterRound, ShortWants}
@@ -46,7 +45,7 @@ use Rattle.lane_states.specs.LaneStates.{journal_of, part_of, IsKept}
 use Rattle.round_keeping.specs.RoundRuns.{WasRefused, is_read_in, is_apply_in, NoneRuns, are_missing, is_short, EndsWith, IsEnd, IsWholeRun}
 use Rattle.lane_lines.specs.declared.readying.Shortage.{Shortage}
 use Rattle.lane_lines.specs.declared.readying.Shortage.TheVariants as shortage
-use Rattle.lane_lines.specs.Readying.{outcome_of, IsToPrepare, BeganNoRound, EndsShort, HasRowFor, FindsOr}
+use Rattle.lane_lines.specs.Readying.{outcome_of, IsToPrepare, BeganNoRound, HasSent, EndsShort, HasRowFor, FindsOr}
 use Rattle.lane_lines.specs.FilledRows.{shortage_by, shortage_after, IsFound}
 use Rattle.lane_lines.proofs.RoundLines.{Follows, round-since, sent-since, state-is}
 use Rattle.lane_lines.proofs.RowRounds.{HasBegun, follows-now}
@@ -72,10 +71,10 @@ row-fit c e d v key missing rules same kept h known inside =
     (subst (λ (r : Rules). r.acks ≤ size_of (h.row).complete) (kept.rules_are ∙ sym rules) h.enough)
 
 -- what the row comes to
-pub finds-by : (c : LaneState) (line : ℕ) (o : Operation) (s : ClusterState) (e : RoundEnd) (serving : ℕ) → IsKnownRow s.version (history (journal_of c)) e.row → contains (e.row).bucket (key_of o.id) ≡ true
-    → (x : Option Shortage) → IsFound e serving c.rules.acks x → (size_of (e.row).complete < c.rules.acks → EndsShort c line o (shortage_after e serving c.rules.acks)) → FindsOr c line o s x
-finds-by c line o s e serving known inside None found short = row-for c s.version (key_of o.id) e.row known inside found
-finds-by c line o s e serving known inside (Some x) found short = subst (λ (z : Shortage). EndsShort c line o z) (sym found.1) (short found.0)
+pub finds-by : (from : Journal) (c : LaneState) (line : ℕ) (o : Operation) (s : ClusterState) (e : RoundEnd) (serving : ℕ) → IsKnownRow s.version (history (journal_of c)) e.row → contains (e.row).bucket (key_of o.id) ≡ true
+    → (x : Option Shortage) → IsFound e serving c.rules.acks x → (size_of (e.row).complete < c.rules.acks → EndsShort from c line o (shortage_after e serving c.rules.acks)) → FindsOr from c line o s x
+finds-by from c line o s e serving known inside None found short = row-for c s.version (key_of o.id) e.row known inside found
+finds-by from c line o s e serving known inside (Some x) found short = subst (λ (z : Shortage). EndsShort from c line o z) (sym found.1) (short found.0)
 
 -- where not all readers were shown, those are counted that serve and aren't missing
 pub short-of-reads : (e : RoundEnd) (serving acks shown answered needed absent : ℕ) → e.short ≡ false → e.whole ≡ false → ((n : ℕ) → has_node shown n ≡ (has_node serving n && not (has_node e.missing n)))
@@ -117,7 +116,7 @@ shown-by true true h e = refl
 shown-by true false h e = absurd (true≢false e)
 shown-by false w h e = absurd (true≢false (sym h))
 
-module _ (c : LaneState) (J : List LaneEvent) (line : ℕ) (o : Operation) (d : ℕ) (stamp : Option Stamp) (y : RoundRun) (e : RoundEnd) (end : IsEnd (journal_of c) y e)
+module _ (from : Journal) (c : LaneState) (J : List LaneEvent) (line : ℕ) (o : Operation) (d : ℕ) (stamp : Option Stamp) (y : RoundRun) (e : RoundEnd) (end : IsEnd (journal_of c) y e)
     (f : Follows c.lane J (journal_of c) line o d y.state stamp (y.round).row (rounds (y.state).version (history J) + 1)) (serving : ℕ) (serving_are : (n : ℕ) → has_node serving n ≡ serves y.state n) where
   abbrev H : Journal
   H = history (journal_of c)
@@ -169,9 +168,9 @@ module _ (c : LaneState) (J : List LaneEvent) (line : ℕ) (o : Operation) (d : 
 
   -- ---- what the line wants
 
-  module _ (later : (k : ℕ) (m : Message) → sent k H ≡ Some m → m.version ≡ (y.state).version → m.round ≡ rounds (y.state).version (history J) + 1 → sent k (before_line line H) ≡ None) where
+  module _ (later : (k : ℕ) (m : Message) → sent k H ≡ Some m → m.version ≡ (y.state).version → m.round ≡ rounds (y.state).version (history J) + 1 → sent k from ≡ None) where
     -- whom the round asked, the line did
-    was-short : (test : Message → Type 0) → ((m : Message) → test m → (m.version ≡ (y.state).version) × (m.round ≡ number)) → WasRefused H test → WasShort H line test
+    was-short : (test : Message → Type 0) → ((m : Message) → test m → (m.version ≡ (y.state).version) × (m.round ≡ number)) → WasRefused H test → WasShortSince from H test
     was-short test of w = record {
       number = w.number;
       message = w.message;
@@ -182,46 +181,46 @@ module _ (c : LaneState) (J : List LaneEvent) (line : ℕ) (o : Operation) (d : 
       back = w.back;
     }
 
-    was-refused : (test : Message → Type 0) → WasShort H line test → WasRefused H test
+    was-refused : (test : Message → Type 0) → WasShortSince from H test → WasRefused H test
     was-refused test w = record { number = w.number; message = w.message; was_sent = w.was_sent; tested = w.tested; reply = w.reply; back = w.back }
 
     ends-unless : (flag : Bool) (test : Message → Type 0) (otherwise : Outcome) → ((m : Message) → test m → (m.version ≡ (y.state).version) × (m.round ≡ number)) → ((flag ≡ true) ↔ WasRefused H test)
-        → (flag ≡ true → outcome ≡ NoMemory) → (flag ≡ false → outcome ≡ otherwise) → EndsUnless (WasShort H line test) otherwise (Ends outcome)
+        → (flag ≡ true → outcome ≡ NoMemory) → (flag ≡ false → outcome ≡ otherwise) → EndsUnless (WasShortSince from H test) otherwise (Ends outcome)
     ends-unless flag test otherwise of is short long = by_flag flag refl
       where
-        by_flag : (t : Bool) → flag ≡ t → EndsUnless (WasShort H line test) otherwise (Ends outcome)
+        by_flag : (t : Bool) → flag ≡ t → EndsUnless (WasShortSince from H test) otherwise (Ends outcome)
         by_flag true t = inl (was-short test of (is.0 t), short t)
         by_flag false t = inr (λ w. true≢false (sym (is.1 (was-refused test w)) ∙ t), long t)
 
-    read-gives : e.whole ≡ false → EndsUnless (WasShort H line (is_round_read (y.state).version (y.round).row number)) (reads_short y.state e.row y.round) (Ends outcome)
+    read-gives : e.whole ≡ false → EndsUnless (WasShortSince from H (is_round_read (y.state).version (y.round).row number)) (reads_short y.state e.row y.round) (Ends outcome)
     read-gives w =
         let same : e.short ≡ y.unread = end.short_is ∙ ap (λ (t : Bool). is_short y t) w in
         ends-unless y.unread (is_read_in (y.state).version (y.round).row number) (reads_short y.state e.row y.round) (λ m t. (t.0, t.1)) (end.refusals).unread_is (λ t. is-memory (same ∙ t)) (λ t. is-read (same ∙ t) w)
 
-    applied-gives : e.whole ≡ true → EndsUnless (WasShort H line (is_round_apply (y.state).version (y.round).row number)) (union_short c.rules e.row y.round) (Ends outcome)
+    applied-gives : e.whole ≡ true → EndsUnless (WasShortSince from H (is_round_apply (y.state).version (y.round).row number)) (union_short c.rules e.row y.round) (Ends outcome)
     applied-gives w =
         let same : e.short ≡ y.unapplied = end.short_is ∙ ap (λ (t : Bool). is_short y t) w in
         ends-unless y.unapplied (is_apply_in (y.state).version (y.round).row number) (union_short c.rules e.row y.round) (λ m t. (t.0, t.1)) (end.refusals).unapplied_is (λ t. is-memory (same ∙ t)) (λ t. is-applied (same ∙ t) w)
 
-    after-round : AfterRound c.rules (journal_of c) line y.state e.row y.round (Ends outcome)
+    after-round : AfterRound c.rules (journal_of c) from y.state e.row y.round (Ends outcome)
     after-round = by_whole e.whole refl
       where
-        by_whole : (t : Bool) → e.whole ≡ t → AfterRound c.rules (journal_of c) line y.state e.row y.round (Ends outcome)
-        by_whole false w = inl (not-whole w, subst (λ (b : Low). EndsUnless (WasShort H line (is_round_read (y.state).version b (round_of (y.state).version b H))) (reads_short y.state e.row y.round) (Ends outcome)) end.same_row (read-gives w))
-        by_whole true w = inr (end.whole_is.0 w, subst (λ (b : Low). EndsUnless (WasShort H line (is_round_apply (y.state).version b (round_of (y.state).version b H))) (union_short c.rules e.row y.round) (Ends outcome)) end.same_row (applied-gives w))
+        by_whole : (t : Bool) → e.whole ≡ t → AfterRound c.rules (journal_of c) from y.state e.row y.round (Ends outcome)
+        by_whole false w = inl (not-whole w, subst (λ (b : Low). EndsUnless (WasShortSince from H (is_round_read (y.state).version b (round_of (y.state).version b H))) (reads_short y.state e.row y.round) (Ends outcome)) end.same_row (read-gives w))
+        by_whole true w = inr (end.whole_is.0 w, subst (λ (b : Low). EndsUnless (WasShortSince from H (is_round_apply (y.state).version b (round_of (y.state).version b H))) (union_short c.rules e.row y.round) (Ends outcome)) end.same_row (applied-gives w))
 
-    module _ (key_is : y.key ≡ key_of o.id) (none : NoneRuns (journal_of c)) (began_none : NoRoundSince J line (y.state).version (y.round).row) (few : size_of (e.row).complete < c.rules.acks) where
+    module _ (key_is : y.key ≡ key_of o.id) (none : NoneRuns (journal_of c)) (began_none : NoRoundSince J from (y.state).version (y.round).row) (few : size_of (e.row).complete < c.rules.acks) where
       inside : contains (e.row).bucket (key_of o.id) ≡ true
       inside = subst (λ (k : ℕ). contains (e.row).bucket k ≡ true) key_is end.inside
 
-      short-wants : ShortWants c.rules (journal_of c) line (key_of o.id) y.state (Ends outcome)
+      short-wants : ShortWants c.rules (journal_of c) from (key_of o.id) y.state (Ends outcome)
       short-wants = record {
         row = e.row;
         has_row = record { known = end.known; inside = inside; no_round = none (y.state).version (e.row).bucket };
         few = few;
         round = y.round;
         same_row = end.same_row;
-        since = λ h. round-since c.lane J (journal_of c) line o d y.state stamp (y.round).row f began_none (subst (λ (b : Low). NoRoundSince (journal_of c) line (y.state).version b) (sym end.same_row) h);
+        since = λ h. round-since c.lane J (journal_of c) line o d y.state stamp (y.round).row f from began_none (subst (λ (b : Low). NoRoundSince (journal_of c) from (y.state).version b) (sym end.same_row) h);
         knows = end.answers;
         gives = after-round;
       }
@@ -279,7 +278,7 @@ module _ (c : LaneState) (J : List LaneEvent) (line : ℕ) (o : Operation) (d : 
             by_test false false p q = subst MayClose (sym (is-read p q)) (read-legal q)
             by_test false true p q = subst MayClose (sym (is-applied p q)) (applied-legal q (some p q))
 
-        pub ends-short : (e.short ≡ false → e.whole ≡ true → size_of e.missing ≡ 0 → ⊥) → EndsShort c line o (shortage_after e serving c.rules.acks)
+        pub ends-short : (e.short ≡ false → e.whole ≡ true → size_of e.missing ≡ 0 → ⊥) → EndsShort from c line o (shortage_after e serving c.rules.acks)
         ends-short some = record {
           wanted = record {
             distributor = d;
@@ -328,7 +327,7 @@ module _ (gives_up : OfUnderWay (λ lane rules J d s line o stamp. IsLegalStep (
     (applies : OfAnswers (λ lane rules J s r. (key absent : ℕ) (row : Row) → HasTooFew rules.acks J s r key row absent
     → UnionFellShort (setting_of lane rules) J s.version key r.row (size_of row.complete) rules.acks absent))
     (x m n : LaneState) (d key : ℕ) (run : RoundRun) (h : HasBegun x m n d key run) (line : ℕ) (o : Operation) (s : ClusterState) (stamp : Option Stamp) (w : IsToPrepare x.lane (journal_of x) line o d s stamp)
-    (same : key ≡ key_of o.id) (none : BeganNoRound (journal_of x) line s.version) (lane_now : n.lane ≡ x.lane) (kept : IsKept x) (now : IsKept n) (none_runs : NoneRuns (journal_of n))
+    (same : key ≡ key_of o.id) (from : Journal) (has : HasSent from (journal_of x)) (none : BeganNoRound (journal_of x) from s.version) (lane_now : n.lane ≡ x.lane) (kept : IsKept x) (now : IsKept n) (none_runs : NoneRuns (journal_of n))
     (e : RoundEnd) (given after : List Fate) (last then : ℕ) (late rest : List Late) (whole : IsWholeRun m.lane run e given after last then late rest (journal_of m) (journal_of n)) where
   abbrev y : RoundRun
   y = whole.run
@@ -346,18 +345,17 @@ module _ (gives_up : OfUnderWay (λ lane rules J d s line o stamp. IsLegalStep (
       (subst (λ (l : Low). Follows l (journal_of x) (journal_of n) line o d s stamp (run.round).row (rounds s.version (history (journal_of x)) + 1)) (sym lane_now)
       (follows-now x m n d key run h line o s stamp w e given after last then late rest whole)))
 
-  later : (k : ℕ) (z : Message) → sent k (history (journal_of n)) ≡ Some z → z.version ≡ (y.state).version → z.round ≡ rounds (y.state).version (history (journal_of x)) + 1 → sent k (before_line line (history (journal_of n))) ≡ None
-  later = sent-since n.lane (journal_of x) (journal_of n) line o d y.state stamp (y.round).row follows x.rules.acks n.rules.acks _ _ (meant-legal (setting_of x.lane x.rules) (journal_of x) (kept.keeps).legal) (meant-legal (setting_of n.lane n.rules) (journal_of n) (now.keeps).legal)
-      (beginning_of d s o stamp) ((w.knows).is_under_way).begun_as (subst (λ (t : ClusterState). began line (history (journal_of n)) ≡ Some (beginning_of d t o stamp)) state-then (((follows.waits).knows).is_under_way).begun_as)
+  later : (k : ℕ) (z : Message) → sent k (history (journal_of n)) ≡ Some z → z.version ≡ (y.state).version → z.round ≡ rounds (y.state).version (history (journal_of x)) + 1 → sent k from ≡ None
+  later = sent-since n.lane (journal_of x) (journal_of n) line o d y.state stamp (y.round).row follows from has
 
   -- the row has enough complete members, or the operation may end as it wants
   pub finds-after : (serving : ℕ) → ((k : ℕ) → has_node serving k ≡ serves run.state k) → (found : Option Shortage) → IsFound e serving n.rules.acks found
-      → (size_of (e.row).complete < n.rules.acks → e.whole ≡ true → size_of e.missing ≡ 0 → ⊥) → FindsOr n line o s found
+      → (size_of (e.row).complete < n.rules.acks → e.whole ≡ true → size_of e.missing ≡ 0 → ⊥) → FindsOr from n line o s found
   finds-after serving are found is some =
-      subst (λ (t : ClusterState). FindsOr n line o t found) state-then
-      (finds-by n line o y.state e serving (whole.end).known (subst (λ (k : ℕ). contains (e.row).bucket k ≡ true) key-then (whole.end).inside) found is
-      (λ few. ends-short n (journal_of x) line o d stamp y e whole.end follows serving (λ k. are k ∙ ap (λ (t : ClusterState). serves t k) (sym (ap (λ (z : RoundRun). z.state) (whole.same).run_is))) later key-then none_runs
-      (subst (λ (t : ClusterState). BeganNoRound (journal_of x) line t.version) (sym state-then) none (y.round).row) few
+      subst (λ (t : ClusterState). FindsOr from n line o t found) state-then
+      (finds-by from n line o y.state e serving (whole.end).known (subst (λ (k : ℕ). contains (e.row).bucket k ≡ true) key-then (whole.end).inside) found is
+      (λ few. ends-short from n (journal_of x) line o d stamp y e whole.end follows serving (λ k. are k ∙ ap (λ (t : ClusterState). serves t k) (sym (ap (λ (z : RoundRun). z.state) (whole.same).run_is))) later key-then none_runs
+      (subst (λ (t : ClusterState). BeganNoRound (journal_of x) from t.version) (sym state-then) none (y.round).row) few
       (gives_up _ _ _ _ _ _ _ now.keeps d y.state line o stamp ((follows.waits).knows).is_under_way)
       (ends _ _ _ _ _ _ _ now.keeps d y.state line o stamp (follows.waits).knows)
       (reads _ _ _ _ _ _ _ now.keeps d y.state y.round (follows.waits).acting (whole.end).answers)

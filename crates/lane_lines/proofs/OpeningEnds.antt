@@ -28,12 +28,12 @@ use Rattle.lane_journals.specs.declared.event.LaneEvent.{LaneEvent}
 use Rattle.lane_journals.specs.declared.event.LaneEvent.TheVariants.{Opened, Closed}
 use Rattle.lane_journals.proofs.Meant.{state-serves}
 use Rattle.lane_keeping.specs.LaneKeeping.{PartKeeps, Holds, KnowsOpening, setting_of}
-use Rattle.operation_keeping.specs.OperationKeeping.{WasShort}
+use Rattle.operation_keeping.specs.OperationKeeping.{WasShortSince}
 use Rattle.operation_keeping.specs.Laws.{MayLackAnswers}
 use Rattle.operation_keeping.proofs.Counting.{small}
 use Rattle.operation_keeping.proofs.Opening.{lacks-answers}
 use Rattle.operation_keeping.proofs.Preparing.{ends-opening}
-use Rattle.operation_keeping.specs.Wants.{IsRun, More, Adds, Ends, Want, OpeningWants, EndsUnless, is_ask, opening_short, Wants, IsEnd}
+use Rattle.operation_keeping.specs.Wants.{IsRunSince, Longer, Adds, Ends, Want, OpeningWants, EndsUnless, is_ask, opening_short, WantsSince, IsEndSince}
 use Rattle.lane_lines.specs.OpeningRuns.{KnowsAsking, opening_shortage}
 use Rattle.lane_lines.specs.Readying.{IsToPrepare, outcome_of}
 use Rattle.proof_basics.proofs.Options.{some_same as some-same}
@@ -42,7 +42,7 @@ use Rattle.lane_lines.proofs.OpeningRuns.{prepare-on}
 module _ (lane : Low) (rules : Rules) (J : List LaneEvent) (line : ℕ) (o : Operation) (d : ℕ) (s : ClusterState) (stamp : Option Stamp) (K : List LaneEvent) (q : Part) (short : Bool)
     (k : KnowsAsking lane rules J line o d s stamp K q short) (keeps : PartKeeps lane rules K d q) where
   -- what its part wants, the line wants
-  wants-by : (want : Want) → OpeningWants lane rules K line (key_of o.id) d s want → Wants lane rules line o K want
+  wants-by : (want : Want) → OpeningWants lane rules K (history J) (key_of o.id) d s want → WantsSince lane rules line o (history J) K want
   wants-by want w = record {
     distributor = d;
     state = s;
@@ -58,8 +58,8 @@ module _ (lane : Low) (rules : Rules) (J : List LaneEvent) (line : ℕ) (o : Ope
     pub opened-state : x.state ≡ s
     opened-state = some-same x.state s (sym (x.unopened).heard ∙ k.heard)
 
-    pub runs-opened : IsRun lane rules line o J (Opened d (x.state).version buckets ∷ K)
-    runs-opened = More (Opened d (x.state).version buckets) K k.run (inr (wants-by (Adds (Opened d (x.state).version buckets)) (record {
+    pub runs-opened : IsRunSince lane rules line o (history J) J (Opened d (x.state).version buckets ∷ K)
+    runs-opened = Longer (Opened d (x.state).version buckets) K k.run (inr (wants-by (Adds (Opened d (x.state).version buckets)) (record {
       part = q;
       after = after;
       step = Open buckets;
@@ -81,7 +81,7 @@ module _ (lane : Low) (rules : Rules) (J : List LaneEvent) (line : ℕ) (o : Ope
   -- ---- some haven't
 
   module _ (missing : ℕ) (l : LacksAnswers q missing) where
-    wants-short : (outcome : Outcome) → (short ≡ true → outcome ≡ NoMemory) → (short ≡ false → outcome ≡ outcome_of (opening_shortage (serves s) q.answered missing false)) → IsEnd lane rules line o K outcome
+    wants-short : (outcome : Outcome) → (short ≡ true → outcome ≡ NoMemory) → (short ≡ false → outcome ≡ outcome_of (opening_shortage (serves s) q.answered missing false)) → IsEndSince lane rules line o (history J) K outcome
     wants-short outcome memory none = wants-by (Ends outcome) (record {
       part = q;
       after = record q { asked = 0; stage = Before };
@@ -95,11 +95,11 @@ module _ (lane : Low) (rules : Rules) (J : List LaneEvent) (line : ℕ) (o : Ope
       gives = by_short short refl;
     })
       where
-        by_short : (b : Bool) → short ≡ b → EndsUnless (WasShort (history K) line (is_ask s.version)) (opening_short s q.answered missing) (Ends outcome)
+        by_short : (b : Bool) → short ≡ b → EndsUnless (WasShortSince (history J) (history K) (is_ask s.version)) (opening_short s q.answered missing) (Ends outcome)
         by_short true e = inl ((k.short_is).0 e, memory e)
         by_short false e = inr (λ w. (let no : false ≡ true = sym e ∙ (k.short_is).1 w in cc), none e)
 
-    pub short-wanted : IsEnd lane rules line o K (outcome_of (opening_shortage (serves s) q.answered missing short))
+    pub short-wanted : IsEndSince lane rules line o (history J) K (outcome_of (opening_shortage (serves s) q.answered missing short))
     short-wanted = wants-short (outcome_of (opening_shortage (serves s) q.answered missing short)) (λ e. ap (λ (b : Bool). outcome_of (opening_shortage (serves s) q.answered missing b)) e) (λ e. ap (λ (b : Bool). outcome_of (opening_shortage (serves s) q.answered missing b)) e)
 
     -- ---- it may be closed so

@@ -25,21 +25,20 @@ use Rattle.lane_journals.specs.declared.event.LaneEvent.{LaneEvent}
 use Rattle.lane_journals.specs.declared.event.LaneEvent.TheVariants.{Sent, Delivered, Returned}
 use Rattle.lane_journals.proofs.Basics.{sent-stays, sent-cases, first_reply-stays, returned-stays}
 use Rattle.proof_basics.proofs.Options.{some-none}
-use Rattle.lane_journals.proofs.Beginnings.{lasting}
 use Rattle.lane_journals.proofs.Meant.{meant-legal}
 use Rattle.lane_keeping.specs.Replaying.{sending}
 use Rattle.lane_keeping.specs.LaneKeeping.{setting_of}
 use Rattle.lane_keeping.specs.Acting.{IsNoHearing}
 use Rattle.lane_keeping.proofs.Owners.{acting-stays}
-use Rattle.operation_keeping.specs.OperationKeeping.{WasShort}
+use Rattle.operation_keeping.specs.OperationKeeping.{WasShortSince}
 use Rattle.lane_keeping.specs.Lines.{IsOfNoLine}
 use Rattle.operation_keeping.proofs.Lines.{preparing-waits}
-use Rattle.operation_keeping.proofs.Messages.{short-on, short-cases}
-use Rattle.operation_keeping.specs.Wants.{WasAskedIn, is_ask}
+use Rattle.operation_keeping.proofs.Messages.{since-on, since-cases}
+use Rattle.operation_keeping.specs.Wants.{WasAskedSince, is_ask}
 use Rattle.lane_states.specs.Growing.{CameShort, IsSettled}
 use Rattle.lane_rounds.specs.Openings.{IsGone}
 use Rattle.lane_lines.specs.OpeningRuns.{HasAskedJust, KnowsShort}
-use Rattle.lane_lines.specs.Readying.{IsToPrepare}
+use Rattle.lane_lines.specs.Readying.{IsToPrepare, HasSent}
 use Rattle.proof_basics.proofs.Tests.{raised, or_true as either, or_right as or-right}
 use Rattle.lane_carriage.proofs.Staying.{IsOfMessage}
 use Rattle.lane_rounds.proofs.OpeningSends.{carried, legal-sent}
@@ -59,20 +58,20 @@ module _ (lane : Low) (line : ℕ) (o : Operation) (d : ℕ) (s : ClusterState) 
 
 -- ---- whom it asked
 
-module _ (line v n : ℕ) where
-  -- where messages are sent and the line began as before
-  asked-as : (H G : Journal) → ((k : ℕ) → sent k G ≡ sent k H) → before_line line G ≡ before_line line H → WasAskedIn H line v n → WasAskedIn G line v n
-  asked-as H G same begin w = record {
+module _ (from : Journal) (v n : ℕ) where
+  -- where messages are sent as before
+  asked-as : (H G : Journal) → ((k : ℕ) → sent k G ≡ sent k H) → WasAskedSince from H v n → WasAskedSince from G v n
+  asked-as H G same w = record {
     number = w.number;
     message = w.message;
     was_sent = same w.number ∙ w.was_sent;
-    later = ap (sent w.number) begin ∙ w.later;
+    later = w.later;
     version = w.version;
     receiver = w.receiver;
     body = w.body;
   }
 
-  asked-stays : (K : List LaneEvent) (number : ℕ) (m : Letter) → WasAskedIn (history K) line v n → WasAskedIn (history (sending number m ∷ K)) line v n
+  asked-stays : (K : List LaneEvent) (number : ℕ) (m : Letter) → WasAskedSince from (history K) v n → WasAskedSince from (history (sending number m ∷ K)) v n
   asked-stays K number m w = record {
     number = w.number;
     message = w.message;
@@ -84,7 +83,7 @@ module _ (line v n : ℕ) where
   }
 
   -- an Ask more is to the receiver
-  asked-cases : (K : List LaneEvent) (number : ℕ) (m : Letter) → WasAskedIn (history (sending number m ∷ K)) line v n → WasAskedIn (history K) line v n ⊎ (n ≡ m.receiver)
+  asked-cases : (K : List LaneEvent) (number : ℕ) (m : Letter) → WasAskedSince from (history (sending number m ∷ K)) v n → WasAskedSince from (history K) v n ⊎ (n ≡ m.receiver)
   asked-cases K number m w = elim (sent-cases w.number (history K) (meaning K (sending number m)) w.message w.was_sent) [
     | inl old ↦ inl (record { number = w.number; message = w.message; was_sent = old; later = w.later; version = w.version; receiver = w.receiver; body = w.body })
     | inr new ↦ inr (sym w.receiver ∙ same new.sender new.is)
@@ -99,27 +98,25 @@ module _ (line v n : ℕ) where
 abbrev asking : Letter → readers.Message
 asking m = record { version = m.version; receiver = m.receiver; body = plain.Ask; round = 0 }
 
--- it was sent just now, since the line began
-record IsAskSent (H : Journal) (line number : ℕ) (m : Letter) : Type 0 where
+-- it was sent just now, since the search began
+pub record IsAskSent (from H : Journal) (number : ℕ) (m : Letter) : Type 0 where
   pub was_sent : sent number H ≡ Some (asking m)
-  pub later : sent number (before_line line H) ≡ None
+  pub later : sent number from ≡ None
 
 module _ (lane : Low) (rules : Rules) (line : ℕ) (o : Operation) (d : ℕ) (s : ClusterState) (stamp : Option Stamp) (K : List LaneEvent) (number : ℕ) (m : Letter) where
   -- the number is fresh
   unsent : IsLegal (setting_of lane rules) (sending number m ∷ K) → sent number (history K) ≡ None
   unsent l = some-none (sent number (history K)) (λ x h. let less = ((l.1).permitted).greater number x h in omega (arith, less))
 
-  unsent-before : IsLegal (setting_of lane rules) (sending number m ∷ K) → IsToPrepare lane K line o d s stamp → sent number (before_line line (history K)) ≡ None
-  unsent-before l t = some-none (sent number (before_line line (history K))) (λ x h.
-      let now : sent number (history K) ≡ Some x = lasting rules.acks (state_of (history K)) (λ y. sent number y ≡ Some x) (λ e y q. sent-stays number y x e q) (history K)
-      (meant-legal (setting_of lane rules) K l.0) line _ (((t.knows).is_under_way)).begun_as h in
-      let none : None ≡ Some x = sym (unsent l) ∙ now in cc)
+  unsent-before : (from : Journal) → IsLegal (setting_of lane rules) (sending number m ∷ K) → HasSent from K → sent number from ≡ None
+  unsent-before from l has = some-none (sent number from) (λ x h.
+      let none : None ≡ Some x = sym (unsent l) ∙ has number x h in cc)
 
-  ask-sent : IsLegal (setting_of lane rules) (sending number m ∷ K) → IsToPrepare lane K line o d s stamp → m.body ≡ body.Ask → IsAskSent (history (sending number m ∷ K)) line number m
-  ask-sent l t is = record {
+  ask-sent : (from : Journal) → IsLegal (setting_of lane rules) (sending number m ∷ K) → HasSent from K → m.body ≡ body.Ask → IsAskSent from (history (sending number m ∷ K)) number m
+  ask-sent from l has is = record {
     was_sent = subst (λ (b : Body). sent number (history (sending number (record m { body = b }) ∷ K)) ≡ Some (asking m)) (sym is)
         (ap (λ (x : Option readers.Message). or_else x (only_if (number == number) (asking m))) (unsent l) ∙ ap (λ (t : Bool). only_if t (asking m)) (eq-eqb number number refl));
-    later = unsent-before l t;
+    later = unsent-before from l has;
   }
 
 -- ---- it was dealt with
@@ -131,7 +128,7 @@ came-on : (number : ℕ) (X : List LaneEvent) (e : LaneEvent) → CameShort numb
 came-on number X e c = (returned-stays number (history X) (meaning X e) c.0, first_reply-stays number (history X) plain.NoMemory (meaning X e) c.1)
 
 module _ (lane : Low) (rules : Rules) (line : ℕ) (o : Operation) (d : ℕ) (s : ClusterState) (stamp : Option Stamp) (K L : List LaneEvent) (number : ℕ) (m : Letter)
-    (legal : IsLegal (setting_of lane rules) L) (gone : IsGone number m K L) (still : IsToPrepare lane K line o d s stamp) (version_is : m.version ≡ s.version) (body_is : m.body ≡ body.Ask) where
+    (legal : IsLegal (setting_of lane rules) L) (gone : IsGone number m K L) (from : Journal) (has : HasSent from K) (version_is : m.version ≡ s.version) (body_is : m.body ≡ body.Ask) where
   abbrev S : Setting
   S = setting_of lane rules
 
@@ -141,60 +138,64 @@ module _ (lane : Low) (rules : Rules) (line : ℕ) (o : Operation) (d : ℕ) (s 
   begins : IsLegal S (sending number m ∷ K)
   begins = legal-sent S number m K L gone legal
 
-  just : IsAskSent (history (sending number m ∷ K)) line number m
-  just = ask-sent lane rules line o d s stamp K number m begins still body_is
+  pub just : IsAskSent from (history (sending number m ∷ K)) number m
+  just = ask-sent lane rules line o d s stamp K number m from begins has body_is
 
-  pub asked-after : (q asked : Part) → steps.Asks q asked m → HasAskedJust K line s.version q → HasAskedJust L line s.version asked
-  asked-after q asked a known = carried (λ (X : List LaneEvent). HasAskedJust X line s.version asked) number
-      (λ n r X p i. (λ h. asked-as line s.version i (history X) (history (Delivered n r ∷ X)) (λ k. refl) refl ((p i).0 h), λ w. (p i).1 (asked-as line s.version i (history (Delivered n r ∷ X)) (history X) (λ k. refl) refl w)))
-      (λ X p i. (λ h. asked-as line s.version i (history X) (history (Returned number ∷ X)) (λ k. refl) refl ((p i).0 h), λ w. (p i).1 (asked-as line s.version i (history (Returned number ∷ X)) (history X) (λ k. refl) refl w)))
-      m K L gone (λ i. (to i, from i))
+  -- what was sent before it is
+  pub sent-after : HasSent from L
+  sent-after = carried (λ (X : List LaneEvent). HasSent from X) number (λ n r X p k x h. p k x h) (λ X p k x h. p k x h) m K L gone (λ k x h. sent-stays k (history K) x (meaning K (sending number m)) (has k x h))
+
+  pub asked-after : (q asked : Part) → steps.Asks q asked m → HasAskedJust K from s.version q → HasAskedJust L from s.version asked
+  asked-after q asked a known = carried (λ (X : List LaneEvent). HasAskedJust X from s.version asked) number
+      (λ n r X p i. (λ h. asked-as from s.version i (history X) (history (Delivered n r ∷ X)) (λ k. refl) ((p i).0 h), λ w. (p i).1 (asked-as from s.version i (history (Delivered n r ∷ X)) (history X) (λ k. refl) w)))
+      (λ X p i. (λ h. asked-as from s.version i (history X) (history (Returned number ∷ X)) (λ k. refl) ((p i).0 h), λ w. (p i).1 (asked-as from s.version i (history (Returned number ∷ X)) (history X) (λ k. refl) w)))
+      m K L gone (λ i. (to i, back i))
     where
-      to : (i : ℕ) → has_node asked.asked i ≡ true → WasAskedIn (history (sending number m ∷ K)) line s.version i
+      to : (i : ℕ) → has_node asked.asked i ≡ true → WasAskedSince from (history (sending number m ∷ K)) s.version i
       to i h = elim (either (has_node q.asked i) (i == m.receiver) (sym (a.marked i) ∙ h)) [
-        | inl old ↦ asked-stays line s.version i K number m ((known i).0 old)
+        | inl old ↦ asked-stays from s.version i K number m ((known i).0 old)
         | inr new ↦ record { number = number; message = asking m; was_sent = just.was_sent; later = just.later; version = version_is; receiver = sym (eqb-true i m.receiver new); body = refl }
       ]
 
-      from : (i : ℕ) → WasAskedIn (history (sending number m ∷ K)) line s.version i → has_node asked.asked i ≡ true
-      from i w = a.marked i ∙ elim (asked-cases line s.version i K number m w) [
+      back : (i : ℕ) → WasAskedSince from (history (sending number m ∷ K)) s.version i → has_node asked.asked i ≡ true
+      back i w = a.marked i ∙ elim (asked-cases from s.version i K number m w) [
         | inl old ↦ or-left (has_node q.asked i) (i == m.receiver) ((known i).1 old)
         | inr new ↦ or-right (has_node q.asked i) (i == m.receiver) (eq-eqb i m.receiver new)
       ]
 
   -- ---- whether one wanted memory
 
-  short-later : (e : LaneEvent) (X : List LaneEvent) → before_line line (history (e ∷ X)) ≡ before_line line (history X) → WasShort (history X) line test → WasShort (history (e ∷ X)) line test
-  short-later e X same w = short-on rules.acks (state_of (history X)) (history X) (meaning X e) line test same w
+  short-later : (e : LaneEvent) (X : List LaneEvent) → WasShortSince from (history X) test → WasShortSince from (history (e ∷ X)) test
+  short-later e X w = since-on rules.acks (state_of (history X)) (history X) (meaning X e) from test w
 
-  short-old : WasShort (history K) line test → WasShort (history L) line test
-  short-old w = carried (λ (X : List LaneEvent). WasShort (history X) line test) number (λ n r X p. short-later (Delivered n r) X refl p) (λ X p. short-later (Returned number) X refl p) m K L gone (short-later (sending number m) K refl w)
+  short-old : WasShortSince from (history K) test → WasShortSince from (history L) test
+  short-old w = carried (λ (X : List LaneEvent). WasShortSince from (history X) test) number (λ n r X p. short-later (Delivered n r) X p) (λ X p. short-later (Returned number) X p) m K L gone (short-later (sending number m) K w)
 
-  short-new : CameShort number (history L) → WasShort (history L) line test
+  short-new : CameShort number (history L) → WasShortSince from (history L) test
   short-new c = record {
     number = number;
     message = asking m;
     was_sent = carried (λ (X : List LaneEvent). sent number (history X) ≡ Some (asking m)) number (λ n r X p. p) (λ X p. p) m K L gone just.was_sent;
-    later = carried (λ (X : List LaneEvent). sent number (before_line line (history X)) ≡ None) number (λ n r X p. p) (λ X p. p) m K L gone just.later;
+    later = just.later;
     tested = (version_is, refl);
     reply = c.1;
     back = c.0;
   }
 
   abbrev Cases : List LaneEvent → Type 0
-  Cases X = IsLegal S X → WasShort (history X) line test → WasShort (history K) line test ⊎ CameShort number (history X)
+  Cases X = IsLegal S X → WasShortSince from (history X) test → WasShortSince from (history K) test ⊎ CameShort number (history X)
 
-  case-on : (e : LaneEvent) (X : List LaneEvent) → WasShort (history K) line test ⊎ CameShort number (history X) → WasShort (history K) line test ⊎ CameShort number (history (e ∷ X))
+  case-on : (e : LaneEvent) (X : List LaneEvent) → WasShortSince from (history K) test ⊎ CameShort number (history X) → WasShortSince from (history K) test ⊎ CameShort number (history (e ∷ X))
   case-on e X c = elim c [ inl old ↦ inl old | inr new ↦ inr (came-on number X e new) ]
 
   case-delivered : (n : ℕ) (r : NotedReply) (X : List LaneEvent) → Cases X → Cases (Delivered n r ∷ X)
-  case-delivered n r X p l w = elim (short-cases rules.acks (state_of (history X)) (history X) (meant-legal S X l.0) (meaning X (Delivered n r)) line test refl w) [
+  case-delivered n r X p l w = elim (since-cases rules.acks (state_of (history X)) (history X) (meant-legal S X l.0) (meaning X (Delivered n r)) from test w) [
     | inl old ↦ case-on (Delivered n r) X (p l.0 old)
     | inr now ↦ absurd (let e = now.is in cc)
   ]
 
   case-back : (X : List LaneEvent) → Cases X → Cases (Returned number ∷ X)
-  case-back X p l w = elim (short-cases rules.acks (state_of (history X)) (history X) (meant-legal S X l.0) (meaning X (Returned number)) line test refl w) [
+  case-back X p l w = elim (since-cases rules.acks (state_of (history X)) (history X) (meant-legal S X l.0) (meaning X (Returned number)) from test w) [
     | inl old ↦ case-on (Returned number) X (p l.0 old)
     | inr now ↦ inr (own now.number now.is now.reply)
   ]
@@ -204,11 +205,11 @@ module _ (lane : Low) (rules : Rules) (line : ℕ) (o : Operation) (d : ℕ) (s 
           (ap (λ (t : Bool). cond t true (returned number (history X))) (eq-eqb number number refl), subst (λ (i : ℕ). first_reply i (history X) ≡ Some plain.NoMemory) same reply)
 
   case-sent : Cases (sending number m ∷ K)
-  case-sent l w = elim (short-cases rules.acks (state_of (history K)) (history K) (meant-legal S K l.0) (meaning K (sending number m)) line test refl w) [
+  case-sent l w = elim (since-cases rules.acks (state_of (history K)) (history K) (meant-legal S K l.0) (meaning K (sending number m)) from test w) [
     | inl old ↦ inl old
     | inr now ↦ absurd (let e = now.is in cc)
   ]
 
-  pub short-after : (was one : Bool) → IsSettled number L one → KnowsShort K line s.version was → KnowsShort L line s.version (was || one)
-  short-after was one settled known = raised was one (WasShort (history K) line test) (CameShort number (history L)) (WasShort (history L) line test) known settled.short_is
+  pub short-after : (was one : Bool) → IsSettled number L one → KnowsShort K from s.version was → KnowsShort L from s.version (was || one)
+  short-after was one settled known = raised was one (WasShortSince from (history K) test) (CameShort number (history L)) (WasShortSince from (history L) test) known settled.short_is
       (carried Cases number case-delivered case-back m K L gone case-sent legal) short-old short-new

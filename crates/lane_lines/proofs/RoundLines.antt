@@ -1,6 +1,5 @@
 -- A line that is to be prepared, over the round that is run for it.
-use Rattle.std.proofs.Common.{◌≡◌, ◌⊎◌, ◌≤◌, ◌+◌, ℕ, Bool, true, List, [], ◌∷◌, Option, Some, None, IsSome, inl, inr, refl, sym, ap, subst, ◌∙◌, arith, ◌%◌, ◌^◌, eq-eqb}
-use mathlib.Core.Bool.{true≢false}
+use Rattle.std.proofs.Common.{◌≡◌, ◌≤◌, ◌+◌, ℕ, true, List, [], ◌∷◌, Option, Some, None, IsSome, inl, inr, refl, sym, ap, subst, ◌∙◌, arith, ◌%◌, ◌^◌, eq-eqb}
 use Rattle.std.proofs.lemmas.Bool.{eqb-true}
 use Rattle.bucket_ids.specs.Buckets.{Low, IsIn}
 use Rattle.stamps.specs.declared.stamp.Stamp.{Stamp}
@@ -15,14 +14,11 @@ use Rattle.distributor_part.specs.Parts.{Part}
 use Rattle.messages.specs.declared.late.Late.{Late}
 use Rattle.lane_journals.specs.Buckets.{Id, contains, key_of}
 use Rattle.lane_journals.specs.Events as plain
-use Rattle.lane_journals.specs.Facts.{Idle}
-use Rattle.lane_journals.specs.Legal.{Legal}
-use Rattle.lane_journals.specs.Readers.{Journal, Message, Beginning, Preparing, began, closed, prepared, before_line, stamps_of, rounds, round_of, round_in, sent}
-use Rattle.lane_journals.specs.Meanings.{history}
+use Rattle.lane_journals.specs.Readers.{Journal, Message, stamps_of, rounds, round_of, round_in, sent}
+use Rattle.lane_journals.specs.Meanings.{history, meaning}
 use Rattle.lane_journals.specs.declared.event.LaneEvent.{LaneEvent}
 use Rattle.lane_journals.specs.declared.event.LaneEvent.TheVariants.{Sent, Delivered, Returned, Decided}
 use Rattle.lane_journals.proofs.Basics.{sent-stays, sent-cases, rounds-grow}
-use Rattle.lane_journals.proofs.Beginnings.{lasting}
 use Rattle.lane_journals.proofs.BucketLaws.{same_bucket-refl}
 use Rattle.lane_keeping.specs.Acting.{IsActing}
 use Rattle.operation_keeping.specs.Wants.{NoRoundSince}
@@ -33,7 +29,7 @@ use Rattle.lane_keeping.specs.Tidings.{last_state}
 use Rattle.lane_lines.specs.Steps.{IsUneventful}
 use Rattle.round_keeping.specs.RoundRuns.{NoneRuns, MayBegin, Begins, EndsRun, IsWholeRun, IsCutShort}
 use Rattle.lane_lines.specs.RoundLines.{IsBegunFor, IsWaitedFor}
-use Rattle.lane_lines.specs.Readying.{IsToPrepare, BeganNoRound}
+use Rattle.lane_lines.specs.Readying.{IsToPrepare, BeganNoRound, HasSent}
 use Rattle.proof_basics.proofs.Options.{some_same as some-same}
 use Rattle.lane_states.proofs.SameStates.{same-state}
 use Rattle.round_keeping.proofs.Staying.{stays-round}
@@ -56,14 +52,6 @@ module _ (lane : Low) (line : ℕ) (o : Operation) (stamp : Option Stamp) where
   prepare-ended d s J x v b set w = record { acting = record { holds = (w.acting).holds; published = (w.acting).published; owner = (w.acting).owner }; knows = w.knows }
 
   module _ (J : List LaneEvent) (d : ℕ) (s : ClusterState) (w : IsToPrepare lane J line o d s stamp) where
-    -- no operation is prepared
-    pub idle-of : (v : ℕ) (b : Low) → Idle v b (history J)
-    idle-of v b other begin p is row = by_line (((w.knows).is_under_way).others other begin is.began)
-      where
-        by_line : (other ≡ line) ⊎ (closed other (history J) ≡ true) → ⊥
-        by_line (inl same) = let none : ◌≡◌ {A = Option Preparing} None (Some p) = sym (w.knows).unprepared ∙ ap (λ (l : ℕ). prepared l (history J)) (sym same) ∙ is.prepared in absurd (cc)
-        by_line (inr over) = true≢false (sym over ∙ is.unclosed)
-
     in-key : (b : Low) (id : Id) → contains b (key_of id) ≡ true → IsIn b (key_of id)
     unfolding contains key_of
     in-key b id h = (key_small id, eqb-true (key_of id % 2 ^ b.bits) b.low h)
@@ -89,26 +77,26 @@ module _ (lane : Low) (line : ℕ) (o : Operation) (stamp : Option Stamp) where
 -- ---- what the round leaves
 
 -- what its events leave: the line is to be prepared, no state is published and no stamp drawn, the newest round of the
--- row has its number, and the line began where it did
+-- row has its number, and what was sent is
 pub record Follows (lane : Low) (J K : List LaneEvent) (line : ℕ) (o : Operation) (d : ℕ) (s : ClusterState) (stamp : Option Stamp) (b : Low) (number : ℕ) : Type 0 where
   pub waits : IsToPrepare lane K line o d s stamp
   pub newest : last_state K ≡ last_state J
   pub counted : (v : ℕ) → stamps_of v (history K) ≡ stamps_of v (history J)
   pub round_is : round_of s.version b (history K) ≡ number
-  pub before : before_line line (history K) ≡ before_line line (history J)
+  pub sent_stays : HasSent (history J) K
 
 module _ (lane : Low) (J : List LaneEvent) (line : ℕ) (o : Operation) (d : ℕ) (s : ClusterState) (stamp : Option Stamp) (b : Low) (number : ℕ) where
   abbrev F : List LaneEvent → Type 0
   F K = Follows lane J K line o d s stamp b number
 
   follows-stays : (e : LaneEvent) (K : List LaneEvent) → IsOfMessage e → F K → F (e ∷ K)
-  follows-stays (Sent n v x to body) K i f = record { waits = prepare-stays lane line o stamp d s (Sent n v x to body) K i f.waits; newest = f.newest; counted = f.counted; round_is = f.round_is; before = f.before }
-  follows-stays (Delivered n r) K i f = record { waits = prepare-stays lane line o stamp d s (Delivered n r) K i f.waits; newest = f.newest; counted = f.counted; round_is = f.round_is; before = f.before }
-  follows-stays (Returned n) K i f = record { waits = prepare-stays lane line o stamp d s (Returned n) K i f.waits; newest = f.newest; counted = f.counted; round_is = f.round_is; before = f.before }
+  follows-stays (Sent n v x to body) K i f = record { waits = prepare-stays lane line o stamp d s (Sent n v x to body) K i f.waits; newest = f.newest; counted = f.counted; round_is = f.round_is; sent_stays = λ k m h. sent-stays k (history K) m (meaning K (Sent n v x to body)) (f.sent_stays k m h) }
+  follows-stays (Delivered n r) K i f = record { waits = prepare-stays lane line o stamp d s (Delivered n r) K i f.waits; newest = f.newest; counted = f.counted; round_is = f.round_is; sent_stays = f.sent_stays }
+  follows-stays (Returned n) K i f = record { waits = prepare-stays lane line o stamp d s (Returned n) K i f.waits; newest = f.newest; counted = f.counted; round_is = f.round_is; sent_stays = f.sent_stays }
   follows-stays _ K i f = absurd i
 
   follows-ended : (K : List LaneEvent) (x v : ℕ) (c : Low) (set : ℕ) → F K → F (Decided x v (RoundEnded c set) ∷ K)
-  follows-ended K x v c set f = record { waits = prepare-ended lane line o stamp d s K x v c set f.waits; newest = f.newest; counted = f.counted; round_is = f.round_is; before = f.before }
+  follows-ended K x v c set f = record { waits = prepare-ended lane line o stamp d s K x v c set f.waits; newest = f.newest; counted = f.counted; round_is = f.round_is; sent_stays = f.sent_stays }
 
   -- a round that was run to its end, and one that was cut off
   pub follows-whole : (x : RoundRun) (e : RoundEnd) (given after : List Fate) (last now : ℕ) (late rest : List Late) (K L : List LaneEvent) → IsWholeRun lane x e given after last now late rest K L → F K → F L
@@ -150,16 +138,16 @@ module _ (lane : Low) (J K : List LaneEvent) (d key : ℕ) (x : RoundRun) (b : B
         counted = λ v. refl;
         round_is = subst (λ (v : ℕ). round_of s.version (x.round).row (plain.Decided d v (plain.RoundBegun (x.round).row) ∷ history J) ≡ rounds s.version (history J) + 1) (sym (ap (λ (t : ClusterState). t.version) state-is))
             (number-is s.version (x.round).row (history J));
-        before = refl;
+        sent_stays = λ k m h. h;
       })
 
   module _ (same : key ≡ key_of o.id) where
-    pub begun-for : BeganNoRound J line s.version → IsBegunFor lane J x line o stamp
-    begun-for none = record {
+    pub begun-for : (from : Journal) → BeganNoRound J from s.version → IsBegunFor from lane J x line o stamp
+    begun-for from none = record {
       under_way = (to-run.knows).is_under_way;
       unprepared = (to-run.knows).unprepared;
       key_is = b.key_is ∙ same;
-      none = subst (λ (t : ClusterState). NoRoundSince J line t.version (x.round).row) (sym state-is) (none (x.round).row);
+      none = subst (λ (t : ClusterState). NoRoundSince J from t.version (x.round).row) (sym state-is) (none (x.round).row);
     }
 
     pub waited-for : IsWaitedFor lane K x line o stamp
@@ -200,23 +188,22 @@ sent-low k m (e ∷ H) s = let more = rounds-grow m.version H e in elim (sent-ca
 ]
 
 module _ (lane : Low) (J K : List LaneEvent) (line : ℕ) (o : Operation) (d : ℕ) (s : ClusterState) (stamp : Option Stamp) (b : Low) (f : Follows lane J K line o d s stamp b (rounds s.version (history J) + 1)) where
-  -- a round was begun since the line began
-  pub round-since : NoRoundSince J line s.version b → NoRoundSince K line s.version b → ⊥
-  round-since none then =
+  -- a round was begun since
+  pub round-since : (from : Journal) → NoRoundSince J from s.version b → NoRoundSince K from s.version b → ⊥
+  round-since from none then =
       let low = round-low s.version b (history J) in
-      let is : rounds s.version (history J) + 1 ≡ round_of s.version b (history J) = sym f.round_is ∙ then ∙ ap (λ (H : Journal). round_of s.version b H) f.before ∙ sym none in
+      let is : rounds s.version (history J) + 1 ≡ round_of s.version b (history J) = sym f.round_is ∙ then ∙ sym none in
       absurd (omega (arith, low, is))
 
   -- and its messages were sent since then
-  module _ (acks many : ℕ) (P Q : ℕ → ℕ → Bool) (legal : Legal acks P (history J)) (now : Legal many Q (history K)) (begin : Beginning) (first : began line (history J) ≡ Some begin) (then : began line (history K) ≡ Some begin) where
-    pub sent-since : (k : ℕ) (m : Message) → sent k (history K) ≡ Some m → m.version ≡ s.version → m.round ≡ rounds s.version (history J) + 1 → sent k (before_line line (history K)) ≡ None
-    sent-since k m is version round = by_old (sent k (before_line line (history K))) refl
-      where
-        by_old : (y : Option Message) → sent k (before_line line (history K)) ≡ y → y ≡ None
-        by_old None e = refl
-        by_old (Some y) e =
-            let was : sent k (history J) ≡ Some y = lasting acks P (λ H. sent k H ≡ Some y) (λ e H h. sent-stays k H y e h) (history J) legal line begin first (ap (λ (H : Journal). sent k H) (sym f.before) ∙ e) in
-            let still : sent k (history K) ≡ Some y = lasting many Q (λ H. sent k H ≡ Some y) (λ e H h. sent-stays k H y e h) (history K) now line begin then e in
-            let same : y ≡ m = some-same y m (sym still ∙ is) in
-            let low : m.round ≤ rounds s.version (history J) = subst (λ (v : ℕ). m.round ≤ rounds v (history J)) version (subst (λ (z : Message). z.round ≤ rounds z.version (history J)) same (sent-low k y (history J) was)) in
-            absurd (omega (arith, low, round))
+  pub sent-since : (from : Journal) → HasSent from J → (k : ℕ) (m : Message) → sent k (history K) ≡ Some m → m.version ≡ s.version → m.round ≡ rounds s.version (history J) + 1 → sent k from ≡ None
+  sent-since from has k m is version round = by_old (sent k from) refl
+    where
+      by_old : (y : Option Message) → sent k from ≡ y → y ≡ None
+      by_old None e = refl
+      by_old (Some y) e =
+          let was : sent k (history J) ≡ Some y = has k y e in
+          let still : sent k (history K) ≡ Some y = f.sent_stays k y was in
+          let same : y ≡ m = some-same y m (sym still ∙ is) in
+          let low : m.round ≤ rounds s.version (history J) = subst (λ (v : ℕ). m.round ≤ rounds v (history J)) version (subst (λ (z : Message). z.round ≤ rounds z.version (history J)) same (sent-low k y (history J) was)) in
+          absurd (omega (arith, low, round))

@@ -9,12 +9,12 @@ use Rattle.distributor_part.specs.declared.rules.Rules.{Rules}
 use Rattle.distributor_part.specs.Parts.{Part}
 use Rattle.messages.specs.declared.late.Late.{Late}
 use Rattle.lane_journals.specs.Buckets.{key_of}
-use Rattle.lane_journals.specs.Readers.{rounds}
+use Rattle.lane_journals.specs.Readers.{Journal, rounds}
 use Rattle.lane_journals.specs.Meanings.{history}
 use Rattle.lane_journals.specs.declared.event.LaneEvent.{LaneEvent}
 use Rattle.lane_keeping.specs.LaneKeeping.{part_in}
 use Rattle.lane_keeping.specs.Asking.{OthersStay}
-use Rattle.operation_keeping.specs.Wants.{IsRun, Same, IsCutRun}
+use Rattle.operation_keeping.specs.Wants.{IsRunSince, Still, IsCutRunSince}
 use Rattle.lane_states.specs.declared.lane_state.LaneState.{LaneState}
 use Rattle.round_keeping.specs.declared.round_run.RoundRun.{RoundRun}
 use Rattle.round_keeping.specs.declared.round_run.RoundEnd.{RoundEnd}
@@ -27,20 +27,20 @@ use Rattle.lane_lines.proofs.RoundLines.{Follows, follows-begun, follows-whole, 
 use Rattle.lane_lines.proofs.RunningSteps.{run-more}
 
 -- nothing was done for the line
-pub nothing-done : (x n : LaneState) (line : ℕ) (o : Operation) (d : ℕ) (s : ClusterState) (stamp : Option Stamp) → journal_of n ≡ journal_of x → IsToPrepare x.lane (journal_of x) line o d s stamp → GoesOnWith x n line o d s stamp
-nothing-done x n line o d s stamp is w = record {
-  run = subst (λ (J : List LaneEvent). IsRun x.lane x.rules line o (journal_of x) J) (sym is) Same;
+pub nothing-done : (from : Journal) (x n : LaneState) (line : ℕ) (o : Operation) (d : ℕ) (s : ClusterState) (stamp : Option Stamp) → journal_of n ≡ journal_of x → IsToPrepare x.lane (journal_of x) line o d s stamp → GoesOnWith from x n line o d s stamp
+nothing-done from x n line o d s stamp is w = record {
+  run = subst (λ (J : List LaneEvent). IsRunSince x.lane x.rules line o from (journal_of x) J) (sym is) Still;
   still = subst (λ (J : List LaneEvent). IsToPrepare x.lane J line o d s stamp) (sym is) w;
 }
 
 -- a line that goes on is cut off at no round
-pub cut-nothing : (x n : LaneState) (line : ℕ) (o : Operation) (d : ℕ) (s : ClusterState) (stamp : Option Stamp) → GoesOnWith x n line o d s stamp → IsCutOffWith x n line o d s stamp
-cut-nothing x n line o d s stamp g = record { run = (journal_of n, g.run, inl refl); still = g.still }
+pub cut-nothing : (from : Journal) (x n : LaneState) (line : ℕ) (o : Operation) (d : ℕ) (s : ClusterState) (stamp : Option Stamp) → GoesOnWith from x n line o d s stamp → IsCutOffWith from x n line o d s stamp
+cut-nothing from x n line o d s stamp g = record { run = (journal_of n, g.run, inl refl); still = g.still }
 
 -- a round was begun in the row of the key, and run until now
 pub record HasBegun (x m n : LaneState) (d key : ℕ) (run : RoundRun) : Type 0 where
   pub begins : Begins x.lane (journal_of x) (journal_of m) d key run
-  pub starts : (line : ℕ) (o : Operation) (stamp : Option Stamp) → IsBegunFor x.lane (journal_of x) run line o stamp → IsRun x.lane x.rules line o (journal_of x) (journal_of m)
+  pub starts : (line : ℕ) (o : Operation) (stamp : Option Stamp) (from : Journal) → IsBegunFor from x.lane (journal_of x) run line o stamp → IsRunSince x.lane x.rules line o from (journal_of x) (journal_of m)
   pub lane_then : m.lane ≡ x.lane
   pub rules_then : m.rules ≡ x.rules
 
@@ -53,8 +53,8 @@ module _ (x m n : LaneState) (d key : ℕ) (run : RoundRun) (h : HasBegun x m n 
   follows-then : Follows x.lane (journal_of x) (journal_of m) line o d s stamp (run.round).row number
   follows-then = follows-begun x.lane (journal_of x) (journal_of m) d key run h.begins line o s stamp w
 
-  started : key ≡ key_of o.id → BeganNoRound (journal_of x) line s.version → IsRun x.lane x.rules line o (journal_of x) (journal_of m)
-  started same none = h.starts line o stamp (begun-for x.lane (journal_of x) (journal_of m) d key run h.begins line o s stamp w same none)
+  started : (from : Journal) → key ≡ key_of o.id → BeganNoRound (journal_of x) from s.version → IsRunSince x.lane x.rules line o from (journal_of x) (journal_of m)
+  started from same none = h.starts line o stamp from (begun-for x.lane (journal_of x) (journal_of m) d key run h.begins line o s stamp w same from none)
 
   waited : key ≡ key_of o.id → IsWaitedFor m.lane (journal_of m) run line o stamp
   waited same = subst (λ (l : Low). IsWaitedFor l (journal_of m) run line o stamp) (sym h.lane_then) (waited-for x.lane (journal_of x) (journal_of m) d key run h.begins line o s stamp w same)
@@ -68,10 +68,10 @@ module _ (x m n : LaneState) (d key : ℕ) (run : RoundRun) (h : HasBegun x m n 
     pub whole-quiet : NoneRuns (journal_of x) → NoneRuns (journal_of n) → IsUneventful (journal_of x) (journal_of n)
     whole-quiet none then = follows-quiet x.lane (journal_of x) line o d s stamp (run.round).row number (journal_of n) follows-now none then
 
-    pub goes-on : key ≡ key_of o.id → BeganNoRound (journal_of x) line s.version → OfWaited m.lane (journal_of m) run (λ line o. IsRun m.lane m.rules line o (journal_of m) (journal_of n)) → GoesOnWith x n line o d s stamp
-    goes-on same none wanted = record {
-      run = run-more x.lane x.rules line o (journal_of x) (journal_of m) (journal_of n) (started same none)
-          (subst (λ (l : Low). IsRun l x.rules line o (journal_of m) (journal_of n)) h.lane_then (subst (λ (r : Rules). IsRun m.lane r line o (journal_of m) (journal_of n)) h.rules_then (wanted line o stamp (waited same))));
+    pub goes-on : (from : Journal) → key ≡ key_of o.id → BeganNoRound (journal_of x) from s.version → OfWaited m.lane (journal_of m) run (λ line o. IsRunSince m.lane m.rules line o from (journal_of m) (journal_of n)) → GoesOnWith from x n line o d s stamp
+    goes-on from same none wanted = record {
+      run = run-more x.lane x.rules line o from (journal_of x) (journal_of m) (journal_of n) (started from same none)
+          (subst (λ (l : Low). IsRunSince l x.rules line o from (journal_of m) (journal_of n)) h.lane_then (subst (λ (r : Rules). IsRunSince m.lane r line o from (journal_of m) (journal_of n)) h.rules_then (wanted line o stamp (waited same))));
       still = follows-now.waits;
     }
 
@@ -84,12 +84,12 @@ module _ (x m n : LaneState) (d key : ℕ) (run : RoundRun) (h : HasBegun x m n 
     pub cut-quiet : NoneRuns (journal_of x) → NoneRuns (journal_of n) → IsUneventful (journal_of x) (journal_of n)
     cut-quiet none then = follows-quiet x.lane (journal_of x) line o d s stamp (run.round).row number (journal_of n) follows-short none then
 
-    pub cut-off : key ≡ key_of o.id → BeganNoRound (journal_of x) line s.version → OfWaited m.lane (journal_of m) run (λ line o. IsCutRun m.lane m.rules line o (journal_of m) (journal_of n)) → IsCutOffWith x n line o d s stamp
-    cut-off same none wanted =
-        let r : IsCutRun x.lane x.rules line o (journal_of m) (journal_of n) =
-        subst (λ (l : Low). IsCutRun l x.rules line o (journal_of m) (journal_of n)) h.lane_then (subst (λ (r : Rules). IsCutRun m.lane r line o (journal_of m) (journal_of n)) h.rules_then (wanted line o stamp (waited same))) in
+    pub cut-off : (from : Journal) → key ≡ key_of o.id → BeganNoRound (journal_of x) from s.version → OfWaited m.lane (journal_of m) run (λ line o. IsCutRunSince m.lane m.rules line o from (journal_of m) (journal_of n)) → IsCutOffWith from x n line o d s stamp
+    cut-off from same none wanted =
+        let r : IsCutRunSince x.lane x.rules line o from (journal_of m) (journal_of n) =
+        subst (λ (l : Low). IsCutRunSince l x.rules line o from (journal_of m) (journal_of n)) h.lane_then (subst (λ (r : Rules). IsCutRunSince m.lane r line o from (journal_of m) (journal_of n)) h.rules_then (wanted line o stamp (waited same))) in
         record {
-          run = (r.0, run-more x.lane x.rules line o (journal_of x) (journal_of m) r.0 (started same none) r.1, r.2);
+          run = (r.0, run-more x.lane x.rules line o from (journal_of x) (journal_of m) r.0 (started from same none) r.1, r.2);
           still = follows-short.waits;
         }
 

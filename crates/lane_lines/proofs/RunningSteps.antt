@@ -1,5 +1,5 @@
 -- How a journal grows by an operation that is prepared.
-use Rattle.std.proofs.Common.{◌≡◌, ℕ, Bool, true, false, List, ◌∷◌, Option, Some, None, is_some, inl, inr, refl, sym, ap, ◌∙◌, subst}
+use Rattle.std.proofs.Common.{◌≡◌, ◌<◌, arith, ℕ, Bool, true, false, List, ◌∷◌, Option, Some, None, is_some, inl, inr, refl, sym, ap, ◌∙◌, subst}
 use Rattle.bucket_ids.specs.Buckets.{Low}
 use Rattle.documents.specs.declared.entry.Entry.{Entry}
 use Rattle.messages.specs.declared.body.Body.{Body}
@@ -14,21 +14,26 @@ use Rattle.op_machine.specs.declared.plan.Plan.{Plan}
 use Rattle.op_machine.specs.declared.machine.Standing.{Standing}
 use Rattle.op_machine.specs.Outcomes.{answers_of, Next, Asks, Finishes, message_in}
 use Rattle.op_machine.specs.Standings.{next_at, due_entry, IsTo}
+use Rattle.lane_journals.specs.Readers.{Journal, sent}
+use Rattle.lane_journals.specs.Meanings.{history, meaning}
+use Rattle.lane_journals.proofs.Basics.{sent-stays}
+use Rattle.proof_basics.proofs.Options.{some-none}
 use Rattle.lane_journals.specs.KeptJournals.{IsLegal}
 use Rattle.lane_journals.specs.declared.event.LaneEvent.{LaneEvent}
 use Rattle.lane_journals.specs.declared.event.LaneEvent.TheVariants as event
 use Rattle.lane_keeping.specs.Replaying.{sending}
-use Rattle.lane_keeping.specs.LaneKeeping.{setting_of}
+use Rattle.lane_keeping.specs.LaneKeeping.{setting_of, AreNumbered}
 use Rattle.lane_keeping.specs.Laws.{IsNoAsk}
 use Rattle.operation_keeping.specs.OperationKeeping.{HasWritten, KnowsEntry}
 use Rattle.operation_keeping.specs.Laws.{MayWriteNext}
 use Rattle.operation_keeping.proofs.Judged.{NextMessage, ARead, AStore, next-message, store-due}
-use Rattle.operation_keeping.specs.Wants.{Adds, BodyGives, NextGives, IsWanted, IsRun, Same, More}
+use Rattle.operation_keeping.specs.Wants.{Adds, BodyGives, NextGives, IsWantedSince, IsRunSince, Still, Longer}
 use Rattle.lane_states.specs.declared.lane_state.LaneState.{LaneState}
 use Rattle.lane_states.specs.LaneStates.{journal_of}
 use Rattle.lane_states.specs.Exchanging.{Brought}
 use Rattle.lane_states.proofs.Exchanging.{over-brought}
 use Rattle.lane_lines.proofs.Standing.{standing-wrote}
+use Rattle.lane_lines.specs.Readying.{HasSent}
 use Rattle.lane_lines.specs.Steps.{sender_of, IsGoing, IsStanding, StandsIn, RunsIn, GoesIn, WritesOn, SendsIn, IsReady, IsUneventful}
 
 -- ---- the next message
@@ -76,8 +81,8 @@ asks-of (Finishes x) m h = let none : Some m ≡ None = h in absurd (cc)
 -- ---- what is wanted
 
 module _ (lane : Low) (rules : Rules) (J : List LaneEvent) (line : ℕ) (row : Low) (written : Bool) (t : Standing) (m : Message) (x : IsStanding lane rules J line row written t) (next : next_at t ≡ Asks m) where
-  wants : (e : LaneEvent) → BodyGives line x.entry m m.body e → IsWanted lane rules line t.plan.operation e J
-  wants e gives = inr (record {
+  wants : (from : Journal) (e : LaneEvent) → BodyGives line x.entry m m.body e → IsWantedSince lane rules line t.plan.operation from e J
+  wants from e gives = inr (record {
     distributor = sender_of t;
     state = x.state;
     stamp = t.plan.stamp;
@@ -92,8 +97,8 @@ module _ (lane : Low) (rules : Rules) (J : List LaneEvent) (line : ℕ) (row : L
     });
   })
 
-  pub wants-sent : (number : ℕ) → HasWritten x.entry m.body → IsWanted lane rules line t.plan.operation (sending number m) J
-  wants-sent number has = wants (sending number m) (gives x.entry m.body has)
+  pub wants-sent : (from : Journal) (number : ℕ) → HasWritten x.entry m.body → IsWantedSince lane rules line t.plan.operation from (sending number m) J
+  wants-sent from number has = wants from (sending number m) (gives x.entry m.body has)
     where
       gives : (o : Option Entry) (z : Body) → HasWritten o z → BodyGives line o m z (sending number m)
       gives None (body.Store e) h = let none : None ≡ Some e = h in absurd (cc)
@@ -107,8 +112,8 @@ module _ (lane : Low) (rules : Rules) (J : List LaneEvent) (line : ℕ) (row : L
       gives None (body.Activate b) h = (number, refl)
       gives (Some e) z h = (number, refl)
 
-  pub wants-wrote : (e : Entry) → x.entry ≡ None → m.body ≡ body.Store e → IsWanted lane rules line t.plan.operation (event.Wrote line e) J
-  wants-wrote e none is = wants (event.Wrote line e) (subst (λ (o : Option Entry). BodyGives line o m m.body (event.Wrote line e)) (sym none)
+  pub wants-wrote : (from : Journal) (e : Entry) → x.entry ≡ None → m.body ≡ body.Store e → IsWantedSince lane rules line t.plan.operation from (event.Wrote line e) J
+  wants-wrote from e none is = wants from (event.Wrote line e) (subst (λ (o : Option Entry). BodyGives line o m m.body (event.Wrote line e)) (sym none)
       (subst (λ (z : Body). BodyGives line None m z (event.Wrote line e)) (sym is) refl))
 
 -- ---- it stays under way
@@ -129,9 +134,18 @@ module _ (lane : Low) (line : ℕ) (p : Plan) where
 pub going-of : (lane : Low) (rules : Rules) (J : List LaneEvent) (line : ℕ) (row : Low) (written : Bool) (t : Standing) → IsStanding lane rules J line row written t → IsGoing lane J line t.plan
 going-of lane rules J line row written t x = record { state = x.state; acting = x.acting; under_way = (((x.stands).knows).plan).is_under_way }
 
-pub run-more : (lane : Low) (rules : Rules) (line : ℕ) (o : Operation) (I J K : List LaneEvent) → IsRun lane rules line o I J → IsRun lane rules line o J K → IsRun lane rules line o I K
-run-more lane rules line o I J K run Same = run
-run-more lane rules line o I J K run (More e L r w) = More e L (run-more lane rules line o I J L run r) w
+pub run-more : (lane : Low) (rules : Rules) (line : ℕ) (o : Operation) (from : Journal) (I J K : List LaneEvent) → IsRunSince lane rules line o from I J → IsRunSince lane rules line o from J K → IsRunSince lane rules line o from I K
+run-more lane rules line o from I J K run Still = run
+run-more lane rules line o from I J K run (Longer e L r w) = Longer e L (run-more lane rules line o from I J L run r) w
+
+-- what was sent before a run is sent after it
+pub sent-run : (lane : Low) (rules : Rules) (line : ℕ) (o : Operation) (from since : Journal) (J K : List LaneEvent) → IsRunSince lane rules line o from J K → HasSent since J → HasSent since K
+sent-run lane rules line o from since J K Still h = h
+sent-run lane rules line o from since J K (Longer e L r w) h = λ k m s. sent-stays k (history L) m (meaning L e) (sent-run lane rules line o from since J L r h k m s)
+
+-- a number above the last is none of an earlier journal
+pub unsent-since : (from : Journal) (J : List LaneEvent) (last number : ℕ) → HasSent from J → AreNumbered (λ k. sent k (history J)) last → last < number → sent number from ≡ None
+unsent-since from J last number has numbered less = some-none (sent number from) (λ x h. let few = numbered number x (has number x h) in omega (arith, few, less))
 
 -- ---- in a lane
 
@@ -141,11 +155,13 @@ stands-to c e K line row written t lane rules is h =
     (subst (λ (J : List LaneEvent). IsStanding c.lane c.rules J line row written t) (sym is) h))
 
 pub run-same : (c e : LaneState) (line : ℕ) (t : Standing) → journal_of e ≡ journal_of c → RunsIn c e line t
-run-same c e line t is = subst (λ (J : List LaneEvent). IsRun c.lane c.rules line t.plan.operation (journal_of c) J) (sym is) Same
+run-same c e line t is = λ from has. subst (λ (J : List LaneEvent). IsRunSince c.lane c.rules line t.plan.operation from (journal_of c) J) (sym is) Still
 
 pub run-on : (c b e : LaneState) (line : ℕ) (t : Standing) → b.lane ≡ c.lane → b.rules ≡ c.rules → RunsIn c b line t → RunsIn b e line t → RunsIn c e line t
-run-on c b e line t lane rules first next = run-more c.lane c.rules line t.plan.operation (journal_of c) (journal_of b) (journal_of e) first
-    (subst (λ (l : Low). IsRun l c.rules line t.plan.operation (journal_of b) (journal_of e)) lane (subst (λ (r : Rules). IsRun b.lane r line t.plan.operation (journal_of b) (journal_of e)) rules next))
+run-on c b e line t lane rules first next = λ from has.
+    let then = next from (sent-run c.lane c.rules line t.plan.operation from from (journal_of c) (journal_of b) (first from has) has) in
+    run-more c.lane c.rules line t.plan.operation from (journal_of c) (journal_of b) (journal_of e) (first from has)
+    (subst (λ (l : Low). IsRunSince l c.rules line t.plan.operation from (journal_of b) (journal_of e)) lane (subst (λ (r : Rules). IsRunSince b.lane r line t.plan.operation from (journal_of b) (journal_of e)) rules then))
 
 pub goes-to : (c e : LaneState) (line : ℕ) (p : Plan) → e.lane ≡ c.lane → journal_of e ≡ journal_of c → GoesIn c line p → GoesIn e line p
 goes-to c e line p lane is g = subst (λ (l : Low). IsGoing l (journal_of e) line p) (sym lane) (subst (λ (J : List LaneEvent). IsGoing c.lane J line p) (sym is) g)
@@ -155,8 +171,8 @@ pub writes-on : (c e : LaneState) (line : ℕ) (row : Low) (written : Bool) (t :
     → written ≡ false → m.body ≡ body.Store x → next_at t ≡ Asks m → (st : StandsIn c line row written t) → MayWriteNext c.lane c.rules (journal_of c) (sender_of t) st.state line row t x → StandsIn e line row true t × RunsIn c e line t
 writes-on c e line row written t m x lane rules is not_yet body next st may = (
   stands-to c e (event.Wrote line x ∷ journal_of c) line row true t lane rules is (standing-wrote c.lane c.rules (journal_of c) line row written t st x may),
-  subst (λ (J : List LaneEvent). IsRun c.lane c.rules line t.plan.operation (journal_of c) J) (sym is)
-      (More (event.Wrote line x) (journal_of c) Same (wants-wrote c.lane c.rules (journal_of c) line row written t m st next x (unwritten c.lane c.rules (journal_of c) line row written t st not_yet) body)),
+  (λ from has. subst (λ (J : List LaneEvent). IsRunSince c.lane c.rules line t.plan.operation from (journal_of c) J) (sym is)
+      (Longer (event.Wrote line x) (journal_of c) Still (wants-wrote c.lane c.rules (journal_of c) line row written t m st next from x (unwritten c.lane c.rules (journal_of c) line row written t st not_yet) body))),
 )
 
 -- the entry is written, and room is made
@@ -194,8 +210,8 @@ module _ (J : List LaneEvent) where
 -- ---- all that becomes of a message
 
 module _ (number : ℕ) (J : List LaneEvent) (nodes : List Node) (m : Message) (y : Option Reply) (K : List LaneEvent) (back : Brought J nodes number m y K) where
-  pub run-brought : (lane : Low) (rules : Rules) (line : ℕ) (o : Operation) (I : List LaneEvent) → IsRun lane rules line o I J → IsRun lane rules line o I K
-  run-brought lane rules line o I run = over-brought (λ (X : List LaneEvent). IsRun lane rules line o I X) (λ n r X x. More (event.Delivered n r) X x (inl tt)) number (λ X x. More (event.Returned number) X x (inl tt)) J nodes m y K back run
+  pub run-brought : (lane : Low) (rules : Rules) (line : ℕ) (o : Operation) (from : Journal) (I : List LaneEvent) → sent number from ≡ None → IsRunSince lane rules line o from I J → IsRunSince lane rules line o from I K
+  run-brought lane rules line o from I none run = over-brought (λ (X : List LaneEvent). IsRunSince lane rules line o from I X) (λ n r X x. Longer (event.Delivered n r) X x (inl tt)) number (λ X x. Longer (event.Returned number) X x (inl none)) J nodes m y K back run
 
   pub going-brought : (lane : Low) (line : ℕ) (p : Plan) → IsGoing lane J line p → IsGoing lane K line p
   going-brought lane line p g = over-brought (λ (X : List LaneEvent). IsGoing lane X line p) (λ n r X x. going-delivered lane line p X n r x) number (λ X x. going-returned lane line p X number x) J nodes m y K back g

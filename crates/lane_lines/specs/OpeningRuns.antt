@@ -9,29 +9,31 @@ use Rattle.distributor_part.specs.declared.rules.Rules.{Rules}
 use Rattle.distributor_part.specs.Parts.{Part}
 use Rattle.op_machine.specs.Nodes.{count_nodes}
 use Rattle.op_machine.specs.Outcomes.{absent_of}
+use Rattle.lane_journals.specs.Readers.{Journal}
 use Rattle.lane_journals.specs.Meanings.{history}
 use Rattle.lane_journals.specs.declared.event.LaneEvent.{LaneEvent}
-use Rattle.operation_keeping.specs.OperationKeeping.{WasShort}
-use Rattle.operation_keeping.specs.Wants.{WasAskedIn, is_ask, IsRun}
+use Rattle.operation_keeping.specs.OperationKeeping.{WasShortSince}
+use Rattle.operation_keeping.specs.Wants.{WasAskedSince, is_ask, IsRunSince}
 use Rattle.lane_lines.specs.declared.readying.Shortage.{Shortage}
 use Rattle.lane_lines.specs.declared.readying.Shortage.TheVariants as shortage
-use Rattle.lane_lines.specs.Readying.{IsToPrepare}
+use Rattle.lane_lines.specs.Readying.{IsToPrepare, HasSent}
 
--- the part asked just those to which an Ask was sent since the line began
-abbrev pub HasAskedJust : List LaneEvent → ℕ → ℕ → Part → Type 0
-HasAskedJust J line v p = (n : ℕ) → (has_node p.asked n ≡ true) ↔ WasAskedIn (history J) line v n
+-- the part asked just those to which an Ask was sent since the search began
+abbrev pub HasAskedJust : List LaneEvent → Journal → ℕ → Part → Type 0
+HasAskedJust J from v p = (n : ℕ) → (has_node p.asked n ≡ true) ↔ WasAskedSince from (history J) v n
 
 -- it is known whether one of those wanted memory
-abbrev pub KnowsShort : List LaneEvent → ℕ → ℕ → Bool → Type 0
-KnowsShort J line v short = (short ≡ true) ↔ WasShort (history J) line (is_ask v)
+abbrev pub KnowsShort : List LaneEvent → Journal → ℕ → Bool → Type 0
+KnowsShort J from v short = (short ≡ true) ↔ WasShortSince from (history J) (is_ask v)
 
 -- the line is still to be prepared, and did what it wanted; it is known whom it asked
 pub record KnowsAsking (lane : Low) (rules : Rules) (J : List LaneEvent) (line : ℕ) (o : Operation) (d : ℕ) (s : ClusterState) (stamp : Option Stamp) (K : List LaneEvent) (p : Part) (short : Bool) : Type 0 where
-  pub run : IsRun lane rules line o J K
+  pub run : IsRunSince lane rules line o (history J) J K
   pub still : IsToPrepare lane K line o d s stamp
   pub heard : p.state ≡ Some s
-  pub asked : HasAskedJust K line s.version p
-  pub short_is : KnowsShort K line s.version short
+  pub asked : HasAskedJust K (history J) s.version p
+  pub short_is : KnowsShort K (history J) s.version short
+  pub sent_stays : HasSent (history J) K
 
 -- ---- the end
 

@@ -4,19 +4,20 @@ use Rattle.bucket_ids.specs.Buckets.{Low}
 use Rattle.stamps.specs.declared.stamp.Stamp.{Stamp}
 use Rattle.messages.specs.declared.operation.Operation.{Operation}
 use Rattle.lane_journals.specs.Buckets.{key_of}
-use Rattle.lane_journals.specs.Readers.{prepared}
+use Rattle.lane_journals.specs.Readers.{Journal, prepared}
 use Rattle.lane_journals.specs.Meanings.{history}
 use Rattle.lane_journals.specs.declared.event.LaneEvent.{LaneEvent}
 use Rattle.operation_keeping.specs.OperationKeeping.{IsUnderWay}
 use Rattle.operation_keeping.specs.Wants.{NoRoundSince}
 use Rattle.round_keeping.specs.declared.round_run.RoundRun.{RoundRun}
 
--- the round that begins is for the operation of a line, which isn't prepared yet and began no round of its row before
-pub record IsBegunFor (lane : Low) (J : List LaneEvent) (x : RoundRun) (line : ℕ) (o : Operation) (stamp : Option Stamp) : Type 0 where
+-- the round that begins is for the operation of a line, which isn't prepared yet and whose search began no round of the row
+-- before
+pub record IsBegunFor (from : Journal) (lane : Low) (J : List LaneEvent) (x : RoundRun) (line : ℕ) (o : Operation) (stamp : Option Stamp) : Type 0 where
   pub under_way : IsUnderWay lane (history J) x.distributor x.state line o stamp
   pub unprepared : prepared line (history J) ≡ None
   pub key_is : x.key ≡ key_of o.id
-  pub none : NoRoundSince J line (x.state).version (x.round).row
+  pub none : NoRoundSince J from (x.state).version (x.round).row
 
 -- the round is for the operation of a line, which isn't prepared yet
 pub record IsWaitedFor (lane : Low) (J : List LaneEvent) (x : RoundRun) (line : ℕ) (o : Operation) (stamp : Option Stamp) : Type 0 where

@@ -12,7 +12,7 @@ use Rattle.op_machine.specs.declared.machine.Standing.{Standing}
 use Rattle.op_machine.specs.Outcomes.{Asks}
 use Rattle.op_machine.specs.Standings.{next_at, IsAnswered}
 use Rattle.distributor_part.specs.declared.rules.Rules.{Rules}
-use Rattle.lane_journals.specs.Readers.{stamps_of, running}
+use Rattle.lane_journals.specs.Readers.{Journal, stamps_of, running}
 use Rattle.lane_journals.specs.Meanings.{history}
 use Rattle.lane_journals.specs.declared.event.LaneEvent.{LaneEvent}
 use Rattle.lane_keeping.specs.Acting.{IsActing}
@@ -20,7 +20,8 @@ use Rattle.operation_keeping.specs.OperationKeeping.{IsUnderWay, KnowsAsked}
 use Rattle.lane_states.specs.declared.lane_state.LaneState.{LaneState}
 use Rattle.lane_states.specs.LaneStates.{journal_of}
 use Rattle.lane_keeping.specs.Tidings.{last_state}
-use Rattle.operation_keeping.specs.Wants.{IsAtStanding, IsRun}
+use Rattle.operation_keeping.specs.Wants.{IsAtStanding, IsRunSince}
+use Rattle.lane_lines.specs.Readying.{HasSent}
 
 -- the distributor that sends the operation's messages
 abbrev pub sender_of : Standing → ℕ
@@ -53,8 +54,9 @@ pub record IsAwaiting (lane : Low) (rules : Rules) (J : List LaneEvent) (line : 
 abbrev pub StandsIn : LaneState → ℕ → Low → Bool → Standing → Type 0
 StandsIn c line row written t = IsStanding c.lane c.rules (journal_of c) line row written t
 
+-- the journal grew by what the operation wants, whatever journal one looks back to
 abbrev pub RunsIn : LaneState → LaneState → ℕ → Standing → Type 0
-RunsIn c e line t = IsRun c.lane c.rules line t.plan.operation (journal_of c) (journal_of e)
+RunsIn c e line t = (from : Journal) → HasSent from (journal_of c) → IsRunSince c.lane c.rules line t.plan.operation from (journal_of c) (journal_of e)
 
 -- it stands in some row
 pub record IsPreparedIn (c : LaneState) (line : ℕ) (written : Bool) (t : Standing) : Type 0 where

@@ -1,11 +1,13 @@
-ghost use Rattle.std.specs.Prelude.{◌≡◌, ◌<◌, IsSome, IfOk, OnErr, vec_len};
+ghost use Rattle.std.specs.Prelude.{◌≡◌, ◌<◌, Some, IsSome, IfOk, OnErr, vec_len};
+ghost use Rattle.cluster_states.specs.declared.cluster_state.ClusterState.{ClusterState};
+ghost use Rattle.lane_rounds.specs.FreeRows.{IsRowFree};
 ghost use Rattle.lane_keeping.specs.Asking.{OthersStay};
 ghost use Rattle.lane_states.specs.LaneStates.{journal_of, IsKept, HasRoom, part_of, IsResting, IsCarriedBy, IsSetUp};
 ghost use Rattle.round_keeping.specs.RoundRuns.{NoneRuns};
 ghost use Rattle.lane_lines.specs.Steps.{IsUneventful};
 ghost use Rattle.lane_states.specs.Written.{AddsNoEntry};
 ghost use Rattle.lane_lines.specs.FilledRows.{shortage_after, IsFound};
-ghost use Rattle.lane_lines.specs.Readying.{BeganNoRound, IsForLine, OfUnprepared, GoesOnWith, IsCutOffWith, FindsOr};
+ghost use Rattle.lane_lines.specs.Readying.{IsForLine, OfSearches, GoesOnWith, IsCutOffWith, FindsOr};
 
 use crate::laws::rounds_are_wanted;
 use crate::readying::Shortage;
@@ -54,7 +56,7 @@ fn found_after(end: &RoundEnd, serving: NodeSet, acks: u8) -> Option<Shortage>
     Some(shortage_of(end, serving, acks))
 }
 
-/// Runs a round in the row of the key where that has too few complete members; answers why the operation of
+/// Runs a round in the row of the key where that has too few complete members, and no operation is prepared there; answers why the operation of
 /// the line ends where they are too few after it.
 pub fn fill_row<C: Carrier>(
     lane: &mut LaneState,
@@ -71,19 +73,19 @@ pub fn fill_row<C: Carrier>(
     requires none_runs { NoneRuns (journal_of lane.old) }
     requires for_line { IsForLine lane.old distributor key }
     requires opened { IsSome (part_of lane.old distributor).rows }
+    requires free { (s : ClusterState) → (part_of lane.old distributor).state ≡ Some s
+        → IsRowFree (journal_of lane.old) s lane.old.rules.acks key }
     ensures keeps { IsKept lane.new }
     ensures spare { HasRoom 0 lane.new }
     ensures carried { IsCarriedBy lane.new (C.given carrier.new) }
     ensures planned { C.planned carrier.new ≡ C.planned carrier.old }
     ensures kind { C.takes_plans carrier.new ≡ C.takes_plans carrier.old }
-    ensures goes_on { IfOk result (λ end. OfUnprepared lane.old distributor key (λ line o s stamp.
-        BeganNoRound (journal_of lane.old) line s.version
-        → GoesOnWith lane.old lane.new line o distributor s stamp)) }
-    ensures finds { IfOk result (λ end. OfUnprepared lane.old distributor key (λ line o s stamp.
-        BeganNoRound (journal_of lane.old) line s.version → FindsOr lane.new line o s end)) }
-    ensures cut { OnErr result (OfUnprepared lane.old distributor key (λ line o s stamp.
-        BeganNoRound (journal_of lane.old) line s.version
-        → IsCutOffWith lane.old lane.new line o distributor s stamp)) }
+    ensures goes_on { IfOk result (λ end. OfSearches lane.old distributor key (λ from line o s stamp.
+        GoesOnWith from lane.old lane.new line o distributor s stamp)) }
+    ensures finds { IfOk result (λ end. OfSearches lane.old distributor key (λ from line o s stamp.
+        FindsOr from lane.new line o s end)) }
+    ensures cut { OnErr result (OfSearches lane.old distributor key (λ from line o s stamp.
+        IsCutOffWith from lane.old lane.new line o distributor s stamp)) }
     ensures quiet { IsUneventful (journal_of lane.old) (journal_of lane.new) }
     ensures entries { AddsNoEntry (journal_of lane.old) (journal_of lane.new) }
     ensures resting { IsResting (part_of lane.new distributor) }

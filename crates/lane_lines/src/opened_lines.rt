@@ -6,7 +6,7 @@ ghost use Rattle.round_keeping.specs.RoundRuns.{NoneRuns};
 ghost use Rattle.lane_lines.specs.Steps.{IsUneventful};
 ghost use Rattle.lane_states.specs.Written.{AddsNoEntry};
 ghost use Rattle.lane_lines.specs.OpeningRuns.{opening_shortage};
-ghost use Rattle.lane_lines.specs.Readying.{AskedNobody, BeganNoRound, IsForLine, OfUnprepared, GoesOnWith, IsCutOffWith, OpensOr};
+ghost use Rattle.lane_lines.specs.Readying.{IsForLine, OfUnprepared, search_from, GoesOnWith, IsCutOffWith, OpensOr};
 
 use crate::readying::Shortage;
 use carriers::Carrier;
@@ -66,14 +66,11 @@ pub fn open_for_line<C: Carrier>(
     ensures planned { C.planned carrier.new ≡ C.planned carrier.old }
     ensures kind { C.takes_plans carrier.new ≡ C.takes_plans carrier.old }
     ensures goes_on { IfOk result (λ end. OfUnprepared lane.old distributor key (λ line o s stamp.
-        AskedNobody (journal_of lane.old) line s.version
-        → GoesOnWith lane.old lane.new line o distributor s stamp)) }
+        GoesOnWith (search_from lane.old) lane.old lane.new line o distributor s stamp)) }
     ensures opens { IfOk result (λ end. OfUnprepared lane.old distributor key (λ line o s stamp.
-        AskedNobody (journal_of lane.old) line s.version → BeganNoRound (journal_of lane.old) line s.version
-        → OpensOr lane.new distributor line o s end)) }
+        OpensOr (search_from lane.old) lane.new distributor line o s end)) }
     ensures cut { OnErr result (OfUnprepared lane.old distributor key (λ line o s stamp.
-        AskedNobody (journal_of lane.old) line s.version
-        → IsCutOffWith lane.old lane.new line o distributor s stamp)) }
+        IsCutOffWith (search_from lane.old) lane.old lane.new line o distributor s stamp)) }
     ensures quiet { IsUneventful (journal_of lane.old) (journal_of lane.new) }
     ensures entries { AddsNoEntry (journal_of lane.old) (journal_of lane.new) }
     ensures resting { IsResting (part_of lane.new distributor) }

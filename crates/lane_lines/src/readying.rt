@@ -1,16 +1,19 @@
-ghost use Rattle.std.specs.Prelude.{◌≡◌, ◌<◌, IfOk, OnErr, vec_len, is_some, IsSome, None};
+ghost use Rattle.std.specs.Prelude.{◌≡◌, ◌<◌, IfOk, OnErr, vec_len, is_some, IsSome, None, Some};
+ghost use Rattle.cluster_states.specs.declared.cluster_state.ClusterState.{ClusterState};
+ghost use Rattle.lane_rounds.specs.FreeRows.{IsRowFree};
 ghost use Rattle.bucket_ids.specs.Buckets.{IsIn};
 ghost use Rattle.lane_keeping.specs.Asking.{OthersStay};
 ghost use Rattle.lane_states.specs.LaneStates.{journal_of, IsKept, HasRoom, part_of, IsResting, IsCarriedBy, IsSetUp};
 ghost use Rattle.round_keeping.specs.RoundRuns.{NoneRuns};
 ghost use Rattle.lane_lines.specs.Steps.{IsUneventful};
 ghost use Rattle.lane_states.specs.Written.{AddsNoEntry};
-ghost use Rattle.lane_lines.specs.Readying.{outcome_of, AskedNobody, BeganNoRound, IsForNewLine, OfUnprepared, GoesOnWith, IsCutOffWith, HasRowWith, FindsOr};
+ghost use Rattle.lane_lines.specs.Readying.{outcome_of, IsForLine, OfUnprepared, search_from, GoesOnWith, IsCutOffWith, HasRowWith, FindsOr};
 
 use crate::filled_rows::fill_row;
 use crate::opened_lines::open_for_line;
 use bucket_db::Row;
 use carriers::Carrier;
+use lane_keeping::laws::owners_act;
 use lane_states::lane_state::LaneState;
 use messages::Outcome;
 use value_lists::NoMemory;
@@ -56,7 +59,7 @@ fn has_rows(lane: &LaneState, distributor: u8) -> bool
     lane.parts[usize::from(distributor)].is_opened()
 }
 
-/// Opens the state, and finds the row of the key for the operation of a new line.
+/// Opens the state, and finds the row of the key for the operation of a line.
 fn open_row<C: Carrier>(
     lane: &mut LaneState,
     distributor: u8,
@@ -70,7 +73,7 @@ fn open_row<C: Carrier>(
     requires resting { IsResting (part_of lane.old distributor) }
     requires none_runs { NoneRuns (journal_of lane.old) }
     requires set_up { IsSetUp lane.old.lane lane.old.rules }
-    requires for_line { IsForNewLine lane.old distributor key }
+    requires for_line { IsForLine lane.old distributor key }
     requires unopened { (part_of lane.old distributor).rows ≡ None }
     ensures keeps { IsKept lane.new }
     ensures spare { HasRoom 0 lane.new }
@@ -78,14 +81,11 @@ fn open_row<C: Carrier>(
     ensures planned { C.planned carrier.new ≡ C.planned carrier.old }
     ensures kind { C.takes_plans carrier.new ≡ C.takes_plans carrier.old }
     ensures goes_on { IfOk result (λ end. OfUnprepared lane.old distributor key (λ line o s stamp.
-        AskedNobody (journal_of lane.old) line s.version → BeganNoRound (journal_of lane.old) line s.version
-        → GoesOnWith lane.old lane.new line o distributor s stamp)) }
+        GoesOnWith (search_from lane.old) lane.old lane.new line o distributor s stamp)) }
     ensures finds { IfOk result (λ end. OfUnprepared lane.old distributor key (λ line o s stamp.
-        AskedNobody (journal_of lane.old) line s.version → BeganNoRound (journal_of lane.old) line s.version
-        → FindsOr lane.new line o s end)) }
+        FindsOr (search_from lane.old) lane.new line o s end)) }
     ensures cut { OnErr result (OfUnprepared lane.old distributor key (λ line o s stamp.
-        AskedNobody (journal_of lane.old) line s.version → BeganNoRound (journal_of lane.old) line s.version
-        → IsCutOffWith lane.old lane.new line o distributor s stamp)) }
+        IsCutOffWith (search_from lane.old) lane.old lane.new line o distributor s stamp)) }
     ensures quiet { IsUneventful (journal_of lane.old) (journal_of lane.new) }
     ensures entries { AddsNoEntry (journal_of lane.old) (journal_of lane.new) }
     ensures resting { IsResting (part_of lane.new distributor) }
@@ -99,14 +99,15 @@ fn open_row<C: Carrier>(
     } }
     ensures parts { vec_len lane.new.parts ≡ vec_len lane.old.parts }
 {
+    owners_act();
     match open_for_line(lane, distributor, key, carrier)? {
         Some(shortage) => Ok(Some(shortage)),
         None => fill_row(lane, distributor, key, carrier),
     }
 }
 
-/// Finds the row of the key for the operation of a new line, with enough complete members: the state is
-/// opened where it isn't, and a round is run where they are too few. Answers why the operation ends where it finds
+/// Finds the row of the key for the operation of a line, with enough complete members: the state is opened where it
+/// isn't, and a round is run where they are too few and no operation is prepared there. Answers why the operation ends where it finds
 /// none.
 pub fn find_row<C: Carrier>(
     lane: &mut LaneState,
@@ -121,21 +122,21 @@ pub fn find_row<C: Carrier>(
     requires resting { IsResting (part_of lane.old distributor) }
     requires none_runs { NoneRuns (journal_of lane.old) }
     requires set_up { IsSetUp lane.old.lane lane.old.rules }
-    requires for_line { IsForNewLine lane.old distributor key }
+    requires for_line { IsForLine lane.old distributor key }
+    requires free { IsSome (part_of lane.old distributor).rows → (s : ClusterState)
+        → (part_of lane.old distributor).state ≡ Some s
+        → IsRowFree (journal_of lane.old) s lane.old.rules.acks key }
     ensures keeps { IsKept lane.new }
     ensures spare { HasRoom 0 lane.new }
     ensures carried { IsCarriedBy lane.new (C.given carrier.new) }
     ensures planned { C.planned carrier.new ≡ C.planned carrier.old }
     ensures kind { C.takes_plans carrier.new ≡ C.takes_plans carrier.old }
     ensures goes_on { IfOk result (λ end. OfUnprepared lane.old distributor key (λ line o s stamp.
-        AskedNobody (journal_of lane.old) line s.version → BeganNoRound (journal_of lane.old) line s.version
-        → GoesOnWith lane.old lane.new line o distributor s stamp)) }
+        GoesOnWith (search_from lane.old) lane.old lane.new line o distributor s stamp)) }
     ensures finds { IfOk result (λ end. OfUnprepared lane.old distributor key (λ line o s stamp.
-        AskedNobody (journal_of lane.old) line s.version → BeganNoRound (journal_of lane.old) line s.version
-        → FindsOr lane.new line o s end)) }
+        FindsOr (search_from lane.old) lane.new line o s end)) }
     ensures cut { OnErr result (OfUnprepared lane.old distributor key (λ line o s stamp.
-        AskedNobody (journal_of lane.old) line s.version → BeganNoRound (journal_of lane.old) line s.version
-        → IsCutOffWith lane.old lane.new line o distributor s stamp)) }
+        IsCutOffWith (search_from lane.old) lane.old lane.new line o distributor s stamp)) }
     ensures quiet { IsUneventful (journal_of lane.old) (journal_of lane.new) }
     ensures entries { AddsNoEntry (journal_of lane.old) (journal_of lane.new) }
     ensures resting { IsResting (part_of lane.new distributor) }

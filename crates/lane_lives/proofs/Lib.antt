@@ -6,3 +6,4 @@ pub mod Living
 pub mod Told
 pub mod Quiet
 pub mod Leaving
+pub mod Covered

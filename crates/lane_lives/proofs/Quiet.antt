@@ -13,9 +13,10 @@ use Rattle.messages.specs.declared.operation.Operation.{Operation}
 use Rattle.messages.specs.declared.step.Step.{Step}
 use Rattle.messages.specs.declared.step.Step.TheVariants as step
 use Rattle.op_machine.specs.Outcomes.{Next, Asks, Finishes}
+use Rattle.lane_journals.specs.Readers.{Journal}
 use Rattle.lane_journals.specs.declared.event.LaneEvent.{LaneEvent}
 use Rattle.lane_journals.specs.declared.event.LaneEvent.TheVariants as event
-use Rattle.operation_keeping.specs.Wants.{Adds, OpeningGives, RoundGives, AfterRound, BodyGives, NextGives, UnpreparedWants, IsCarriage, IsWanted, IsCutRound}
+use Rattle.operation_keeping.specs.Wants.{Adds, OpeningGives, RoundGives, AfterRound, BodyGives, NextGives, UnpreparedWants, WantsSince, IsCarriage, IsWanted, IsWantedSince, IsCutRound}
 
 -- the event is none that begins or ends something, and if it is of a line, of this one
 abbrev pub AddsFor : ℕ → LaneEvent → Type 0
@@ -42,19 +43,19 @@ added e f is = cc
 
 -- ---- by what is wanted
 
-by_opening : (J : List LaneEvent) (line d : ℕ) (s : ClusterState) (p : Part) (t : Step) (e : LaneEvent) → OpeningGives J line d s p t (Adds e) → AddsFor line e
-by_opening J line d s p (step.Send m) e h = adds_is line e _ h.1 tt
-by_opening J line d s p (step.Open buckets) e h = adds_is line e _ h tt
-by_opening J line d s p (step.Decide x) e h = absurd h
-by_opening J line d s p (step.Finished missing) e h = absurd h
+by_opening : (J : List LaneEvent) (from : Journal) (line d : ℕ) (s : ClusterState) (p : Part) (t : Step) (e : LaneEvent) → OpeningGives J from d s p t (Adds e) → AddsFor line e
+by_opening J from line d s p (step.Send m) e h = adds_is line e _ h.1 tt
+by_opening J from line d s p (step.Open buckets) e h = adds_is line e _ h tt
+by_opening J from line d s p (step.Decide x) e h = absurd h
+by_opening J from line d s p (step.Finished missing) e h = absurd h
 
 by_round : (line d : ℕ) (s : ClusterState) (r : RoundState) (next : Option Message) (e : LaneEvent) → RoundGives d s r next (Adds e) → AddsFor line e
 by_round line d s r None e h = adds_is line e _ h tt
 by_round line d s r (Some m) e h = adds_is line e _ h.1 tt
 
-by_short : (rules : Rules) (J : List LaneEvent) (line : ℕ) (s : ClusterState) (row : _) (r : RoundState) (e : LaneEvent) → AfterRound rules J line s row r (Adds e) → ⊥
-by_short rules J line s row r e (inl h) = absurd h.1
-by_short rules J line s row r e (inr h) = absurd h.1
+by_short : (rules : Rules) (J : List LaneEvent) (from : Journal) (s : ClusterState) (row : _) (r : RoundState) (e : LaneEvent) → AfterRound rules J from s row r (Adds e) → ⊥
+by_short rules J from s row r e (inl h) = absurd h.1
+by_short rules J from s row r e (inr h) = absurd h.1
 
 by_body : (line : ℕ) (written : Option Entry) (m : Message) (b : Body) (e : LaneEvent) → BodyGives line written m b e → AddsFor line e
 by_body line None m (body.Store entry) e h = adds_is line e _ h refl
@@ -72,12 +73,12 @@ by_next : (line : ℕ) (written : Option Entry) (next : Next) (e : LaneEvent) �
 by_next line written (Asks m) e h = by_body line written m m.body e h
 by_next line written (Finishes x) e h = absurd h
 
-by_unprepared : (lane : Low) (rules : Rules) (J : List LaneEvent) (line key d : ℕ) (s : ClusterState) (e : LaneEvent) → UnpreparedWants lane rules J line key d s (Adds e) → AddsFor line e
-by_unprepared lane rules J line key d s e (inl h) = by_opening J line d s h.part h.step e h.gives
-by_unprepared lane rules J line key d s e (inr (inl h)) = adds_is line e _ (added e _ h.is) tt
-by_unprepared lane rules J line key d s e (inr (inr (inl h))) = by_round line d s h.round h.next e h.gives
-by_unprepared lane rules J line key d s e (inr (inr (inr (inl h)))) = adds_is line e _ (added e _ h.is) refl
-by_unprepared lane rules J line key d s e (inr (inr (inr (inr h)))) = absurd (by_short rules J line s h.row h.round e h.gives)
+by_unprepared : (lane : Low) (rules : Rules) (J : List LaneEvent) (line : ℕ) (from : Journal) (key d : ℕ) (s : ClusterState) (e : LaneEvent) → UnpreparedWants lane rules J line from key d s (Adds e) → AddsFor line e
+by_unprepared lane rules J line from key d s e (inl h) = by_opening J from line d s h.part h.step e h.gives
+by_unprepared lane rules J line from key d s e (inr (inl h)) = adds_is line e _ (added e _ h.is) tt
+by_unprepared lane rules J line from key d s e (inr (inr (inl h))) = by_round line d s h.round h.next e h.gives
+by_unprepared lane rules J line from key d s e (inr (inr (inr (inl h)))) = adds_is line e _ (added e _ h.is) refl
+by_unprepared lane rules J line from key d s e (inr (inr (inr (inr h)))) = absurd (by_short rules J from s h.row h.round e h.gives)
 
 by_carriage : (line : ℕ) (e : LaneEvent) → IsCarriage e → AddsFor line e
 by_carriage line (event.Published s) h = absurd h
@@ -96,12 +97,22 @@ by_carriage line (event.Returned k) h = tt
 by_carriage line (event.Decided d v x) h = tt
 
 -- what an operation wants next it adds for its line
-pub wanted_adds : (lane : Low) (rules : Rules) (line : ℕ) (o : Operation) (e : LaneEvent) (J : List LaneEvent) → IsWanted lane rules line o e J → AddsFor line e
-wanted_adds lane rules line o e J (inl h) = by_carriage line e h
-wanted_adds lane rules line o e J (inr h) = elim h.wants [
-  | inl early ↦ by_unprepared lane rules J line _ h.distributor h.state e early.1
+pub since_adds : (lane : Low) (rules : Rules) (line : ℕ) (o : Operation) (from : Journal) (e : LaneEvent) (J : List LaneEvent) → WantsSince lane rules line o from J (Adds e) → AddsFor line e
+since_adds lane rules line o from e J h = elim h.wants [
+  | inl early ↦ by_unprepared lane rules J line from _ h.distributor h.state e early.1
   | inr late ↦ by_next line late.written _ e late.gives
 ]
+
+pub wanted_adds : (lane : Low) (rules : Rules) (line : ℕ) (o : Operation) (e : LaneEvent) (J : List LaneEvent) → IsWanted lane rules line o e J → AddsFor line e
+wanted_adds lane rules line o e J (inl h) = by_carriage line e h
+wanted_adds lane rules line o e J (inr h) = since_adds lane rules line o _ e J h
+
+-- and so in a search, or by the messages of an operation
+pub search_adds : (lane : Low) (rules : Rules) (line : ℕ) (o : Operation) (from : Journal) (e : LaneEvent) (J : List LaneEvent) → IsWantedSince lane rules line o from e J → AddsFor line e
+search_adds lane rules line o from (event.Delivered k r) J (inl h) = tt
+search_adds lane rules line o from (event.Returned k) J (inl h) = tt
+search_adds lane rules line o from _ J (inl h) = absurd h
+search_adds lane rules line o from e J (inr h) = since_adds lane rules line o from e J h
 
 -- what is cut off ends a round
 pub cut_adds : (lane : Low) (line : ℕ) (L K : List LaneEvent) → IsCutRound lane L K → (e : LaneEvent) × ((K ≡ e ∷ L) × AddsFor line e)

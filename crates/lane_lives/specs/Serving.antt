@@ -1,5 +1,5 @@
 -- What a lane of a session is between two lines.
-use Rattle.std.specs.Prelude.{◌≡◌, ℕ, List, None}
+use Rattle.std.specs.Prelude.{◌≡◌, ℕ, List, []}
 use Rattle.bucket_ids.specs.Buckets.{Low}
 use Rattle.carriers.specs.declared.fate.Fate.{Fate}
 use Rattle.global_ids.specs.Keys.{lane_bucket}
@@ -17,7 +17,7 @@ pub record IsServing (s : Setting) (planned : List Fate) (lane : ℕ) (deeds : L
   pub rules_are : v.rules ≡ s.rules
   pub types_are : v.types ≡ s.schema
   pub planned_are : v.planned ≡ planned
-  pub idle : v.under_way ≡ None
+  pub idle : v.under_way ≡ []
   pub rising : AreRising (lines_of deeds)
   pub life : IsLife s (bucket_in s lane) deeds v.journal
   -- the journal is legal, and each message had the events of its fate

@@ -7,8 +7,6 @@ use Rattle.cluster_states.specs.declared.cluster_state.ClusterState.{ClusterStat
 use Rattle.lane_journals.specs.Meanings.{history}
 use Rattle.lane_journals.specs.Readers.{stopped}
 use Rattle.lane_journals.specs.declared.event.LaneEvent.{LaneEvent}
-use Rattle.lane_keeping.specs.LaneKeeping.{setting_of}
-use Rattle.lane_rest.specs.Rest.{IsAtRest}
 use Rattle.lane_carriage.specs.Carriage.{IsCarried}
 use Rattle.lane_carriage.specs.Readers.{fate_of, is_returned}
 use Rattle.upkeep_spans.specs.Causes.{first_late, IsCause}
@@ -16,7 +14,8 @@ use Rattle.upkeep_spans.specs.Spans.{later}
 use Rattle.upkeep_spans.specs.declared.answers.Upkeep.TheVariants.{Rested}
 use Rattle.lane_keeping.specs.Tidings.{last_state}
 use Rattle.lane_lives.specs.LaneValues.{LaneValue}
-use Rattle.lane_lives.specs.Upkept.{Maintains, IsLaneAtRest}
+use Rattle.lane_lives.specs.Upkept.{Maintains, HaveRun, IsLaneAtRest}
+use Rattle.lane_lives.specs.Rested.{RestsIn}
 use Rattle.lane_lives.specs.declared.setting.Setting.{Setting}
 use Rattle.lane_lives.specs.Lives.{Deed, IsLife, IsMaintained}
 use Rattle.lane_lives.specs.declared.spans.UpkeepSpan.{UpkeepSpan}
@@ -36,14 +35,15 @@ pub record WasCalm (before after : List LaneEvent) (earlier fates : List Fate) :
   pub answered : (k : ℕ) → length earlier < k → k ≤ length fates → is_returned (fate_of k fates) ≡ true
   pub unlate : first_late fates (later (length before) after) ≡ None
 
--- a pass was made, which came to what its events tell, and rested where nothing disturbed it; where it rested the lane is
--- at rest
+-- a pass was made, which came to what its events tell, and rested where nothing disturbed it; where it rested each node
+-- that serves ran, and the lane is at rest
 pub record IsSpan (span : UpkeepSpan) (old new : LaneValue) : Type 0 where
   pub pass : Maintains old new
   pub from : span.from ≡ length old.journal
   pub to : span.to ≡ length new.journal
   pub cause : IsCause new.given span.from new.journal span.answer
   pub rests : WasCalm old.journal new.journal old.given new.given → span.answer ≡ Rested
+  pub run : span.answer ≡ Rested → HaveRun new.journal
   pub at_rest : span.answer ≡ Rested → IsLaneAtRest new
 
 -- ---- in the whole journal
@@ -68,5 +68,6 @@ pub record SpanStands (s : Setting) (lane : Low) (deeds : List Deed) (J : List L
   pub carried : IsCarried fates after
   pub cause : IsCause fates span.from after span.answer
   pub rests : WasCalm before after earlier fates → span.answer ≡ Rested
-  -- where that is Rested, the lane was at rest as the span ended
-  pub at_rest : span.answer ≡ Rested → IsAtRest (setting_of lane s.rules) (s.rules).searchable (s.rules).split_at after
+  -- where that is Rested, each node that serves under the newest state ran, and the lane was at rest as the span ended
+  pub run : span.answer ≡ Rested → HaveRun after
+  pub at_rest : span.answer ≡ Rested → RestsIn s lane after

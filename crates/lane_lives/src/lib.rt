@@ -1,4 +1,4 @@
-//! What a lane is to its callers, and its life: what a session did there, told as deeds; types, definitions and a law.
+//! What a lane is to its callers, and its life: what a session did there, told as deeds; types, definitions and laws.
 //!
 //! `LaneValue` in `specs/LaneValues.antt` has the journal, the fates given so far, the operation under way and what was drawn; the
 //! relations there say what each call of a lane makes of it, `specs/Upkept.antt` what an upkeep does. `lane_core` has the lane
@@ -8,6 +8,7 @@
 //!
 //! ```text
 //! states_follow_deeds();               // states and nodes change as the lane was told
+//! lanes_at_rest_are_covered();         // what rest is to a search
 //! ```
 #![tactic(auto)]
 

@@ -1,17 +1,19 @@
-use messages::SharedOperation;
+use messages::{Outcome, SharedOperation};
 
 /// How far the operation is that is under way.
-#[derive(Clone, Copy, PartialEq, Eq)]
+#[derive(Drop)]
 pub enum Progress {
-    /// It wants something more.
+    /// It was begun, and nothing was done for it.
+    Begun,
+    /// It is prepared in its row, and wants something more.
     Runs,
-    /// It wants nothing but its end.
-    Over,
+    /// It wants nothing but its end, with this outcome.
+    Over { outcome: Outcome },
     /// Memory was wanted.
     Short,
 }
 
-/// What a lane says of the operation that is under way there.
+/// What a lane says of an operation that is under way there.
 #[derive(Drop)]
 pub struct UnderWay {
     pub line: u32,

@@ -22,7 +22,7 @@ use Rattle.lane_journals.specs.Meanings.{history, is_acked}
 use Rattle.lane_journals.specs.Places as places
 use Rattle.lane_journals.specs.KeptJournals.{IsLegal}
 use Rattle.lane_journals.specs.declared.event.LaneEvent.{LaneEvent}
-use Rattle.lane_journals.specs.declared.event.LaneEvent.TheVariants.{Begun, Closed}
+use Rattle.lane_journals.specs.declared.event.LaneEvent.TheVariants.{Closed}
 use Rattle.lane_keeping.specs.LaneKeeping.{setting_of}
 use Rattle.operation_keeping.specs.Wants.{IsRun, IsEnd}
 use Rattle.lane_carriage.specs.Carriage.{IsCarried, Other}

@@ -10,3 +10,4 @@ mod Ends
 mod Refusals
 mod Shortfalls
 mod Hearing
+mod Covered

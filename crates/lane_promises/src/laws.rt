@@ -1,7 +1,7 @@
 //! What every lane of a session promises; no function here does anything.
 
-ghost use Rattle.std.specs.Prelude.{◌≡◌, ◌≤◌, ◌<◌, ℕ, false, List, ◌∷◌, ◌++◌, Some};
-ghost use Rattle.bucket_ids.specs.Buckets.{Low};
+ghost use Rattle.std.specs.Prelude.{◌≡◌, ◌≤◌, ◌<◌, ℕ, true, false, List, ◌∷◌, ◌++◌, Some};
+ghost use Rattle.bucket_ids.specs.Buckets.{Low, has_key};
 ghost use Rattle.node_sets.specs.Members.{has_node};
 ghost use Rattle.carriers.specs.declared.fate.Fate.{Fate};
 ghost use Rattle.distributor_part.specs.declared.rules.Rules.{Rules};
@@ -17,7 +17,11 @@ ghost use Rattle.lane_lives.specs.LaneValues.{LaneValue};
 ghost use Rattle.lane_lives.specs.Settings.{IsSetting};
 ghost use Rattle.lane_lives.specs.declared.setting.Setting.{Setting};
 ghost use Rattle.lane_promises.specs.Hearings.{deaf_in, HeardNewest};
-ghost use Rattle.lane_lives.specs.Lives.{Deed, IsLife, lines_of, newest_in, outcome_in};
+ghost use Rattle.lane_lives.specs.Lives.{Deed, Maintains, IsLife, lines_of, newest_in, outcome_in};
+ghost use Rattle.lane_lives.specs.Rested.{IsCovered, AreCalm};
+ghost use Rattle.lane_lives.specs.Upkeep.{SpanStands};
+ghost use Rattle.lane_lives.specs.declared.spans.UpkeepSpan.{UpkeepSpan};
+ghost use Rattle.upkeep_spans.specs.declared.answers.Upkeep.TheVariants.{Rested};
 ghost use Rattle.lane_promises.specs.Promises.{IsComplete, KeepsWrites, WasRefused, LineFellShort};
 
 use lane_carriage::laws::messages_are_carried;
@@ -26,6 +30,7 @@ use lane_completeness::laws::{
     undisturbed_operations_are_decided, undisturbed_writes_end_well, unheard_messages_are_lost,
 };
 use lane_durability::theorem::kept_journals_are_durable;
+use lane_lives::laws::lanes_at_rest_are_covered;
 
 /// A line that goes to the owner under the newest state isn't refused; and if no message of it is lost, it comes
 /// to what nodes answer, and a put or a remove without condition to its acknowledgement, unless memory was wanted.
@@ -80,4 +85,15 @@ pub fn lines_fall_short_with_cause()
     replies_return_in_turn();
     unheard_messages_are_lost();
     messages_are_carried();
+}
+
+/// Behind an upkeep that rested each key of the lane is covered, whatever was done since, while no state was announced
+/// and no node stopped.
+pub fn rested_lanes_stay_covered()
+    ensures { (s : Setting) (lane : Low) (more deeds : List Deed) (J K later : List LaneEvent) (span : UpkeepSpan)
+        → IsLegal (setting_of lane s.rules) J → SpanStands s lane deeds J span → span.answer ≡ Rested → AreCalm more
+        → IsLife s lane (more ++ Maintains (Some span) ∷ deeds) K → J ≡ later ++ K
+        → (key : ℕ) → has_key lane key ≡ true → IsCovered key K }
+{
+    lanes_at_rest_are_covered();
 }

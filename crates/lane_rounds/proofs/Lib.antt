@@ -7,6 +7,7 @@ pub mod Shortages
 pub mod Staying
 -- Of this crate alone.
 mod AskExchanges
+mod FreeRows
 mod Going
 mod LaneRuns
 mod NodeSpans

@@ -1,4 +1,5 @@
 -- `Openings` says how the owner's part opens its state, and what becomes of the journal meanwhile, and `RoundSteps` what a
--- round is told.
+-- round is told, `FreeRows` in which rows one may be run.
+pub mod FreeRows
 pub mod Openings
 pub mod RoundSteps

@@ -2,6 +2,7 @@ ghost use Rattle.std.specs.Prelude.{◌≡◌, ◌≤◌, ◌<◌, ◌+◌, ◌�
 ghost use Rattle.bucket_ids.specs.Buckets.{Low, IsIn};
 ghost use Rattle.node_sets.specs.Members.{has_node};
 ghost use Rattle.messages.specs.Noting.{noted_reply};
+ghost use Rattle.cluster_states.specs.declared.cluster_state.ClusterState.{ClusterState};
 ghost use Rattle.carriers.specs.declared.fate.Fate.{Fate};
 ghost use Rattle.distributor_part.specs.declared.stage.Stage.TheVariants as stage;
 ghost use Rattle.distributor_part.specs.Parts.{IsOwning, rows_of};
@@ -15,6 +16,7 @@ ghost use Rattle.lane_keeping.specs.Asking.{OthersStay};
 ghost use Rattle.lane_states.specs.LaneStates.{journal_of, IsKept, HasRoom, part_of, IsCarriedBy, NodesOn};
 ghost use Rattle.round_keeping.specs.RoundRuns.{IsAfterReply, is_refusal, NoneRuns, IsRunning, IsCutOff, GoesOn, IsRunToldBy, left, IsRunBy, MayBegin, MayBeginAt, LowIsThere, IsNewRun, EndsEnough, Begins, RunsOn, EndsWith, IsStageOver, IsToldOver, EndsJob, EndsRun, are_missing, is_short, IsEnd, IsWholeRun, IsCutShort};
 ghost use Rattle.lane_states.specs.Growing.{IsSettled};
+ghost use Rattle.lane_rounds.specs.FreeRows.{IsRowFree};
 ghost use Rattle.lane_rounds.specs.RoundSteps.{IsRunTold};
 ghost use Rattle.lane_states.specs.Shortages.{WhereItEnds, NoneIsShort, EndsAtOnce};
 ghost use Rattle.round_keeping.specs.RoundShortages.{wants_memory, HadMemory};
@@ -329,7 +331,8 @@ pub fn begin_round(lane: &mut LaneState, distributor: u8, key: u64) -> Option<Ro
     requires there { distributor < vec_len lane.old.parts }
     requires may { MayBegin lane.old.lane distributor (part_of lane.old distributor) key }
     requires none_runs { NoneRuns (journal_of lane.old) }
-    requires idle { (v : ℕ) (b : Low) → Idle v b (history (journal_of lane.old)) }
+    requires free { (s : ClusterState) → (part_of lane.old distributor).state ≡ Some s
+        → IsRowFree (journal_of lane.old) s lane.old.rules.acks key }
     requires room { vec_len lane.old.journal.events + 1 ≤ vec_capacity lane.old.journal.events }
     ensures keeps { IsKept lane.new }
     ensures begins { IfSome result (λ run. Begins lane.old.lane (journal_of lane.old) (journal_of lane.new)

@@ -1,6 +1,7 @@
 -- What a lane keeps, after one more event.
 use Rattle.std.proofs.Common.{◌≡◌, ◌∙◌, ◌≤◌, ◌<◌, ◌+◌, ℕ, Bool, true, false, cond, nat_le, List, [], ◌∷◌, length, Option, refl, sym, subst, arith}
 use Rattle.bucket_ids.specs.Buckets.{Low}
+use Rattle.view_changes.specs.declared.change.LaneChange.{LaneChange}
 use Rattle.cluster_states.specs.declared.cluster_state.ClusterState.{ClusterState}
 use Rattle.messages.specs.declared.noted.NotedBody.{NotedBody}
 use Rattle.messages.specs.declared.noted.NotedReply.{NotedReply}
@@ -23,7 +24,7 @@ use Rattle.lane_states.specs.Accepting.{AreAccepted}
 use Rattle.lane_states.specs.LaneStates.{IsComing, AreStopped, IsKeptBy}
 use Rattle.lane_states.proofs.Accepting.{accepted-stays}
 use Rattle.lane_states.specs.Told.{Tells, IsTold}
-use Rattle.lane_states.proofs.Counts.{no-stop, told-quiet}
+use Rattle.lane_states.proofs.Counts.{no-stop, told-quiet, told-roomier}
 use Rattle.lane_states.proofs.Stops.{stops-on}
 
 pub each-more : {P Q : Late → Type 0} (late : List Late) → ((l : Late) → P l → Q l) → Each P late → Each Q late
@@ -84,6 +85,11 @@ module _ {lane : Low} {rules : Rules} {J : List LaneEvent} {newest : Option Clus
   -- without the first late message
   pub kept_first : {l : Late} {rest : List Late} → late ≡ l ∷ rest → IsKeptBy lane rules J newest last nodes parts rest stops t
   kept_first {l} {rest} is = record { small = k.small; keeps = k.keeps; coming = (subst (λ (x : List Late). Each (IsComing J nodes) x) is k.coming).1; counted = k.counted; stops_are = k.stops_are; accepted = k.accepted; told_is = k.told_is }
+
+  -- with more places for the changes that are kept
+  pub kept-roomier : {kept2 : List (List LaneChange)} {lists2 places2 : ℕ} → kept2 ≡ (t.log).kept → lists2 ≡ (t.log).lists → (t.log).places ≤ places2
+      → IsKeptBy lane rules J newest last nodes parts late stops (record { log = record { told = (t.log).told; kept = kept2; lists = lists2; places = places2; turn_room = (t.log).turn_room }; shelf = t.shelf })
+  kept-roomier {kept2} {lists2} {places2} same count more = record { small = k.small; keeps = k.keeps; coming = k.coming; counted = k.counted; stops_are = k.stops_are; accepted = k.accepted; told_is = told-roomier J t kept2 lists2 places2 (t.log).turn_room same (λ room. let free = (k.told_is).place room in omega (arith, free, count, more)) k.told_is }
 
   -- a node that isn't among the stopped ones runs
   pub kept_runs : (n : ℕ) → has_node stops n ≡ false → stopped n (history J) ≡ false

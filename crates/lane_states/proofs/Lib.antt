@@ -18,3 +18,4 @@ mod Nobodies
 mod Owners
 mod Shelving
 mod Stops
+mod Turns

@@ -1,5 +1,6 @@
 -- The fields of a lane, and what its calls say of them.
 use Rattle.std.specs.Prelude.{◌≡◌, ◌≤◌, ◌<◌, ◌+◌, ◌^◌, ℕ, Bool, false, List, [], ◌∷◌, ◌++◌, length, Option, None, vec_len, vec_capacity}
+use Rattle.std.specs.VecDeque.{deque_len, deque_capacity}
 use Rattle.bucket_ids.specs.Buckets.{Low}
 use Rattle.node_sets.specs.Members.{has_node}
 use Rattle.cluster_states.specs.declared.cluster_state.ClusterState.{ClusterState}
@@ -63,7 +64,7 @@ pub record IsKeptBy (lane : Low) (rules : Rules) (J : List LaneEvent) (newest : 
 
 -- what it keeps of the changes of its view
 abbrev pub log_of : LaneState → Log
-log_of c = record { told = c.journal.told; lost = c.journal.lost; kept = c.journal.kept.items }
+log_of c = record { told = c.journal.told; kept = c.journal.kept.items; lists = deque_len c.journal.kept; places = deque_capacity c.journal.kept; turn_room = c.turn_room }
 
 abbrev pub tells_of : LaneState → Tells
 tells_of c = record { log = log_of c; shelf = c.shelf }
@@ -90,6 +91,10 @@ Receives c n = has_node c.stopped n ≡ false
 -- so many events more find room, and those for which there always is
 abbrev pub HasRoom : ℕ → LaneState → Type 0
 HasRoom many c = vec_len c.journal.events + many + c.spare ≤ vec_capacity c.journal.events
+
+-- so many lists of changes more find a place, and that of a stop or a start behind them
+abbrev pub HasPlaces : ℕ → LaneState → Type 0
+HasPlaces many c = deque_len c.journal.kept + many + 1 ≤ deque_capacity c.journal.kept
 
 -- the part of a distributor
 abbrev pub part_of : LaneState → ℕ → Part

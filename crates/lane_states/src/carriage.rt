@@ -11,7 +11,7 @@ ghost use Rattle.lane_keeping.specs.Flights.{Brings, IsWhole, IsInFlight};
 ghost use Rattle.lane_keeping.specs.Replaying.{sending, delivered};
 ghost use Rattle.lane_keeping.specs.LaneKeeping.{setting_of, node_in};
 ghost use Rattle.lane_keeping.specs.Asking.{IsJustSent, IsTakenBy};
-ghost use Rattle.lane_states.specs.LaneStates.{journal_of, IsKept, IsKeptWithSome, StaysKept, IsComing, HasRoom, Receives, NodesOn};
+ghost use Rattle.lane_states.specs.LaneStates.{journal_of, IsKept, IsKeptWithSome, StaysKept, IsComing, HasRoom, HasPlaces, Receives, NodesOn};
 ghost use Rattle.lane_states.specs.Growing.{DeliversOne};
 ghost use Rattle.lane_carriage.specs.Carrying.{DeliversSome};
 
@@ -43,6 +43,7 @@ impl LaneState {
         ensures after { self.new ≡ record self.old { journal = self.new.journal; last = self.old.last + 1 } }
         ensures len { vec_len self.new.journal.events ≡ vec_len self.old.journal.events + 1 }
         ensures capacity { vec_capacity self.old.journal.events ≤ vec_capacity self.new.journal.events }
+        ensures places { (many : ℕ) → HasPlaces many self.old → HasPlaces many self.new }
     {
         events_are_kept();
         self.last += 1;
@@ -67,6 +68,7 @@ impl LaneState {
         requires key { IfSome key (IsKeyOf message.now.body) }
         requires there { message.now.receiver < vec_len self.old.nodes }
         requires room { vec_len self.old.journal.events + 1 ≤ vec_capacity self.old.journal.events }
+        requires places { HasPlaces 1 self.old }
         ensures keeps { StaysKept self.old self.new }
         ensures took { NodesOn self.old self.new }
         ensures taken { IsTakenBy self.old.nodes.items self.new.nodes.items message.now result }
@@ -75,6 +77,7 @@ impl LaneState {
         ensures nodes { vec_len self.new.nodes ≡ vec_len self.old.nodes }
         ensures len { vec_len self.new.journal.events ≡ vec_len self.old.journal.events + 1 }
         ensures capacity { vec_capacity self.old.journal.events ≤ vec_capacity self.new.journal.events }
+        ensures places { (many : ℕ) → HasPlaces (many + 1) self.old → HasPlaces many self.new }
     {
         events_are_kept();
         nodes_hold();
@@ -107,6 +110,7 @@ impl LaneState {
         ensures after { self.new
             ≡ record self.old { journal = self.new.journal; nodes = self.new.nodes; late = self.new.late } }
         ensures room { OnOk result (HasRoom (length self.new.late.late + 4) self.new) }
+        ensures places { OnOk result (HasPlaces (length self.new.late.late + 2) self.new) }
         ensures there { OnOk result (node < vec_len self.new.nodes) }
         ensures place { OnOk result (self.new.late.room ≡ true) }
     {
@@ -114,7 +118,7 @@ impl LaneState {
         self.journal.events.reserve(events)?;
         self.journal
             .kept
-            .reserve(self.late.len().saturating_add(2))?;
+            .reserve(self.late.len().saturating_add(3))?;
         self.late.room()?;
         make_nodes(self.alloc, &mut self.nodes, node)
     }
@@ -141,6 +145,7 @@ impl LaneState {
     fn deliver_first(&mut self) -> bool
         requires keeps { IsKeptWithSome self.old }
         requires room { vec_len self.old.journal.events + length self.old.late.late ≤ vec_capacity self.old.journal.events }
+        requires places { HasPlaces (length self.old.late.late) self.old }
         ensures keeps { StaysKept self.old self.new }
         ensures took { NodesOn self.old self.new }
         ensures some { result ≡ true → DeliversOne self.old.last self.old.late.late self.new.late.late
@@ -154,6 +159,7 @@ impl LaneState {
         ensures len { vec_len self.new.journal.events + length self.new.late.late
             ≤ vec_len self.old.journal.events + length self.old.late.late }
         ensures capacity { vec_capacity self.old.journal.events ≤ vec_capacity self.new.journal.events }
+        ensures places { HasPlaces (length self.new.late.late) self.new }
     {
         let Some(late) = self.late.take_due(self.last) else {
             return false;
@@ -167,6 +173,7 @@ impl LaneState {
         requires keeps { IsKeptWithSome self.old }
         requires coming { IsComing (journal_of self.old) self.old.nodes.items late.now }
         requires room { vec_len self.old.journal.events + 1 ≤ vec_capacity self.old.journal.events }
+        requires places { HasPlaces 1 self.old }
         ensures keeps { StaysKept self.old self.new }
         ensures took { NodesOn self.old self.new }
         ensures given_out { IsGivenOut (is_cut_off late.now.number (journal_of self.old)) late.now.number
@@ -175,6 +182,7 @@ impl LaneState {
         ensures nodes { vec_len self.new.nodes ≡ vec_len self.old.nodes }
         ensures len { vec_len self.new.journal.events ≤ vec_len self.old.journal.events + 1 }
         ensures capacity { vec_capacity self.old.journal.events ≤ vec_capacity self.new.journal.events }
+        ensures places { (many : ℕ) → HasPlaces (many + 1) self.old → HasPlaces many self.new }
     {
         if !self.is_stopped(late.message.receiver) {
             self.deliver(late.number, None, &late.message);
@@ -185,6 +193,7 @@ impl LaneState {
     pub(crate) fn deliver_due(&mut self)
         requires keeps { IsKeptWithSome self.old }
         requires room { vec_len self.old.journal.events + length self.old.late.late ≤ vec_capacity self.old.journal.events }
+        requires places { HasPlaces (length self.old.late.late) self.old }
         ensures keeps { StaysKept self.old self.new }
         ensures took { NodesOn self.old self.new }
         ensures due { DeliversSome self.old.last self.old.late.late self.new.late.late

@@ -1,4 +1,5 @@
-ghost use Rattle.std.specs.Prelude.{◌≡◌, ◌≤◌, ◌+◌, ◌∷◌, ◌++◌, false, min, length, vec_len, vec_capacity};
+ghost use Rattle.std.specs.Prelude.{◌≡◌, ◌≤◌, ◌+◌, ◌∷◌, ◌++◌, min, length, vec_len, vec_capacity};
+ghost use Rattle.std.specs.VecDeque.{deque_len, deque_capacity};
 ghost use Rattle.lane_journals.specs.KeptJournals.{past};
 ghost use Rattle.lane_states.specs.Told.{all_kept};
 
@@ -15,8 +16,6 @@ pub struct EventLog {
     pub told: u64,
     /// Those that no shelf took yet, the oldest first; of each event one list, which isn't empty.
     pub kept: VecDeque<ChangeList>,
-    /// Whether some of them found no place. A place is made for them before there are any.
-    pub lost: bool,
 }
 
 /// Appends an event for which there is room.
@@ -33,34 +32,34 @@ pub fn push_within(events: &mut Vec<LaneEvent>, event: LaneEvent)
 }
 
 impl EventLog {
-    /// Appends an event that gives these changes, and for which there is room.
+    /// Appends an event that gives these changes, and for both of which there is room.
     pub(crate) fn push_telling(&mut self, event: LaneEvent, changes: ChangeList)
-        requires { vec_len self.old.events + 1 ≤ vec_capacity self.old.events }
+        requires room { vec_len self.old.events + 1 ≤ vec_capacity self.old.events }
+        requires place { deque_len self.old.kept + 1 ≤ deque_capacity self.old.kept }
         ensures past { past self.new.events.items ≡ event ∷ past self.old.events.items }
         ensures told { self.new.told ≡ min (self.old.told + length changes) 18446744073709551615 }
-        ensures kept { self.new.lost ≡ false → (self.old.lost ≡ false)
-            × (all_kept self.new.kept.items ≡ all_kept self.old.kept.items ++ changes) }
+        ensures kept { all_kept self.new.kept.items ≡ all_kept self.old.kept.items ++ changes }
         ensures len { vec_len self.new.events ≡ vec_len self.old.events + 1 }
         ensures capacity { vec_capacity self.old.events ≤ vec_capacity self.new.events }
+        ensures lists { deque_len self.new.kept ≤ deque_len self.old.kept + 1 }
+        ensures places { deque_capacity self.old.kept ≤ deque_capacity self.new.kept }
     {
         push_within(&mut self.events, event);
         self.told = self.told.saturating_add(changes.len() as u64);
         self.keep(changes);
     }
 
-    /// Keeps changes behind the others.
+    /// Keeps changes behind the others, for which there is a place.
     #[tactic(auto, using(crate::proofs::Shelving::kept_push))]
     fn keep(&mut self, changes: ChangeList)
-        ensures kept { self.new.lost ≡ false → (self.old.lost ≡ false)
-            × (all_kept self.new.kept.items ≡ all_kept self.old.kept.items ++ changes) }
-        ensures after { self.new ≡ record self.old { kept = self.new.kept; lost = self.new.lost } }
+        requires { deque_len self.old.kept + 1 ≤ deque_capacity self.old.kept }
+        ensures kept { all_kept self.new.kept.items ≡ all_kept self.old.kept.items ++ changes }
+        ensures lists { deque_len self.new.kept ≤ deque_len self.old.kept + 1 }
+        ensures places { deque_capacity self.old.kept ≤ deque_capacity self.new.kept }
+        ensures after { self.new ≡ record self.old { kept = self.new.kept } }
     {
-        if changes.len() == 0 {
-            return;
-        }
-        match self.kept.push_back(changes) {
-            Ok(()) => {}
-            Err(_) => self.lost = true,
+        if changes.len() != 0 {
+            self.kept.push_back_reserved(changes);
         }
     }
 }

@@ -1,4 +1,4 @@
-ghost use Rattle.std.specs.Prelude.{◌≡◌, ◌≤◌, ◌<◌, ◌+◌, ◌⊎◌, ◌∷◌, true, Some, OnErr, IfOk, IfSome, length, vec_len, vec_capacity};
+ghost use Rattle.std.specs.Prelude.{◌≡◌, ◌≤◌, ◌<◌, ◌+◌, ◌⊎◌, ◌∷◌, ℕ, true, Some, OnErr, IfOk, IfSome, length, vec_len, vec_capacity};
 ghost use Rattle.carriers.specs.declared.fate.Fate.TheVariants as fate;
 ghost use Rattle.messages.specs.Noting.{noted_body};
 ghost use Rattle.messages.specs.Waiting.{AreSentBefore};
@@ -10,7 +10,7 @@ ghost use Rattle.lane_keeping.specs.Flights.{IsInFlight};
 ghost use Rattle.lane_keeping.specs.Replaying.{sending};
 ghost use Rattle.lane_keeping.specs.Asking.{IsJustSent};
 ghost use Rattle.lane_keeping.specs.Laws.{IsNoAsk};
-ghost use Rattle.lane_states.specs.LaneStates.{journal_of, IsKept, HasRoom, Receives, IsCarriedBy, Stays, Went, NodesOn};
+ghost use Rattle.lane_states.specs.LaneStates.{journal_of, IsKept, HasRoom, HasPlaces, Receives, IsCarriedBy, Stays, Went, NodesOn};
 ghost use Rattle.lane_states.specs.Exchanging.{IsAskOf, MayBeSent, IsBroughtBack, Brought, Exchanged, IsKeptBack};
 
 use crate::event_log::push_within;
@@ -33,6 +33,7 @@ impl LaneState {
         requires key { IfSome key (IsKeyOf message.now.body) }
         requires node { message.now.receiver < vec_len self.old.nodes }
         requires room { vec_len self.old.journal.events + 2 ≤ vec_capacity self.old.journal.events }
+        requires places { HasPlaces 1 self.old }
         ensures keeps { IsKeptBack self.old message.now (Some result) self.new }
         ensures took { NodesOn self.old self.new }
         ensures dealt { IsDealt fate.Deliver number (journal_of self.old) (journal_of self.new) }
@@ -43,6 +44,7 @@ impl LaneState {
         ensures nodes { vec_len self.new.nodes ≡ vec_len self.old.nodes }
         ensures len { vec_len self.new.journal.events ≡ vec_len self.old.journal.events + 2 }
         ensures capacity { vec_capacity self.old.journal.events ≤ vec_capacity self.new.journal.events }
+        ensures places { (many : ℕ) → HasPlaces (many + 1) self.old → HasPlaces many self.new }
     {
         asks_are_kept();
         events_are_kept();
@@ -63,6 +65,7 @@ impl LaneState {
         requires key { IfSome key (IsKeyOf message.body) }
         requires node { message.receiver < vec_len self.old.nodes }
         requires room { vec_len self.old.journal.events + 3 ≤ vec_capacity self.old.journal.events }
+        requires places { HasPlaces (length self.old.late.late + 2) self.old }
         requires place { self.old.late.room ≡ true }
         ensures keeps { IsKeptBack self.old message result self.new }
         ensures took { NodesOn self.old self.new }
@@ -79,6 +82,7 @@ impl LaneState {
         ensures len { vec_len self.new.journal.events + length self.new.late.late
             ≤ vec_len self.old.journal.events + length self.old.late.late + 3 }
         ensures capacity { vec_capacity self.old.journal.events ≤ vec_capacity self.new.journal.events }
+        ensures places { HasPlaces (length self.new.late.late) self.new }
     {
         messages_fly();
         let number = self.last;
@@ -116,6 +120,7 @@ impl LaneState {
         requires key { IfSome key (IsKeyOf message.body) }
         requires noted { body ≡ noted_body message.body }
         requires room { HasRoom (length self.old.late.late + 4) self.old }
+        requires places { HasPlaces (length self.old.late.late + 2) self.old }
         requires node { message.receiver < vec_len self.old.nodes }
         requires place { self.old.late.room ≡ true }
         ensures keeps { IsKeptBack self.old message result self.new }

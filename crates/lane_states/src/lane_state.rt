@@ -1,4 +1,4 @@
-ghost use Rattle.std.specs.Prelude.{◌≡◌, ◌≤◌, ◌+◌, ◌∷◌, [], None, Some, OnOk, vec_len, vec_capacity};
+ghost use Rattle.std.specs.Prelude.{◌≡◌, ◌≤◌, ◌+◌, ◌∷◌, [], true, None, Some, OnOk, vec_len, vec_capacity};
 ghost use Rattle.cluster_states.specs.Publishing.{publish_fault};
 ghost use Rattle.lane_journals.specs.Places.{told};
 ghost use Rattle.lane_journals.specs.KeptJournals.{IsLegalStep};
@@ -6,7 +6,7 @@ ghost use Rattle.lane_journals.specs.declared.event.LaneEvent.TheVariants as eve
 ghost use Rattle.lane_keeping.specs.LaneKeeping.{setting_of};
 ghost use Rattle.lane_keeping.specs.Laws.{IsQuietEvent};
 ghost use Rattle.lane_keeping.specs.Tidings.{IsNoStop};
-ghost use Rattle.lane_states.specs.LaneStates.{journal_of, IsKept};
+ghost use Rattle.lane_states.specs.LaneStates.{journal_of, IsKept, HasRoom};
 ghost use Rattle.lane_states.specs.Told.{IsUnused, change_count};
 
 use crate::event_log::{EventLog, push_within};
@@ -36,6 +36,8 @@ pub struct LaneState {
     pub last: u64,
     pub nodes: Vec<NodePart>,
     pub stopped: NodeSet,
+    /// Whether a place is kept free for the change that a stop or a start is.
+    pub turn_room: bool,
     pub parts: Vec<DistributorPart>,
     /// The messages that are to be delivered late.
     pub late: LateList,
@@ -70,12 +72,12 @@ impl LaneState {
                 events: Vec::new(alloc),
                 told: 0,
                 kept: VecDeque::new(alloc),
-                lost: false,
             },
             newest: None,
             last: 0,
             nodes: Vec::new(alloc),
             stopped: NodeSet::none(),
+            turn_room: false,
             parts: Vec::new(alloc),
             late: LateList::new(alloc),
             spare: 0,
@@ -84,16 +86,21 @@ impl LaneState {
         }
     }
 
-    /// Makes room for one publication.
-    pub fn room(&mut self) -> Result<(), NoMemory>
+    /// Makes room for so many events, and for the change that one stop or start among them is.
+    pub fn room(&mut self, events: usize) -> Result<(), NoMemory>
         requires keeps { IsKept self.old }
         ensures keeps { IsKept self.new }
         ensures same { self.new.journal.events.items ≡ self.old.journal.events.items }
-        ensures after { self.new ≡ record self.old { journal = self.new.journal } }
-        ensures room { OnOk result (vec_len self.new.journal.events + 1 ≤ vec_capacity self.new.journal.events) }
+        ensures after { self.new
+            ≡ record self.old { journal = self.new.journal; turn_room = self.new.turn_room } }
+        ensures room { OnOk result
+            (vec_len self.new.journal.events + events ≤ vec_capacity self.new.journal.events) }
+        ensures spare { HasRoom 0 self.old → HasRoom 0 self.new }
+        ensures turn { OnOk result (self.new.turn_room ≡ true) }
     {
-        self.journal.events.reserve(1)?;
+        self.journal.events.reserve(events)?;
         self.journal.kept.reserve(1)?;
+        self.turn_room = true;
         Ok(())
     }
 

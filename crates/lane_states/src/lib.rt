@@ -17,7 +17,7 @@
 //!
 //! ```text
 //! let mut lane = LaneState::new(alloc, bucket, rules, shelf);
-//! lane.room()?;
+//! lane.room(1)?;
 //! lane.publish(&state);                   // Published { .. }
 //! lane.hear(distributor)?;                // Heard { .. }
 //! lane.exchange(message, None, &mut carrier)?;    // Sent { .. }, Delivered { .. }, Returned { .. }

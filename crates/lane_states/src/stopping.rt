@@ -53,9 +53,14 @@ impl LaneState {
         requires keeps { IsKept self.old }
         requires small { node < 32 }
         requires room { vec_len self.old.journal.events + 1 ≤ vec_capacity self.old.journal.events }
+        requires place { self.old.turn_room ≡ true }
         ensures keeps { IsKept self.new }
         ensures grows { journal_of self.new ≡ stopped_next node (journal_of self.old) }
-        ensures after { self.new ≡ record self.old { journal = self.new.journal; stopped = self.new.stopped } }
+        ensures after { self.new ≡ record self.old {
+          journal = self.new.journal;
+          stopped = self.new.stopped;
+          turn_room = self.new.turn_room;
+        } }
         ensures resting { AreResting self.old → AreResting self.new }
         ensures len { vec_len self.new.journal.events ≤ vec_len self.old.journal.events + 1 }
         ensures capacity { vec_capacity self.old.journal.events ≤ vec_capacity self.new.journal.events }
@@ -71,14 +76,20 @@ impl LaneState {
         requires small { node < 32 }
         requires runs { stopped node (history (journal_of self.old)) ≡ false }
         requires room { vec_len self.old.journal.events + 1 ≤ vec_capacity self.old.journal.events }
+        requires place { self.old.turn_room ≡ true }
         ensures keeps { IsKept self.new }
         ensures grows { journal_of self.new ≡ event.Stopped node ∷ journal_of self.old }
-        ensures after { self.new ≡ record self.old { journal = self.new.journal; stopped = self.new.stopped } }
+        ensures after { self.new ≡ record self.old {
+          journal = self.new.journal;
+          stopped = self.new.stopped;
+          turn_room = self.new.turn_room;
+        } }
         ensures len { vec_len self.new.journal.events ≡ vec_len self.old.journal.events + 1 }
         ensures capacity { vec_capacity self.old.journal.events ≤ vec_capacity self.new.journal.events }
     {
         events_are_kept();
         self.stopped = self.stopped.with(node);
+        self.turn_room = false;
         let change = LaterChanges::none(self.alloc).behind(LaneChange::Stop { node });
         self.journal
             .push_telling(LaneEvent::Stopped { node }, change);
@@ -89,9 +100,14 @@ impl LaneState {
         requires keeps { IsKept self.old }
         requires small { node < 32 }
         requires room { vec_len self.old.journal.events + 1 ≤ vec_capacity self.old.journal.events }
+        requires place { self.old.turn_room ≡ true }
         ensures keeps { IsKept self.new }
         ensures grows { journal_of self.new ≡ started_next node (journal_of self.old) }
-        ensures after { self.new ≡ record self.old { journal = self.new.journal; stopped = self.new.stopped } }
+        ensures after { self.new ≡ record self.old {
+          journal = self.new.journal;
+          stopped = self.new.stopped;
+          turn_room = self.new.turn_room;
+        } }
         ensures resting { AreResting self.old → AreResting self.new }
         ensures len { vec_len self.new.journal.events ≤ vec_len self.old.journal.events + 1 }
         ensures capacity { vec_capacity self.old.journal.events ≤ vec_capacity self.new.journal.events }
@@ -107,14 +123,20 @@ impl LaneState {
         requires small { node < 32 }
         requires stopped { stopped node (history (journal_of self.old)) ≡ true }
         requires room { vec_len self.old.journal.events + 1 ≤ vec_capacity self.old.journal.events }
+        requires place { self.old.turn_room ≡ true }
         ensures keeps { IsKept self.new }
         ensures grows { journal_of self.new ≡ event.Started node ∷ journal_of self.old }
-        ensures after { self.new ≡ record self.old { journal = self.new.journal; stopped = self.new.stopped } }
+        ensures after { self.new ≡ record self.old {
+          journal = self.new.journal;
+          stopped = self.new.stopped;
+          turn_room = self.new.turn_room;
+        } }
         ensures len { vec_len self.new.journal.events ≡ vec_len self.old.journal.events + 1 }
         ensures capacity { vec_capacity self.old.journal.events ≤ vec_capacity self.new.journal.events }
     {
         events_are_kept();
         self.stopped = self.stopped.without(node);
+        self.turn_room = false;
         let change = LaterChanges::none(self.alloc).behind(LaneChange::Start { node });
         self.journal
             .push_telling(LaneEvent::Started { node }, change);

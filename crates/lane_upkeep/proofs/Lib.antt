@@ -33,3 +33,4 @@ mod QuietMade
 mod QuietRan
 mod Standings
 mod Taken
+mod Reaching

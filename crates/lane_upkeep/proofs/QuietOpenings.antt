@@ -81,7 +81,7 @@ sent-which None p m h = inr h
 sent-which (Some x) p m h = inl h
 
 module _ (p : ℕ → Bool) (k : ℕ) (m : readers.Message) (J : Events) (unsent : sent k (history J) ≡ None) where
-  back-of : (N : Events) → sent k (history (N ++ J)) ≡ Some m → first_absent p N ≡ None → p k ≡ true
+  pub back-of : (N : Events) → sent k (history (N ++ J)) ≡ Some m → first_absent p N ≡ None → p k ≡ true
   back-of [] s a = let wrong : None ≡ Some m = sym unsent ∙ s in cc
   back-of (event.Published x ∷ N) s a = back-of N s a
   back-of (event.Heard x y ∷ N) s a = back-of N s a

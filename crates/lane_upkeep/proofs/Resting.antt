@@ -5,7 +5,6 @@ use Rattle.cluster_states.specs.declared.cluster_state.ClusterState.{ClusterStat
 use Rattle.cluster_states.specs.Publishing.{newest_of as newest_state, serves}
 use Rattle.ideal_nodes.specs.Placement.{IsIdeal}
 use Rattle.carriers.specs.declared.fate.Fate.{Fate}
-use Rattle.bucket_db.specs.Rows.{AreRows, buckets_of}
 use Rattle.distributor_part.specs.declared.rules.Rules.{Rules}
 use Rattle.service_layer.specs.Nodes as service
 use Rattle.lane_journals.specs.Events.{Content}
@@ -39,7 +38,7 @@ use Rattle.upkeep_spans.specs.Spans.{AreUpkeep}
 use Rattle.lane_upkeep.specs.declared.owner.Owner.{Owner}
 use Rattle.pass_machine.specs.declared.notes.RowNote.{RowNote}
 use Rattle.std.specs.BTreeMap.{BTreeMap}
-use Rattle.lane_upkeep.specs.Passing.{IsPassing, PassesOn, rows_in}
+use Rattle.lane_upkeep.specs.Passing.{IsPassing, PassesOn, AreWhole}
 use Rattle.lane_upkeep.specs.Rests.{OpensAndPasses, RestsWhereQuiet}
 use Rattle.lane_upkeep.specs.Quiet.{Goes, nodes_in, IsCurrent, AreSettingsIn, DoesQuietly, PassesQuietly, world_in}
 use Rattle.lane_upkeep.proofs.RestingStates.{newest-said, current-once, documents-stay, upkeep-then}
@@ -66,10 +65,6 @@ pub record OwnersKnow : Type 0 where
   pub knows : OfKept (λ lane rules J newest last nodes parts. (d : ℕ) (s : ClusterState) → IsActing lane J d s
       → KnowsOpening (λ n. asked s.version n (history J)) (opened s.version (history J)) (λ key. row_with key (rows s.version (history J))) s (part_in lane rules parts d))
   pub serving : OfKept (λ lane rules J newest last nodes parts. (d : ℕ) (s : ClusterState) → IsActing lane J d s → (n : ℕ) → state_of (history J) s.version n ≡ serves s n)
-
--- the owner's rows divide the lane
-abbrev pub AreWhole : LaneState → Owner → Type 0
-AreWhole c o = AreRows c.lane (buckets_of (rows_in c o))
 
 -- a pass may begin where one is under way
 abbrev pub Begins : Type 0

@@ -12,7 +12,7 @@ use Rattle.messages.specs.declared.body.Body.TheVariants as body
 use Rattle.messages.specs.declared.decision.Decision.{Decision}
 use Rattle.messages.specs.declared.reply.Reply.{Reply}
 use Rattle.messages.specs.declared.reply.Reply.TheVariants as reply
-use Rattle.bucket_db.specs.Rows.{Rows, AreRows, buckets_of}
+use Rattle.bucket_db.specs.Rows.{Rows}
 use Rattle.bucket_db.specs.declared.row.Row.{Row}
 use Rattle.distributor_part.specs.Parts.{Part, rows_of}
 use Rattle.distributor_part.specs.Upkeep.{AcceptsAt}
@@ -43,7 +43,7 @@ use Rattle.pass_runs.specs.Steps.{Changes, IsDecidedBy, IsRoundAt}
 use Rattle.pass_runs.specs.Standing.{NoNotes, Stands}
 use Rattle.lane_upkeep.specs.declared.owner.Owner.{Owner}
 use Rattle.lane_upkeep.specs.CameBack.{is_taken, is_end}
-use Rattle.lane_upkeep.specs.Passing.{IsPassing, PassesOn, rows_in, HasRow}
+use Rattle.lane_upkeep.specs.Passing.{IsPassing, PassesOn, rows_in, HasRow, AreWhole}
 use Rattle.lane_upkeep.specs.UnderWay.{view_in, AreIdeal, Comes, IsNextStep, is_taken_as}
 use Rattle.lane_upkeep.specs.Quiet.{nodes_in, AreSettingsIn, OthersStay, DoesQuietly, IsToldQuietly, IsRoundQuietly, world_in, StandsIn, StandsOn, PassesQuietly}
 use Rattle.lane_upkeep.proofs.Permitted.{sees_view}
@@ -78,10 +78,6 @@ Begins = (s : Settings) (still : ℕ → Node) (v : View) (made : BTreeMap ℕ (
 abbrev pub Ends : Type 0
 Ends = (s : Settings) (still : ℕ → Node) (first : World) (v : View) (made : BTreeMap ℕ (Unit {0})) (notes : BTreeMap ℕ RowNote) (ns : ℕ → Node) → AreSettings s → Stands s still first v made notes Finished ns
     → (resent : World) × Resends s first resent × Passes s resent (world_of still v notes ns)
-
--- the owner's rows divide the lane
-abbrev pub AreWhole : LaneState → Owner → Type 0
-AreWhole c o = AreRows c.lane (buckets_of (rows_in c o))
 
 -- ---- what the machine reads
 

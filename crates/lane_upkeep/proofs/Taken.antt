@@ -8,6 +8,7 @@ use Rattle.pass_machine.specs.declared.doing.UpkeepStep.TheVariants.{Finished}
 use Rattle.pass_machine.specs.declared.pass.UpkeepPass.{UpkeepPass}
 use Rattle.lane_upkeep.specs.declared.owner.Owner.{Owner}
 use Rattle.lane_upkeep.specs.Taking.{GoesOneOn, NoStep, MoreSteps, IsNew, HasRun, IsPass}
+use Rattle.lane_upkeep.specs.Passing.{AreWhole}
 use Rattle.lane_upkeep.specs.UnderWay.{Comes}
 
 pub run_none : (c : LaneState) (o : Owner) (p : UpkeepPass) (given : List Fate) → IsNew p → HasRun c c o p given given
@@ -21,6 +22,7 @@ run_over c m e o q r given mid now run step finished =
     let d : (step.step ≡ Finished) × (e ≡ m) × (now ≡ mid) × (r ≡ step.next) = step.does in
     record {
       last = q;
+      whole = subst (λ (z : LaneState). AreWhole z o) (sym d.1) step.whole;
       run = subst (λ (f : List Fate). HasRun c e o q given f) (sym d.2) (subst (λ (z : LaneState). HasRun c z o q given mid) (sym d.1) run);
       over = r;
       ends = subst (λ (y : UpkeepPass). Comes e o q y Finished) (sym d.3)

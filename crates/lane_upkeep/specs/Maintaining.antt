@@ -1,9 +1,10 @@
 -- A lane whose owner may make a pass of upkeep.
-use Rattle.std.specs.Prelude.{◌≡◌, ◌<◌, ℕ, true, List, None, length, vec_len}
+use Rattle.std.specs.Prelude.{◌≡◌, ◌<◌, ℕ, true, false, List, None, length, vec_len}
 use Rattle.bucket_ids.specs.Buckets.{Low}
 use Rattle.carriers.specs.declared.fate.Fate.{Fate}
+use Rattle.cluster_states.specs.Publishing.{serves}
 use Rattle.lane_journals.specs.Facts.{Idle}
-use Rattle.lane_journals.specs.Readers.{opened, returned}
+use Rattle.lane_journals.specs.Readers.{opened, stopped, returned}
 use Rattle.lane_journals.specs.Meanings.{history}
 use Rattle.lane_keeping.specs.Acting.{IsActing}
 use Rattle.lane_states.specs.declared.lane_state.LaneState.{LaneState}
@@ -32,3 +33,7 @@ AreReturned c e = first_absent (λ n. returned n (history (journal_of e))) (late
 -- the owner opened its state
 abbrev pub HasOpened : LaneState → Owner → Type 0
 HasOpened c o = opened (o.state).version (history (journal_of c)) ≡ true
+
+-- each node that serves under the owner's state runs
+abbrev pub HaveRun : LaneState → Owner → Type 0
+HaveRun c o = (n : ℕ) → serves o.state n ≡ true → stopped n (history (journal_of c)) ≡ false

@@ -4,7 +4,7 @@ use Rattle.bucket_ids.specs.Buckets.{Low}
 use Rattle.cluster_states.specs.Publishing.{serves}
 use Rattle.carriers.specs.declared.fate.Fate.{Fate}
 use Rattle.messages.specs.declared.body.Body.{Body}
-use Rattle.bucket_db.specs.Rows.{Rows}
+use Rattle.bucket_db.specs.Rows.{Rows, AreRows, buckets_of}
 use Rattle.bucket_db.specs.declared.row.Row.{Row}
 use Rattle.distributor_part.specs.Parts.{rows_of}
 use Rattle.distributor_part.specs.Steps.{IsOpened}
@@ -46,6 +46,10 @@ pub record PassesOn (c e : LaneState) (o : Owner) : Type 0 where
 -- the owner's rows
 abbrev pub rows_in : LaneState → Owner → List Row
 rows_in c o = rows_of (part_of c o.distributor).rows
+
+-- they divide the lane
+abbrev pub AreWhole : LaneState → Owner → Type 0
+AreWhole c o = AreRows c.lane (buckets_of (rows_in c o))
 
 -- the row of a place
 abbrev pub HasRow : LaneState → Owner → ℕ → Row → Type 0

@@ -20,7 +20,7 @@ use Rattle.pass_machine.specs.Going.{Forgets, Makes, made_in, rows_made}
 use Rattle.lane_upkeep.specs.declared.owner.Owner.{Owner}
 use Rattle.lane_upkeep.specs.Deciding.{DidAccept}
 use Rattle.lane_upkeep.specs.Maintaining.{AreReturned}
-use Rattle.lane_upkeep.specs.Passing.{IsPassing, PassesOn}
+use Rattle.lane_upkeep.specs.Passing.{IsPassing, PassesOn, AreWhole}
 use Rattle.lane_upkeep.specs.RoundNotes.{NotesRun}
 use Rattle.lane_upkeep.specs.Sending.{Says}
 use Rattle.lane_upkeep.specs.UnderWay.{AreIdeal, view_in, is_taken_as, DidDecide, Comes, MayComeNext}
@@ -61,8 +61,10 @@ TakesStep (Accept at) c e o p q given now = (now ≡ given) × DoesAccept c e o 
 TakesStep (Round at) c e o p q given now = DoesRound c e o p q at given now
 TakesStep Finished c e o p q given now = ⊥
 
--- the next step of the machine was taken, which the lane permitted; or there was none
+-- the next step of the machine was taken, which the lane permitted, over all rows of the lane; or there was none
 pub record GoesOneOn (c e : LaneState) (o : Owner) (p q : UpkeepPass) (given now : List Fate) (more : Bool) : Type 0 where
+  pub whole : AreWhole c o
+  pub on : PassesOn c e o
   pub step : UpkeepStep
   pub next : UpkeepPass
   pub comes : Comes c o p next step
@@ -90,6 +92,7 @@ pub record HasRun (c e : LaneState) (o : Owner) (q : UpkeepPass) (given now : Li
 pub record IsPass (c e : LaneState) (o : Owner) (given now : List Fate) : Type 0 where
   pub last : UpkeepPass
   pub run : HasRun c e o last given now
+  pub whole : AreWhole e o
   pub over : UpkeepPass
   pub ends : Comes e o last over Finished
   pub finished : over.doing ≡ doing.Finished

@@ -1,6 +1,6 @@
 ghost use Rattle.std.specs.Prelude.{◌≡◌, true, false, None, Some, IfOk, OnOk};
 ghost use Rattle.lane_upkeep.specs.Passing.{IsPassing, PassesOn};
-ghost use Rattle.lane_upkeep.specs.Maintaining.{IsBetween, AreReturned, HasOpened};
+ghost use Rattle.lane_upkeep.specs.Maintaining.{IsBetween, AreReturned, HasOpened, HaveRun};
 ghost use Rattle.lane_upkeep.specs.Rests.{RestsWhereQuiet};
 ghost use Rattle.lane_upkeep.specs.Taking.{OpensThenPasses};
 ghost use Rattle.lane_states.specs.LaneStates.{journal_of};
@@ -10,11 +10,13 @@ use crate::owner::Owner;
 use crate::pass::make_pass;
 use crate::rest_laws::passes_bring_rest;
 use crate::row_places::rows_are_whole;
+use crate::steps::nodes_are_few;
 use carriers::Carrier;
 use lane_keeping::laws::owners_act;
 use lane_rounds::opening::{OpeningEnd, open_state};
 use lane_states::at_shortage::AtShortage;
 use lane_states::lane_state::LaneState;
+use pass_model::settings::settings_are_found;
 use upkeep_spans::laws::{upkeep_goes_on, upkeep_leaves_lines, upkeep_leaves_states};
 use value_lists::NoMemory;
 
@@ -60,6 +62,7 @@ fn open_owner<C: Carrier>(
 }
 
 /// The owner makes a pass of upkeep, for which its state is opened first; where not all nodes answer, that is all.
+/// A pass asks each node that serves, so where all was returned, all of these run.
 /// The only error is want of memory, of the lane or of a node.
 pub fn maintain<C: Carrier>(
     lane: &mut LaneState,
@@ -73,12 +76,16 @@ pub fn maintain<C: Carrier>(
     ensures planned { C.planned carrier.new ≡ C.planned carrier.old }
     ensures kind { C.takes_plans carrier.new ≡ C.takes_plans carrier.old }
     ensures opened { OnOk result (AreReturned lane.old lane.new → HasOpened lane.new owner.now) }
+    ensures run { OnOk result (AreReturned lane.old lane.new → HaveRun lane.new owner.now) }
     ensures passes { OnOk result (OpensThenPasses lane.old lane.new owner.now (C.given carrier.new)) }
     ensures rests { OnOk result (RestsWhereQuiet (C.given carrier.new) lane.old lane.new) }
 {
     owners_act();
     upkeep_goes_on();
+    upkeep_leaves_states();
+    settings_are_found();
     passes_bring_rest();
+    nodes_are_few(owner);
     if !open_owner(lane, carrier, owner)? {
         return Ok(());
     }

@@ -49,7 +49,7 @@ fn look_into(step: &UpkeepStep)
 }
 
 /// That nodes which serve have numbers below 32; does nothing.
-fn nodes_are_few(owner: &Owner)
+pub fn nodes_are_few(owner: &Owner)
     ensures { (n : ℕ) → serves owner.now.state n ≡ true → n < 32 }
 {
     let _serving = owner.state.serving();

@@ -11,7 +11,7 @@ use Rattle.distributor_part.specs.declared.rules.Rules.{Rules}
 use Rattle.distributor_part.specs.Parts.{Part}
 use Rattle.merge_rounds.specs.Rounds.{RoundState}
 use Rattle.lane_journals.specs.Readers as readers
-use Rattle.lane_journals.specs.Readers.{round_of}
+use Rattle.lane_journals.specs.Readers.{before_line, round_of}
 use Rattle.lane_journals.specs.Meanings.{history}
 use Rattle.lane_journals.specs.declared.event.LaneEvent.{LaneEvent}
 use Rattle.operation_keeping.specs.OperationKeeping.{WasShort}
@@ -30,17 +30,17 @@ module _ (J : List LaneEvent) (line : ℕ) (s : ClusterState) where
   ]
 
   -- the opening
-  by-step : (d : ℕ) (p : Part) (step : Step) (x : Outcome) → OpeningGives J line d s p step (Ends x) → FallsShort J line s x
+  by-step : (d : ℕ) (p : Part) (step : Step) (x : Outcome) → OpeningGives J (before_line line (history J)) d s p step (Ends x) → FallsShort J line s x
   by-step d p (Send m) x h = absurd h
   by-step d p (Open rows) x h = absurd h
   by-step d p (Decide y) x h = absurd h
   by-step d p (Finished missing) x h = unless (is_ask s.version) (λ m t. t.0) _ _ _ x h
 
-  opening : (lane : Low) (rules : Rules) (key d : ℕ) (x : Outcome) → OpeningWants lane rules J line key d s (Ends x) → FallsShort J line s x
+  opening : (lane : Low) (rules : Rules) (key d : ℕ) (x : Outcome) → OpeningWants lane rules J (before_line line (history J)) key d s (Ends x) → FallsShort J line s x
   opening lane rules key d x w = by-step d w.part w.step x w.gives
 
   -- a round that is begun or prepared adds an event
-  beginning : (lane : Low) (rules : Rules) (key d : ℕ) (x : Outcome) → BeginningWants lane rules J line key d s (Ends x) → FallsShort J line s x
+  beginning : (lane : Low) (rules : Rules) (key d : ℕ) (x : Outcome) → BeginningWants lane rules J (before_line line (history J)) key d s (Ends x) → FallsShort J line s x
   beginning lane rules key d x w = let is = w.is in absurd (cc)
 
   preparing : (rules : Rules) (key : ℕ) (x : Outcome) → PreparingWants rules J line key s (Ends x) → FallsShort J line s x
@@ -55,13 +55,13 @@ module _ (J : List LaneEvent) (line : ℕ) (s : ClusterState) where
   under-way lane key d x w = by-round d w.round w.next x w.gives
 
   -- after its round
-  short : (rules : Rules) (key : ℕ) (x : Outcome) → ShortWants rules J line key s (Ends x) → FallsShort J line s x
+  short : (rules : Rules) (key : ℕ) (x : Outcome) → ShortWants rules J (before_line line (history J)) key s (Ends x) → FallsShort J line s x
   short rules key x w = elim w.gives [
     | inl reads ↦ unless (is_round_read s.version (w.row).bucket (round_of s.version (w.row).bucket (history J))) (λ m t. t.0) _ _ _ x reads.1
     | inr union ↦ unless (is_round_apply s.version (w.row).bucket (round_of s.version (w.row).bucket (history J))) (λ m t. t.0) _ _ _ x union.1
   ]
 
-  pub falls-short : (lane : Low) (rules : Rules) (key d : ℕ) (x : Outcome) → UnpreparedWants lane rules J line key d s (Ends x) → FallsShort J line s x
+  pub falls-short : (lane : Low) (rules : Rules) (key d : ℕ) (x : Outcome) → UnpreparedWants lane rules J line (before_line line (history J)) key d s (Ends x) → FallsShort J line s x
   falls-short lane rules key d x h = elim h [
     | inl opens ↦ opening lane rules key d x opens
     | inr other ↦ elim other [

@@ -9,6 +9,13 @@ pub mod Opening
 pub mod Waiting
 pub mod Sizes
 pub mod Receivers
+pub mod OthersLines
+pub mod OthersRows
+pub mod OthersReads
+pub mod OthersEnding
+pub mod Others
+pub mod OthersRuns
+pub mod Since
 -- Of this crate alone.
 mod Plain
 mod Sending

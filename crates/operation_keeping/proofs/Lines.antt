@@ -1,6 +1,5 @@
 -- A line that is begun or refused, and what waits while other events come.
-use Rattle.std.proofs.Common.{◌≡◌, ◌≢◌, ℕ, ◌+◌, Bool, true, false, cond, List, ◌∷◌, Option, Some, None, inl, inr, refl, sym, ap, ◌∙◌, subst, eqb, eq-eqb}
-use Rattle.std.proofs.lemmas.Bool.{eqb-true}
+use Rattle.std.proofs.Common.{◌≡◌, ◌≢◌, ℕ, ◌+◌, Bool, true, false, cond, List, ◌∷◌, Option, Some, None, refl, ap, ◌∙◌, subst, eqb, eq-eqb}
 use Rattle.bucket_ids.specs.Buckets.{Low}
 use Rattle.stamps.specs.declared.stamp.Stamp.{Stamp}
 use Rattle.cluster_states.specs.declared.cluster_state.ClusterState.{ClusterState}
@@ -19,14 +18,13 @@ use Rattle.lane_journals.specs.Places.{state_in}
 use Rattle.lane_journals.specs.KeptJournals.{IsLegalStep}
 use Rattle.lane_journals.specs.declared.event.LaneEvent.{LaneEvent}
 use Rattle.lane_journals.specs.declared.event.LaneEvent.TheVariants as event
-use Rattle.lane_journals.proofs.Basics.{or_else-cases, only_if-some}
 use Rattle.lane_keeping.specs.LaneKeeping.{setting_of, Holds, part_in, Keeps}
 use Rattle.lane_keeping.specs.Acting.{IsActing}
 use Rattle.proof_basics.proofs.Numbers.{apart}
 use Rattle.operation_keeping.specs.OperationKeeping.{beginning_of, IsUnderWay, KnowsPreparing}
 use Rattle.lane_keeping.specs.Lines.{IsOfNoLine, IsNotOf, IsFresh}
 use Rattle.lane_journals.specs.Facts.{AllClosed}
-use Rattle.operation_keeping.specs.Laws.{drawn, MayBeginNext}
+use Rattle.operation_keeping.specs.Laws.{drawn, IsFree, MayBeginNext}
 
 -- ---- what waits
 
@@ -79,12 +77,12 @@ drawn-begun J line d v id (Some t) = ap (λ z. cond z (stamps_of v (history J) +
 -- ---- a line begins
 
 module _ (lane : Low) (rules : Rules) (J : List LaneEvent) (newest : Option ClusterState) (last : ℕ) (nodes : List Node) (parts : List Part) (keep : Keeps lane rules J newest last nodes parts) where
-  pub begun-next : (d : ℕ) (s : ClusterState) (line : ℕ) (o : Operation) (stamp : Option Stamp) → IsActing lane J d s → AllClosed (history J) → IsFresh (history J) line → contains lane (key_of o.id) ≡ true
+  pub begun-next : (d : ℕ) (s : ClusterState) (line : ℕ) (o : Operation) (stamp : Option Stamp) → IsActing lane J d s → IsFree (history J) o.id → IsFresh (history J) line → contains lane (key_of o.id) ≡ true
       → IsNextStamp (history J) s.version stamp → MayBeginNext lane rules J d s line o stamp
-  begun-next d s line o stamp acts all fresh inside next = record {
+  begun-next d s line o stamp acts free fresh inside next = record {
     legal = record {
       noted = tt;
-      permitted = record { fresh = fresh.unbegun; unrefused = fresh.unrefused; holder = acts.holds; alone = λ other begin b same. all other begin b; stamp = next };
+      permitted = record { fresh = fresh.unbegun; unrefused = fresh.unrefused; holder = acts.holds; alone = free; stamp = next };
       placed = (record { state = s; published = acts.published; owner = acts.owner }, inside);
       ended = tt;
     };
@@ -92,10 +90,6 @@ module _ (lane : Low) (rules : Rules) (J : List LaneEvent) (newest : Option Clus
       is_under_way = record {
         begun_as = ap (λ (z : Option Beginning). or_else z (only_if (eqb line line) (beginning_of d s o stamp))) fresh.unbegun ∙ ap (λ (t : Bool). only_if t (beginning_of d s o stamp)) (eq-eqb line line refl);
         unclosed = fresh.unclosed;
-        others = λ other begin h. elim (or_else-cases (began other (history J)) _ begin h) [
-          | inl old ↦ inr (all other begin old)
-          | inr new ↦ inl (sym (eqb-true line other (only_if-some (eqb line other) _ begin new.1).0))
-        ];
         in_lane = inside;
       };
       unprepared = fresh.unprepared;

@@ -11,7 +11,7 @@ use Rattle.lane_journals.proofs.Basics.{sent-stays, sent-cases, sent_before, sen
 use Rattle.lane_journals.proofs.Beginnings.{before-same, before-now}
 use Rattle.lane_journals.proofs.Marks.{complete-took}
 use Rattle.lane_journals.proofs.Kept.{stamp-line, one-open}
-use Rattle.operation_keeping.specs.OperationKeeping.{CameBack, WasShort}
+use Rattle.operation_keeping.specs.OperationKeeping.{CameBack, WasShort, CameSince, WasShortSince}
 use Rattle.operation_keeping.proofs.Plain.{none-some}
 
 wrote-stays : (line : ℕ) (H : Journal) (e : Event) → wrote line H ≡ true → wrote line (e ∷ H) ≡ true
@@ -59,56 +59,69 @@ module _ (acks : ℕ) (P : ℕ → ℕ → Bool) where
 
   -- ---- replies that came back
 
-  came-stays : (H : Journal) (e : Event) (line : ℕ) (test : Message → Type 0) (y : Reply) → before_line line (e ∷ H) ≡ before_line line H → CameBack H line test y → CameBack (e ∷ H) line test y
-  came-stays H e line test y same r = record {
-    number = r.number;
-    message = r.message;
-    was_sent = sent-stays r.number H r.message e r.was_sent;
-    later = ap (λ (z : Journal). sent r.number z) same ∙ r.later;
-    tested = r.tested;
-    reply = first_reply-stays r.number H y e r.reply;
-    back = returned-stays r.number H e r.back;
-  }
-
-  -- the reply comes back just now
-  pub record CameNow (H : Journal) (e : Event) (line : ℕ) (test : Message → Type 0) (y : Reply) : Type 0 where
-    pub number : ℕ
-    pub message : Message
-    pub was_sent : sent number H ≡ Some message
-    pub later : sent number (before_line line H) ≡ None
-    pub tested : test message
-    pub reply : first_reply number H ≡ Some y
-    pub is : e ≡ Returned number
-
-  came-cases : (H : Journal) → Legal acks P H → (e : Event) (line : ℕ) (test : Message → Type 0) (y : Reply) → before_line line (e ∷ H) ≡ before_line line H → CameBack (e ∷ H) line test y → CameBack H line test y ⊎ CameNow H e line test y
-  came-cases H l e line test y same r = elim (returned-cases r.number H e r.back) [
-    | inl old ↦ inl (let z = returned-replied acks P H l r.number old in before old z.0 z.1)
-    | inr now ↦ inr (record {
+  module _ (from : Journal) (test : Message → Type 0) (y : Reply) where
+    came-stays-since : (H : Journal) (e : Event) → CameSince from H test y → CameSince from (e ∷ H) test y
+    came-stays-since H e r = record {
       number = r.number;
       message = r.message;
-      was_sent = subst (λ (z : Event). sent r.number (z ∷ H) ≡ Some r.message) now r.was_sent;
-      later = later;
+      was_sent = sent-stays r.number H r.message e r.was_sent;
+      later = r.later;
       tested = r.tested;
-      reply = subst (λ (z : Event). first_reply r.number (z ∷ H) ≡ Some y) now r.reply;
-      is = now;
-    })
-  ]
-    where
-      later : sent r.number (before_line line H) ≡ None
-      later = sym (ap (λ (z : Journal). sent r.number z) same) ∙ r.later
+      reply = first_reply-stays r.number H y e r.reply;
+      back = returned-stays r.number H e r.back;
+    }
 
-      before : returned r.number H ≡ true → (z : Reply) → first_reply r.number H ≡ Some z → CameBack H line test y
-      before old z f = record {
+    -- the reply comes back just now
+    pub record CameNowSince (H : Journal) (e : Event) : Type 0 where
+      pub number : ℕ
+      pub message : Message
+      pub was_sent : sent number H ≡ Some message
+      pub later : sent number from ≡ None
+      pub tested : test message
+      pub reply : first_reply number H ≡ Some y
+      pub is : e ≡ Returned number
+
+    came-cases-since : (H : Journal) → Legal acks P H → (e : Event) → CameSince from (e ∷ H) test y → CameSince from H test y ⊎ CameNowSince H e
+    came-cases-since H l e r = elim (returned-cases r.number H e r.back) [
+      | inl old ↦ inl (let z = returned-replied acks P H l r.number old in before old z.0 z.1)
+      | inr now ↦ inr (record {
         number = r.number;
         message = r.message;
-        was_sent = sent_before acks P H r.number e r.message (replied-sent acks P H l r.number z f) r.was_sent;
-        later = later;
+        was_sent = subst (λ (z : Event). sent r.number (z ∷ H) ≡ Some r.message) now r.was_sent;
+        later = r.later;
         tested = r.tested;
-        reply = f ∙ sym (first_reply-stays r.number H z e f) ∙ r.reply;
-        back = old;
-      }
+        reply = subst (λ (z : Event). first_reply r.number (z ∷ H) ≡ Some y) now r.reply;
+        is = now;
+      })
+    ]
+      where
+        before : returned r.number H ≡ true → (z : Reply) → first_reply r.number H ≡ Some z → CameSince from H test y
+        before old z f = record {
+          number = r.number;
+          message = r.message;
+          was_sent = sent_before acks P H r.number e r.message (replied-sent acks P H l r.number z f) r.was_sent;
+          later = r.later;
+          tested = r.tested;
+          reply = f ∙ sym (first_reply-stays r.number H z e f) ∙ r.reply;
+          back = old;
+        }
+
+  came-stays : (H : Journal) (e : Event) (line : ℕ) (test : Message → Type 0) (y : Reply) → before_line line (e ∷ H) ≡ before_line line H → CameBack H line test y → CameBack (e ∷ H) line test y
+  came-stays H e line test y same r = subst (λ (z : Journal). CameSince z (e ∷ H) test y) (sym same) (came-stays-since (before_line line H) test y H e r)
+
+  abbrev pub CameNow : Journal → Event → ℕ → (Message → Type 0) → Reply → Type 0
+  CameNow H e line test y = CameNowSince (before_line line H) test y H e
+
+  came-cases : (H : Journal) → Legal acks P H → (e : Event) (line : ℕ) (test : Message → Type 0) (y : Reply) → before_line line (e ∷ H) ≡ before_line line H → CameBack (e ∷ H) line test y → CameBack H line test y ⊎ CameNow H e line test y
+  came-cases H l e line test y same r = came-cases-since (before_line line H) test y H l e (subst (λ (z : Journal). CameSince z (e ∷ H) test y) same r)
 
   -- ---- whether one wanted memory
+
+  pub since-on : (H : Journal) (e : Event) (from : Journal) (test : Message → Type 0) → WasShortSince from H test → WasShortSince from (e ∷ H) test
+  since-on H e from test w = came-stays-since from test NoMemory H e w
+
+  pub since-cases : (H : Journal) → Legal acks P H → (e : Event) (from : Journal) (test : Message → Type 0) → WasShortSince from (e ∷ H) test → WasShortSince from H test ⊎ CameNowSince from test NoMemory H e
+  since-cases H l e from test w = came-cases-since from test NoMemory H l e w
 
   pub short-on : (H : Journal) (e : Event) (line : ℕ) (test : Message → Type 0) → before_line line (e ∷ H) ≡ before_line line H → WasShort H line test → WasShort (e ∷ H) line test
   short-on H e line test same w = came-stays H e line test NoMemory same w

@@ -1,5 +1,5 @@
 -- An operation is prepared, or ends before it is.
-use Rattle.std.proofs.Common.{◌≡◌, ◌⊎◌, ℕ, ◌≤◌, Bool, true, false, List, ◌∷◌, Option, Some, None, inl, inr, refl, sym, ap, ◌∙◌, subst, eqb, eq-eqb}
+use Rattle.std.proofs.Common.{◌≡◌, ◌⊎◌, ℕ, ◌≤◌, Bool, true, false, List, [], ◌∷◌, Option, Some, None, inl, inr, refl, sym, ap, ◌∙◌, subst, eqb, eq-eqb}
 use mathlib.Core.Bool.{true≢false}
 use Rattle.bucket_ids.specs.Buckets.{Low}
 use Rattle.node_sets.specs.Members.{has_node, size_of}
@@ -56,7 +56,7 @@ module _ (lane : Low) (rules : Rules) (J : List LaneEvent) (d : ℕ) (s : Cluste
     noted = tt;
     permitted = record { begin = b; begun = (know.is_under_way).begun_as; unclosed = (know.is_under_way).unclosed; acked = λ h. absurd (true≢false (sym h)) };
     placed = tt;
-    ended = (b, (know.is_under_way).begun_as, inl cause);
+    ended = (b, (know.is_under_way).begun_as, inl (record { unprepared = know.unprepared; moment = J; later = []; whole = refl; begun = (know.is_under_way).begun_as; short = cause }));
   }
 
   pub ends-opening : (answered needed absent : ℕ) → MayLackAnswers J s.version answered needed absent → IsLegalStep S J (Closed line (TooFew answered needed absent))
@@ -110,7 +110,7 @@ module _ (lane : Low) (rules : Rules) (J : List LaneEvent) (d : ℕ) (s : Cluste
         opened_is = (known.is_row).opened;
         row_is = (known.is_row).row;
         inside = inside;
-        members = known.members;
+        members = λ n key h c. sym (known.members n key h) ∙ c;
         active_is = known.active_is;
         serving = λ n h. sym (state-serves S J legal s.version n s acts.published) ∙ complete-serves rules.acks (state_of (history J)) (history J) lawful s.version n (key_of o.id) (known.members n (key_of o.id) inside ∙ h);
       }

@@ -1,5 +1,5 @@
 -- What the laws say of each operation that is under way in a lane that keeps its journal.
-use Rattle.std.specs.Prelude.{◌≡◌, ℕ, ◌+◌, false, List, ◌∷◌, Option, None, Some}
+use Rattle.std.specs.Prelude.{◌≡◌, ℕ, ◌+◌, true, false, List, ◌∷◌, Option, None, Some}
 use Rattle.bucket_ids.specs.Buckets.{Low}
 use Rattle.node_sets.specs.Members.{has_node}
 use Rattle.stamps.specs.declared.stamp.Stamp.{Stamp}
@@ -10,7 +10,8 @@ use Rattle.messages.specs.declared.operation.Operation.{Operation}
 use Rattle.service_layer.specs.Nodes.{Node}
 use Rattle.op_machine.specs.declared.machine.Standing.{Standing}
 use Rattle.distributor_part.specs.declared.rules.Rules.{Rules}
-use Rattle.lane_journals.specs.Readers.{Journal, began, opened, answered_store}
+use Rattle.lane_journals.specs.Buckets.{Id}
+use Rattle.lane_journals.specs.Readers.{Journal, Beginning, began, closed, opened, answered_store}
 use Rattle.lane_journals.specs.Endings.{OpeningFellShort}
 use Rattle.lane_journals.specs.Meanings.{history, entry_at}
 use Rattle.lane_journals.specs.KeptJournals.{IsLegalStep}
@@ -26,6 +27,10 @@ use Rattle.operation_keeping.specs.OperationKeeping.{IsUnderWay, KnowsPreparing,
 abbrev pub drawn : Option Stamp → ℕ → ℕ
 drawn None many = many
 drawn (Some stamp) many = many + 1
+
+-- no operation of the document is under way
+abbrev pub IsFree : Journal → Id → Type 0
+IsFree H id = (other : ℕ) (begin : Beginning) → began other H ≡ Some begin → begin.id ≡ id → closed other H ≡ true
 
 -- a law of each operation that isn't prepared yet
 abbrev pub OfPreparing : (Low → Rules → List LaneEvent → ℕ → ClusterState → ℕ → Operation → Option Stamp → Type 0) → Type 0

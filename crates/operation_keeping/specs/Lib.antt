@@ -1,8 +1,9 @@
 -- `OperationKeeping` says what is known of the operation that is under way, `Laws` what the laws say, `Left` how many
--- messages are left.
+-- messages are left. `Others` says which events are others'.
 pub mod OperationKeeping
 pub mod Laws
 pub mod Left
 pub mod RuleBounds
 pub mod Wants
 pub mod Shortages
+pub mod Others

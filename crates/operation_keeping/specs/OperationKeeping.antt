@@ -1,6 +1,6 @@
 -- What is known of the operation that is under way: what it began, whom it asked and what was answered, as the journal
 -- says. What an event can't touch is a record over what readers read.
-use Rattle.std.specs.Prelude.{◌≡◌, ◌≢◌, ◌⊎◌, ◌↔◌, ◌<◌, ◌^◌, ℕ, Bool, true, false, List, Option, None, Some}
+use Rattle.std.specs.Prelude.{◌≡◌, ◌≢◌, ◌↔◌, ◌<◌, ◌^◌, ℕ, Bool, true, false, List, Option, None, Some}
 use Rattle.bucket_ids.specs.Buckets.{Low}
 use Rattle.node_sets.specs.Members.{has_node}
 use Rattle.stamps.specs.declared.stamp.Stamp.{Stamp}
@@ -37,10 +37,9 @@ beginning_of d s o stamp = record { distributor = d; version = s.version; id = o
 pub record IsOpenLine (lane : Low) (d : ℕ) (s : ClusterState) (line : ℕ) (o : Operation) (stamp : Option Stamp) (begun : ℕ → Option Beginning) (is_closed : ℕ → Bool) : Type 0 where
   pub begun_as : begun line ≡ Some (beginning_of d s o stamp)
   pub unclosed : is_closed line ≡ false
-  pub others : (other : ℕ) (begin : Beginning) → begun other ≡ Some begin → (other ≡ line) ⊎ (is_closed other ≡ true)
   pub in_lane : contains lane (key_of o.id) ≡ true
 
--- the line's operation is under way at the distributor, and no other operation is
+-- the line's operation is under way at the distributor
 abbrev pub IsUnderWay : Low → Journal → ℕ → ClusterState → ℕ → Operation → Option Stamp → Type 0
 IsUnderWay lane H d s line o stamp = IsOpenLine lane d s line o stamp (λ l. began l H) (λ l. closed l H)
 
@@ -68,7 +67,8 @@ pub record IsPlanned (lane : Low) (rules : Rules) (d : ℕ) (s : ClusterState) (
   pub opened_is : is_open ≡ true
   pub row_is : (key : ℕ) → contains row key ≡ true → row_of key ≡ Some row
   pub inside : contains row (key_of p.operation.id) ≡ true
-  pub members : (n key : ℕ) → contains row key ≡ true → complete_at n key ≡ has_node p.recipients n
+  -- others that are acknowledged meanwhile take marks
+  pub members : (n key : ℕ) → contains row key ≡ true → complete_at n key ≡ true → has_node p.recipients n ≡ true
   pub active_is : (key : ℕ) → contains row key ≡ true → active_at key ≡ p.active
   pub serving : (n : ℕ) → has_node p.recipients n ≡ true → serves s n ≡ true
 
@@ -106,17 +106,24 @@ pub record WasStored (H : Journal) (awaited : Option ℕ) (begin : Beginning) (n
   pub version : message.version ≡ begin.version
   pub body : message.body ≡ Store begin.id stamp
 
--- a message that passes a test was sent since the line began, and this reply to it came back
-pub record CameBack (H : Journal) (line : ℕ) (test : readers.Message → Type 0) (y : Reply) : Type 0 where
+-- a message that passes a test was sent since an earlier journal, and this reply to it came back
+pub record CameSince (from H : Journal) (test : readers.Message → Type 0) (y : Reply) : Type 0 where
   pub number : ℕ
   pub message : readers.Message
   pub was_sent : sent number H ≡ Some message
-  pub later : sent number (before_line line H) ≡ None
+  pub later : sent number from ≡ None
   pub tested : test message
   pub reply : first_reply number H ≡ Some y
   pub back : returned number H ≡ true
 
+-- since the line began
+abbrev pub CameBack : Journal → ℕ → (readers.Message → Type 0) → Reply → Type 0
+CameBack H line test y = CameSince (before_line line H) H test y
+
 -- its node wanted memory
+abbrev pub WasShortSince : Journal → Journal → (readers.Message → Type 0) → Type 0
+WasShortSince from H test = CameSince from H test NoMemory
+
 abbrev pub WasShort : Journal → ℕ → (readers.Message → Type 0) → Type 0
 WasShort H line test = CameBack H line test NoMemory
 

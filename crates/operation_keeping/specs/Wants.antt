@@ -37,7 +37,7 @@ use Rattle.lane_keeping.specs.Replaying.{sending}
 use Rattle.lane_keeping.specs.LaneKeeping.{PartKeeps}
 use Rattle.lane_keeping.specs.Acting.{IsActing, IsKnownRow}
 use Rattle.lane_keeping.specs.RoundKeeping.{KnowsRound, KnowsAnswers}
-use Rattle.operation_keeping.specs.OperationKeeping.{IsUnderWay, WasShort, KnowsOperation}
+use Rattle.operation_keeping.specs.OperationKeeping.{IsUnderWay, WasShortSince, KnowsOperation}
 
 pub data Want : Type 0 where
   -- this event comes next
@@ -54,12 +54,12 @@ EndsUnless short outcome (Ends x) = (short × (x ≡ NoMemory)) ⊎ ((short → 
 
 -- ---- the opening
 
--- an Ask of the version was sent to the node since the line began
-pub record WasAskedIn (H : Journal) (line v n : ℕ) : Type 0 where
+-- an Ask of the version was sent to the node since an earlier journal
+pub record WasAskedSince (from H : Journal) (v n : ℕ) : Type 0 where
   pub number : ℕ
   pub message : readers.Message
   pub was_sent : sent number H ≡ Some message
-  pub later : sent number (before_line line H) ≡ None
+  pub later : sent number from ≡ None
   pub version : message.version ≡ v
   pub receiver : message.receiver ≡ n
   pub body : message.body ≡ plain.Ask
@@ -72,14 +72,14 @@ abbrev pub opening_short : ClusterState → ℕ → ℕ → Outcome
 opening_short s answered missing = TooFew (count_nodes (λ n. serves s n && has_node answered n)) (count_nodes (serves s)) (absent_of None (has_node missing))
 
 -- what a step of the distributor's part comes to while the state isn't opened
-abbrev pub OpeningGives : List LaneEvent → ℕ → ℕ → ClusterState → Part → Step → Want → Type 0
-OpeningGives J line d s p (Send m) (Adds e) = (number : ℕ) × (e ≡ sending number m)
-OpeningGives J line d s p (Open buckets) (Adds e) = e ≡ Opened d s.version buckets
-OpeningGives J line d s p (Finished missing) want = EndsUnless (WasShort (history J) line (is_ask s.version)) (opening_short s p.answered missing) want
-OpeningGives J line d s p _ _ = ⊥
+abbrev pub OpeningGives : List LaneEvent → Journal → ℕ → ClusterState → Part → Step → Want → Type 0
+OpeningGives J from d s p (Send m) (Adds e) = (number : ℕ) × (e ≡ sending number m)
+OpeningGives J from d s p (Open buckets) (Adds e) = e ≡ Opened d s.version buckets
+OpeningGives J from d s p (Finished missing) want = EndsUnless (WasShortSince from (history J) (is_ask s.version)) (opening_short s p.answered missing) want
+OpeningGives J from d s p _ _ = ⊥
 
--- the part is what the journal says, and it asked just those to which an Ask was sent since the line began
-pub record OpeningWants (lane : Low) (rules : Rules) (J : List LaneEvent) (line key d : ℕ) (s : ClusterState) (want : Want) : Type 0 where
+-- the part is what the journal says, and it asked just those to which an Ask was sent since the search for the row began
+pub record OpeningWants (lane : Low) (rules : Rules) (J : List LaneEvent) (from : Journal) (key d : ℕ) (s : ClusterState) (want : Want) : Type 0 where
   pub part : Part
   pub after : Part
   pub step : Step
@@ -87,9 +87,9 @@ pub record OpeningWants (lane : Low) (rules : Rules) (J : List LaneEvent) (line 
   pub heard : part.state ≡ Some s
   pub unopened : part.rows ≡ None
   pub no_round : part.stage ≡ Before
-  pub asked : (n : ℕ) → (has_node part.asked n ≡ true) ↔ WasAskedIn (history J) line s.version n
+  pub asked : (n : ℕ) → (has_node part.asked n ≡ true) ↔ WasAskedSince from (history J) s.version n
   pub is_step : IsStep part key step after
-  pub gives : OpeningGives J line d s part step want
+  pub gives : OpeningGives J from d s part step want
 
 -- ---- the row of the key
 
@@ -99,15 +99,15 @@ pub record HasRow (J : List LaneEvent) (key v : ℕ) (row : Row) : Type 0 where
   pub inside : contains row.bucket key ≡ true
   pub no_round : running v row.bucket (history J) ≡ false
 
--- no round was begun there since the line began
-abbrev pub NoRoundSince : List LaneEvent → ℕ → ℕ → Low → Type 0
-NoRoundSince J line v b = round_of v b (history J) ≡ round_of v b (before_line line (history J))
+-- no round was begun there since an earlier journal
+abbrev pub NoRoundSince : List LaneEvent → Journal → ℕ → Low → Type 0
+NoRoundSince J from v b = round_of v b (history J) ≡ round_of v b from
 
 -- a row of too few complete members wants a round, by the step of the part
-pub record BeginningWants (lane : Low) (rules : Rules) (J : List LaneEvent) (line key d : ℕ) (s : ClusterState) (want : Want) : Type 0 where
+pub record BeginningWants (lane : Low) (rules : Rules) (J : List LaneEvent) (from : Journal) (key d : ℕ) (s : ClusterState) (want : Want) : Type 0 where
   pub row : Row
   pub has_row : HasRow J key s.version row
-  pub none : NoRoundSince J line s.version row.bucket
+  pub none : NoRoundSince J from s.version row.bucket
   pub part : Part
   pub after : Part
   pub receivers : ℕ
@@ -151,23 +151,23 @@ reads_short s row r = TooFew (count_nodes (λ n. serves s n && did_show n r.show
 abbrev pub union_short : Rules → Row → RoundState → Outcome
 union_short rules row r = TooFew (size_of row.complete) rules.acks (absent_of row.active (λ n. has_node r.receivers n && not (has_node r.holders n)))
 
-abbrev pub AfterRound : Rules → List LaneEvent → ℕ → ClusterState → Row → RoundState → Want → Type 0
-AfterRound rules J line s row r want =
+abbrev pub AfterRound : Rules → List LaneEvent → Journal → ClusterState → Row → RoundState → Want → Type 0
+AfterRound rules J from s row r want =
     ((HaveAllShown r.readers r.shown → ⊥)
-    × EndsUnless (WasShort (history J) line (is_round_read s.version row.bucket (round_of s.version row.bucket (history J)))) (reads_short s row r) want)
+    × EndsUnless (WasShortSince from (history J) (is_round_read s.version row.bucket (round_of s.version row.bucket (history J)))) (reads_short s row r) want)
     ⊎ (HaveAllShown r.readers r.shown
-    × EndsUnless (WasShort (history J) line (is_round_apply s.version row.bucket (round_of s.version row.bucket (history J)))) (union_short rules row r) want)
+    × EndsUnless (WasShortSince from (history J) (is_round_apply s.version row.bucket (round_of s.version row.bucket (history J)))) (union_short rules row r) want)
 
 -- a row that has too few of them after its round ends the operation
-pub record ShortWants (rules : Rules) (J : List LaneEvent) (line key : ℕ) (s : ClusterState) (want : Want) : Type 0 where
+pub record ShortWants (rules : Rules) (J : List LaneEvent) (from : Journal) (key : ℕ) (s : ClusterState) (want : Want) : Type 0 where
   pub row : Row
   pub has_row : HasRow J key s.version row
   pub few : size_of row.complete < rules.acks
   pub round : RoundState
   pub same_row : round.row ≡ row.bucket
-  pub since : NoRoundSince J line s.version row.bucket → ⊥
+  pub since : NoRoundSince J from s.version row.bucket → ⊥
   pub knows : KnowsAnswers J s round
-  pub gives : AfterRound rules J line s row round want
+  pub gives : AfterRound rules J from s row round want
 
 -- ---- the operation
 
@@ -196,23 +196,28 @@ pub record OperationWants (lane : Low) (rules : Rules) (J : List LaneEvent) (lin
 -- ---- the line
 
 -- before it is prepared, the line wants the state to be opened and then a row of enough complete members
-abbrev pub UnpreparedWants : Low → Rules → List LaneEvent → ℕ → ℕ → ℕ → ClusterState → Want → Type 0
-UnpreparedWants lane rules J line key d s want =
-    OpeningWants lane rules J line key d s want
-    ⊎ (BeginningWants lane rules J line key d s want
+abbrev pub UnpreparedWants : Low → Rules → List LaneEvent → ℕ → Journal → ℕ → ℕ → ClusterState → Want → Type 0
+UnpreparedWants lane rules J line from key d s want =
+    OpeningWants lane rules J from key d s want
+    ⊎ (BeginningWants lane rules J from key d s want
     ⊎ (RoundWants lane J key d s want
     ⊎ (PreparingWants rules J line key s want
-    ⊎ ShortWants rules J line key s want)))
+    ⊎ ShortWants rules J from key s want)))
 
--- what the operation of a line that was begun and isn't closed wants next
-pub record Wants (lane : Low) (rules : Rules) (line : ℕ) (o : Operation) (J : List LaneEvent) (want : Want) : Type 0 where
+-- what the operation of a line that was begun and isn't closed wants next, whose search for a row began with an earlier
+-- journal
+pub record WantsSince (lane : Low) (rules : Rules) (line : ℕ) (o : Operation) (from : Journal) (J : List LaneEvent) (want : Want) : Type 0 where
   pub distributor : ℕ
   pub state : ClusterState
   pub stamp : Option Stamp
   pub acting : IsActing lane J distributor state
   pub under_way : IsUnderWay lane (history J) distributor state line o stamp
-  pub wants : ((prepared line (history J) ≡ None) × UnpreparedWants lane rules J line (key_of o.id) distributor state want)
+  pub wants : ((prepared line (history J) ≡ None) × UnpreparedWants lane rules J line from (key_of o.id) distributor state want)
       ⊎ OperationWants lane rules J line o distributor state want
+
+-- of a line whose search began as the line did
+abbrev pub Wants : Low → Rules → ℕ → Operation → List LaneEvent → Want → Type 0
+Wants lane rules line o J want = WantsSince lane rules line o (before_line line (history J)) J want
 
 -- ---- how a journal grows by a line
 
@@ -245,3 +250,25 @@ pub record IsCutRound (lane : Low) (L K : List LaneEvent) : Type 0 where
 -- a run that was cut off for want of memory
 abbrev pub IsCutRun : Low → Rules → ℕ → Operation → List LaneEvent → List LaneEvent → Type 0
 IsCutRun lane rules line o J K = (L : List LaneEvent) × IsRun lane rules line o J L × ((K ≡ L) ⊎ IsCutRound lane L K)
+
+-- ---- how it grows by a search that began with an earlier journal, and by the messages of an operation
+
+-- what carriers do: any message is delivered, and a reply comes back to what was sent since
+abbrev pub IsCarriageSince : Journal → LaneEvent → Type 0
+IsCarriageSince from (Delivered number r) = Unit {0}
+IsCarriageSince from (Returned number) = sent number from ≡ None
+IsCarriageSince from _ = ⊥
+
+abbrev pub IsWantedSince : Low → Rules → ℕ → Operation → Journal → LaneEvent → List LaneEvent → Type 0
+IsWantedSince lane rules line o from e J = IsCarriageSince from e ⊎ WantsSince lane rules line o from J (Adds e)
+
+-- the journal grew so, by what the operation of the line wanted next
+pub data IsRunSince (lane : Low) (rules : Rules) (line : ℕ) (o : Operation) (from : Journal) (J : List LaneEvent) : List LaneEvent → Type 0 where
+  Still : IsRunSince lane rules line o from J J
+  Longer : (e : LaneEvent) (K : List LaneEvent) → IsRunSince lane rules line o from J K → IsWantedSince lane rules line o from e K → IsRunSince lane rules line o from J (e ∷ K)
+
+abbrev pub IsEndSince : Low → Rules → ℕ → Operation → Journal → List LaneEvent → Outcome → Type 0
+IsEndSince lane rules line o from J outcome = WantsSince lane rules line o from J (Ends outcome)
+
+abbrev pub IsCutRunSince : Low → Rules → ℕ → Operation → Journal → List LaneEvent → List LaneEvent → Type 0
+IsCutRunSince lane rules line o from J K = (L : List LaneEvent) × IsRunSince lane rules line o from J L × ((K ≡ L) ⊎ IsCutRound lane L K)

@@ -40,16 +40,16 @@ ghost use Rattle.lane_keeping.specs.Lines.{IsOfNoLine, IsNotOf, IsFresh};
 ghost use Rattle.op_machine.specs.Plans.{IsPlainGet};
 ghost use Rattle.lane_journals.specs.Facts.{AllClosed};
 ghost use Rattle.operation_keeping.specs.Left.{messages_left};
-ghost use Rattle.operation_keeping.specs.Laws.{drawn, OfPreparing, OfUnderWay, OfOperation, OfAsked, MayBeginNext, MayWriteNext, MayAskNext, IsAckedAs, MayLackAnswers};
+ghost use Rattle.operation_keeping.specs.Laws.{drawn, IsFree, OfPreparing, OfUnderWay, OfOperation, OfAsked, MayBeginNext, MayWriteNext, MayAskNext, IsAckedAs, MayLackAnswers};
 
 use lane_keeping::laws::owners_act;
 use lane_keeping::node_laws::{entries_are_written, messages_fly, nodes_replay};
 
-/// A fresh line may be begun by the owner, once all lines are closed, for a document of the lane; its stamp
+/// A fresh line may be begun by the owner for a document of the lane, of which no operation is under way; its stamp
 /// is the next of the version, or none. A stamp counts for one that was drawn.
 pub fn operations_begin()
     ensures begins { OfKept (λ lane rules J newest last nodes parts. (d : ℕ) (s : ClusterState) (line : ℕ) (o : Operation)
-        (stamp : Option Stamp) → IsActing lane J d s → AllClosed (history J) → IsFresh (history J) line
+        (stamp : Option Stamp) → IsActing lane J d s → IsFree (history J) o.id → IsFresh (history J) line
         → contains lane (key_of o.id) ≡ true → IsNextStamp (history J) s.version stamp
         → MayBeginNext lane rules J d s line o stamp) }
     ensures counted { (J : List LaneEvent) (line d v : ℕ) (id : Id) (stamp : Option Stamp)
@@ -154,15 +154,12 @@ pub fn operations_shorten()
         → IsAnswered m.receiver y t after → messages_left after + 1 ≡ messages_left t }
 {}
 
-/// The outcome that the machine gives may close the line; want of memory may close it at any time. Then all
-/// lines are closed. The machine's answers to the Stores are those that the journal shows.
+/// The outcome that the machine gives may close the line; want of memory may close it at any time. The machine's answers to the Stores are those that the journal shows.
 pub fn operations_end()
     ensures ends { OfOperation (λ lane rules J last d s line row written t. (outcome : Outcome) → next_at t ≡ Finishes outcome
         → IsLegalStep (setting_of lane rules) J (Closed line outcome)) }
     ensures gives_up { OfUnderWay (λ lane rules J d s line o stamp.
         IsLegalStep (setting_of lane rules) J (Closed line NoMemory)) }
-    ensures closed { OfUnderWay (λ lane rules J d s line o stamp. (outcome : Outcome)
-        → AllClosed (history (Closed line outcome ∷ J))) }
     ensures answered { OfOperation (λ lane rules J last d s line row written t. (n : ℕ) (stamp : Stamp) → t.plan.stamp ≡ Some stamp
         → has_node t.stores.answered n ≡ answered_store s.version t.plan.operation.id stamp n (history J)) }
     ensures acked { OfOperation (λ lane rules J last d s line row written t. (stamp : Stamp) → next_at t ≡ Finishes (Acked stamp)

@@ -6,6 +6,8 @@ ghost use Rattle.cluster_states.specs.declared.cluster_state.ClusterState.{Clust
 ghost use Rattle.messages.specs.declared.outcome.Outcome.{Outcome};
 ghost use Rattle.distributor_part.specs.declared.rules.Rules.{Rules};
 ghost use Rattle.node_sets.specs.Members.{size_of, Within};
+ghost use Rattle.lane_journals.specs.Readers.{before_line};
+ghost use Rattle.lane_journals.specs.Meanings.{history};
 ghost use Rattle.lane_journals.specs.Places.{receivers_of};
 ghost use Rattle.lane_journals.specs.KeptJournals.{IsLegal};
 ghost use Rattle.lane_journals.specs.declared.event.LaneEvent.{LaneEvent};
@@ -18,7 +20,7 @@ ghost use Rattle.operation_keeping.specs.Wants.{UnpreparedWants, Ends};
 /// which it sent a message of its version wanted memory.
 pub fn unprepared_lines_fall_short()
     ensures { (lane : Low) (rules : Rules) (J : List LaneEvent) (line key d : ℕ) (s : ClusterState) (x : Outcome)
-        → UnpreparedWants lane rules J line key d s (Ends x) → FallsShort J line s x }
+        → UnpreparedWants lane rules J line (before_line line (history J)) key d s (Ends x) → FallsShort J line s x }
 {}
 
 /// A round goes to as many nodes as a write needs copies, since a state has enough nodes up. So a row of which all

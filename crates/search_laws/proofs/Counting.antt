@@ -106,7 +106,7 @@ times_counted-once w id ls h = omega (arith, lanes-times_counted w id ls h, lane
 
 -- ---- the measures of regions
 
-buckets-lanes : (w : ℕ) (ls : List Seen) → AreLanes ls → AllByRecursion IsBucket (serving_regions w ls)
+pub buckets-lanes : (w : ℕ) (ls : List Seen) → AreLanes ls → AllByRecursion IsBucket (serving_regions w ls)
 buckets-lanes w [] h = tt
 buckets-lanes w (l ∷ ls) h = buckets-append (node_regions w (l.view).nodes) (serving_regions w ls) (buckets-nodes w (l.view).nodes (h.0).nodes) (buckets-lanes w ls h.3)
 

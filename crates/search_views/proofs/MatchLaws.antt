@@ -6,6 +6,7 @@ use Rattle.document_rows.specs.Rows.{Rows}
 use Rattle.document_rows.specs.Reading.{row_at, places_from, places_where}
 use Rattle.view_changes.specs.Views.{NodeView, View, node_at}
 use Rattle.view_changes.specs.Serving.{serves, serves_at, rows_of}
+use Rattle.query_text.specs.Grammar.{said_of}
 use Rattle.query_text.specs.declared.query.Query.{Query}
 use Rattle.query_text.specs.Truth.{matches_document}
 use Rattle.match_views.specs.declared.hits.Hit.{Hit}
@@ -58,33 +59,33 @@ shown-node q n v =
 
 -- ---- all nodes
 
-matched-more : (q : Query) (w n : ℕ) (ns : List NodeView) → matched q w (take (suc n) ns) ≡ matched q w (take n ns) ++ cond (serves_at n w ns) (filter (matches_document q) (documents_in (node_at n ns).rows)) []
+matched-more : (q : Query) (w n : ℕ) (ns : List NodeView) → matched (said_of q) w (take (suc n) ns) ≡ matched (said_of q) w (take n ns) ++ cond (serves_at n w ns) (filter (matches_document q) (documents_in (node_at n ns).rows)) []
 matched-more q w zero [] = refl
 matched-more q w (suc n) [] = refl
 matched-more q w zero (x ∷ xs) = append-nil (cond (serves w x) (filter (matches_document q) (documents_in x.rows)) [])
 matched-more q w (suc n) (x ∷ xs) =
     ap (λ l. cond (serves w x) (filter (matches_document q) (documents_in x.rows)) [] ++ l) (matched-more q w n xs)
-    ∙ sym (append_assoc (cond (serves w x) (filter (matches_document q) (documents_in x.rows)) []) (matched q w (take n xs)) (cond (serves_at n w xs) (filter (matches_document q) (documents_in (node_at n xs).rows)) []))
+    ∙ sym (append_assoc (cond (serves w x) (filter (matches_document q) (documents_in x.rows)) []) (matched (said_of q) w (take n xs)) (cond (serves_at n w xs) (filter (matches_document q) (documents_in (node_at n xs).rows)) []))
 
-shown-below : (q : Query) (w n : ℕ) (v : View) → map (λ hit. row_at (rows_of hit.node v) hit.local) (hits_below q w n v) ≡ map Some (matched q w (take n v.nodes))
+shown-below : (q : Query) (w n : ℕ) (v : View) → map (λ hit. row_at (rows_of hit.node v) hit.local) (hits_below q w n v) ≡ map Some (matched (said_of q) w (take n v.nodes))
 shown-below q w zero v = refl
 shown-below q w (suc n) v =
     map-append (λ hit. row_at (rows_of hit.node v) hit.local) (hits_below q w n v) (cond (serves_at n w v.nodes) (found_at q n v) [])
     ∙ ap₂ (λ a b. a ++ b) (shown-below q w n v) (by (serves_at n w v.nodes))
-    ∙ sym (map-append Some (matched q w (take n v.nodes)) (cond (serves_at n w v.nodes) (filter (matches_document q) (documents_in (rows_of n v))) []))
+    ∙ sym (map-append Some (matched (said_of q) w (take n v.nodes)) (cond (serves_at n w v.nodes) (filter (matches_document q) (documents_in (rows_of n v))) []))
     ∙ ap (map Some) (sym (matched-more q w n v.nodes))
   where
     by : (t : Bool) → map (λ hit. row_at (rows_of hit.node v) hit.local) (cond t (found_at q n v) []) ≡ map Some (cond t (filter (matches_document q) (documents_in (rows_of n v))) [])
     by true = shown-node q n v
     by false = refl
 
-shown-hits : (q : Query) (w : ℕ) (v : View) → length v.nodes ≡ 32 → map (λ hit. row_at (rows_of hit.node v) hit.local) (hits_of q w v) ≡ map Some (matched q w v.nodes)
-shown-hits q w v e = shown-below q w 32 v ∙ ap (λ ns. map Some (matched q w ns)) (take_all 32 v.nodes (let l : length v.nodes ≤ 32 = omega (arith, e) in l))
+shown-hits : (q : Query) (w : ℕ) (v : View) → length v.nodes ≡ 32 → map (λ hit. row_at (rows_of hit.node v) hit.local) (hits_of q w v) ≡ map Some (matched (said_of q) w v.nodes)
+shown-hits q w v e = shown-below q w 32 v ∙ ap (λ ns. map Some (matched (said_of q) w ns)) (take_all 32 v.nodes (let l : length v.nodes ≤ 32 = omega (arith, e) in l))
 
-pub documents-matched : (q : Query) (w : ℕ) (v : View) → length v.nodes ≡ 32 → documents_at v (hits_of q w v) ≡ matched q w v.nodes
+pub documents-matched : (q : Query) (w : ℕ) (v : View) → length v.nodes ≡ 32 → documents_at v (hits_of q w v) ≡ matched (said_of q) w v.nodes
 documents-matched q w v e =
-    found-map (λ hit. row_at (rows_of hit.node v) hit.local) (hits_of q w v) ∙ ap (found (λ o. o)) (shown-hits q w v e) ∙ found-somes (matched q w v.nodes)
+    found-map (λ hit. row_at (rows_of hit.node v) hit.local) (hits_of q w v) ∙ ap (found (λ o. o)) (shown-hits q w v e) ∙ found-somes (matched (said_of q) w v.nodes)
 
-pub hits-long : (q : Query) (w : ℕ) (v : View) → length v.nodes ≡ 32 → length (hits_of q w v) ≡ length (matched q w v.nodes)
+pub hits-long : (q : Query) (w : ℕ) (v : View) → length v.nodes ≡ 32 → length (hits_of q w v) ≡ length (matched (said_of q) w v.nodes)
 hits-long q w v e =
-    sym (map-long (λ hit. row_at (rows_of hit.node v) hit.local) (hits_of q w v)) ∙ ap length (shown-hits q w v e) ∙ map-long {B = Option Contents} Some (matched q w v.nodes)
+    sym (map-long (λ hit. row_at (rows_of hit.node v) hit.local) (hits_of q w v)) ∙ ap length (shown-hits q w v e) ∙ map-long {B = Option Contents} Some (matched (said_of q) w v.nodes)

@@ -1,11 +1,14 @@
--- What a search answers: of a query, a version, and one view of each lane.
-use Rattle.std.specs.Prelude.{◌+◌, ◌++◌, ◌==◌, ◌^◌, ℕ, List, [], ◌∷◌, filter, length, min, if◌then◌else◌}
+-- What a search answers: of what its query says, a version, and one view of each lane.
+use Rattle.std.specs.Prelude.{◌&&◌, ◌+◌, ◌++◌, ◌==◌, ◌^◌, ℕ, Bool, List, [], ◌∷◌, filter, length, min, if◌then◌else◌}
 use Rattle.documents.specs.Fields.{Contents}
 use Rattle.document_rows.specs.Rows.{Rows}
 use Rattle.view_changes.specs.Views.{NodeView, View}
 use Rattle.view_changes.specs.Serving.{serves, covered_at}
-use Rattle.query_text.specs.declared.query.Query.{Query}
-use Rattle.query_text.specs.Truth.{matches_document}
+use Rattle.std.specs.Str.{bytes_eq}
+use Rattle.conditions.specs.Formulas.{holds}
+use Rattle.document_ids.specs.Parts.{type_of}
+use Rattle.query_text.specs.Grammar.{Said}
+use Rattle.query_text.specs.Truth.{term_holds}
 use Rattle.query_groups.specs.declared.answers.SearchAnswer.{SearchAnswer}
 use Rattle.group_counts.specs.Numbers.{found}
 use Rattle.group_counts.specs.Groups.{groups_of}
@@ -14,13 +17,17 @@ use Rattle.group_counts.specs.Groups.{groups_of}
 abbrev pub documents_in : Rows → List Contents
 documents_in rows = found (λ r. r) rows
 
--- of the nodes that serve at a version: the documents of which a query is true
-abbrev pub matched : Query → ℕ → List NodeView → List Contents
+-- the query that says so is true of the document
+abbrev pub is_found : Said → Contents → Bool
+is_found q d = bytes_eq (type_of d.id) q.type_name && holds (term_holds d) q.asked
+
+-- of the nodes that serve at a version: the documents of which the query is true
+abbrev pub matched : Said → ℕ → List NodeView → List Contents
 matched q w [] = []
-matched q w (n ∷ ns) = (if serves w n then filter (matches_document q) (documents_in n.rows) else []) ++ matched q w ns
+matched q w (n ∷ ns) = (if serves w n then filter (is_found q) (documents_in n.rows) else []) ++ matched q w ns
 
 -- of all views
-abbrev pub all_matched : Query → ℕ → List View → List Contents
+abbrev pub all_matched : Said → ℕ → List View → List Contents
 all_matched q w [] = []
 all_matched q w (v ∷ vs) = matched q w v.nodes ++ all_matched q w vs
 
@@ -34,7 +41,7 @@ abbrev pub capped : ℕ → ℕ
 capped n = min n 18446744073709551615
 
 -- how many documents were found; the measure covered, which is full where it is that of all keys; the groups
-abbrev pub search_answer : Query → ℕ → List View → SearchAnswer
+abbrev pub search_answer : Said → ℕ → List View → SearchAnswer
 search_answer q w vs = record {
   version = w;
   count = length (all_matched q w vs);

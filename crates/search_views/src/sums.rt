@@ -27,6 +27,7 @@ pub struct SearchSum<'a> {
 impl<'a> SearchSum<'a> {
     ghost use Rattle.view_changes.specs.Views.{View};
     ghost use Rattle.query_text.specs.declared.query.Query.{Query};
+    ghost use Rattle.query_text.specs.Grammar.{said_of};
     ghost use Rattle.search_views.specs.Answers.{search_answer};
     ghost use Rattle.search_views.specs.Summed.{IsSummed};
 
@@ -65,7 +66,7 @@ impl<'a> SearchSum<'a> {
     /// The answer over the views that were added.
     pub fn finish(self, alloc: Global) -> Result<SearchAnswer, NoMemory>
         ensures { (q : Query) (w : ℕ) (vs : List View) → IsSummed q w vs self.entry
-            → IfOk result (λ answer. answer ≡ search_answer q w vs) }
+            → IfOk result (λ answer. answer ≡ search_answer (said_of q) w vs) }
     {
         Ok(SearchAnswer {
             version: self.version,

@@ -13,7 +13,7 @@ use Rattle.lane_lives.specs.declared.setting.Setting.{Setting}
 use Rattle.lane_lives.specs.Lives.{Deed, Runs, Maintains, lines_of, last_line, states_in, deed_events}
 use Rattle.session_cluster.specs.Deeds.{first_told, told_with, told_next, told_by, told_of, with_operation, with_state, with_line, with_lines, deeds_of_lane, planned_next, planned_for}
 use Rattle.session_cluster.specs.Lanes.{lane_of_id}
-use Rattle.session_cluster.specs.Spans.{spans_of, span_in}
+use Rattle.session_cluster.specs.Spans.{spans_of}
 use Rattle.session_cluster.specs.declared.cluster.LineSpans.{LineSpans}
 use Rattle.session_cluster.specs.declared.asked.Asked.{Asked}
 use Rattle.session_cluster.specs.declared.asked.Asked.TheVariants as command

@@ -8,6 +8,7 @@ pub mod FrontLists
 pub mod SearchLaws
 pub mod SessionSteps
 pub mod Moving
+pub mod Nearly
 -- Of this crate alone.
 mod NotedLists
 mod Reborrowed

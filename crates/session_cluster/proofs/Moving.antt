@@ -1,10 +1,10 @@
 -- What a line moves in the lanes, and what it leaves.
-use Rattle.std.proofs.Common.{◌≡◌, ◌⊎◌, ◌≤◌, ℕ, zero, suc, List, [], ◌∷◌, Option, None, Some, inl, inr, refl, sym, ap, ◌∙◌, subst, arith, length, map, slice_get, set}
+use Rattle.std.proofs.Common.{◌≡◌, ◌⊎◌, ◌≤◌, ℕ, zero, suc, List, [], ◌∷◌, Option, None, Some, inl, inr, refl, sym, ap, ap₂, ◌∙◌, subst, arith, length, map, slice_get, set}
 use Rattle.std.proofs.lemmas.Bool.{cases_eq, cases_lt}
 use Rattle.std.proofs.lemmas.List.{length-map}
 use Rattle.std.proofs.lemmas.Option.{slice_get_within}
 use Rattle.carriers.specs.declared.fate.Fate.{Fate}
-use Rattle.cluster_states.specs.Publishing.{publish_fault}
+use Rattle.cluster_states.specs.Publishing.{Told, publish_fault}
 use Rattle.cluster_states.specs.declared.cluster_state.ClusterState.{ClusterState}
 use Rattle.cluster_states.specs.declared.states.PublishFault.{PublishFault}
 use Rattle.messages.specs.declared.operation.Operation.{Operation}
@@ -21,13 +21,16 @@ use Rattle.reports.specs.declared.answer.Answer.TheVariants as answer
 use Rattle.session_cluster.specs.Cells.{Cell, journals}
 use Rattle.session_cluster.specs.Keeping.{IsKept}
 use Rattle.session_cluster.specs.Lanes.{lane_of_id, journal_in}
-use Rattle.session_cluster.specs.Output.{plan_answer}
-use Rattle.session_cluster.specs.Steps.{with_room, without_room, after_state, after_stop, after_start, IsOperatedIn, IsStateTold, MayHavePassed, MayHaveAllPassed, IsAfter}
+use Rattle.session_cluster.specs.Output.{plan_answer, operation_answer, upkeep_answer, found_answer_of, answer_in}
+use Rattle.session_cluster.specs.Searches.{fronts_of}
+use Rattle.session_cluster.specs.Spans.{spans_of}
+use Rattle.session_cluster.specs.Steps.{with_room, after_state, after_stop, after_start, IsOperatedIn, IsStateTold, MayHavePassed, MayHaveAllPassed, IsAfter}
 use Rattle.session_cluster.specs.declared.asked.Asked.{Asked}
 use Rattle.session_cluster.specs.declared.asked.Asked.TheVariants as command
 use Rattle.session_cluster.proofs.Elements.{map_there}
 use Rattle.session_cluster.proofs.KeptLanes.{lane_there}
 use Rattle.session_cluster.proofs.LaneLists.{journal_is, journal_at, journal_past, journal_set, journal_other}
+use Rattle.session_cluster.proofs.Nearly.{bare}
 use Rattle.session_cluster.proofs.SessionSteps.{after_plan, takes_same}
 
 -- in each lane the line came, or nothing changed; and whether its carrier takes plans is as it was
@@ -176,18 +179,33 @@ moves s plans cs command.Maintain old new k kept now = all_move s k old.lanes ne
 moves s plans cs (command.Search query) old new k kept now = same_moves k old.lanes new.lanes (ap (λ (x : Cell). x.lanes) now)
 moves s plans cs (command.BadQuery offset) old new k kept now = same_moves k old.lanes new.lanes (ap (λ (x : Cell). x.lanes) now)
 
--- ---- room alone
+-- ---- room and what is shown
 
-pub journals_seen : (vs ws : List LaneValue) → map without_room ws ≡ map without_room vs → journals ws ≡ journals vs
+pub journals_seen : (vs ws : List LaneValue) → map bare ws ≡ map bare vs → journals ws ≡ journals vs
 journals_seen vs ws same = sym (unseen ws) ∙ ap (map journal_is) same ∙ unseen vs
   where
-    unseen : (us : List LaneValue) → map journal_is (map without_room us) ≡ map journal_is us
+    unseen : (us : List LaneValue) → map journal_is (map bare us) ≡ map journal_is us
     unseen [] = refl
     unseen (u ∷ us) = ap (λ Js. u.journal ∷ Js) (unseen us)
 
-pub plans_seen : (vs ws : List LaneValue) → map without_room ws ≡ map without_room vs → (lane : ℕ) → plan_answer (slice_get ws lane) ≡ plan_answer (slice_get vs lane)
+pub plans_seen : (vs ws : List LaneValue) → map bare ws ≡ map bare vs → (lane : ℕ) → plan_answer (slice_get ws lane) ≡ plan_answer (slice_get vs lane)
 plans_seen vs ws same lane =
-    sym (plans_map without_room (λ v. refl) ws lane) ∙ ap (λ us. plan_answer (slice_get us lane)) same ∙ plans_map without_room (λ v. refl) vs lane
+    sym (plans_map bare (λ v. refl) ws lane) ∙ ap (λ us. plan_answer (slice_get us lane)) same ∙ plans_map bare (λ v. refl) vs lane
+
+-- and then a line's answer is the same
+pub answer_seen : (s : Setting) (told : Told) (j : ℕ) (c : Asked) (vs ws : Cell) → map bare ws.lanes ≡ map bare vs.lanes → ws.upkeeps ≡ vs.upkeeps → ws.fronts ≡ vs.fronts → answer_in s told j c ws ≡ answer_in s told j c vs
+answer_seen s told j command.Blank vs ws same spans fronts = refl
+answer_seen s told j command.TooLong vs ws same spans fronts = refl
+answer_seen s told j (command.Bad why) vs ws same spans fronts = refl
+answer_seen s told j (command.Feed op via) vs ws same spans fronts = ap (operation_answer s j op.id) (journals_seen vs.lanes ws.lanes same)
+answer_seen s told j (command.State state deaf) vs ws same spans fronts = refl
+answer_seen s told j (command.BadState offset) vs ws same spans fronts = refl
+answer_seen s told j (command.Stop node) vs ws same spans fronts = refl
+answer_seen s told j (command.Start node) vs ws same spans fronts = refl
+answer_seen s told j (command.Net lane fates) vs ws same spans fronts = plans_seen vs.lanes ws.lanes same lane
+answer_seen s told j command.Maintain vs ws same spans fronts = ap (λ us. upkeep_answer (spans_of j us)) spans
+answer_seen s told j (command.Search q) vs ws same spans fronts = ap₂ (λ o Js. found_answer_of s.schema told q o Js) (ap (fronts_of j) fronts) (journals_seen vs.lanes ws.lanes same)
+answer_seen s told j (command.BadQuery offset) vs ws same spans fronts = refl
 
 -- ---- the outcome of an operation
 

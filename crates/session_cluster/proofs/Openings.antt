@@ -6,6 +6,8 @@ use Rattle.lane_lives.specs.declared.setting.Setting.{Setting}
 use Rattle.lane_lives.specs.Serving.{IsServing}
 use Rattle.session_cluster.specs.Cells.{Cell}
 use Rattle.session_cluster.specs.Deeds.{first_told}
+use Rattle.lane_core.specs.Showing.{IsSettled}
+use Rattle.session_cluster.specs.Steps.{EachLane}
 use Rattle.session_cluster.specs.Keeping.{AreOpenTo, AreOpen, IsKept}
 
 -- an element of a list with one more at its end
@@ -30,6 +32,12 @@ one_more_open s plans n vs ws v open_to is now = subst (AreOpenTo s plans (n + 1
     | inr new ↦ subst (λ m. IsServing s (plans m) m [] w) (sym (new.0 ∙ open_to.count_is)) (subst (IsServing s (plans n) n []) new.1 is)
   ];
 })
+
+pub one_more_settled : (vs ws : List LaneValue) (v : LaneValue) → EachLane IsSettled vs → IsSettled v → ws ≡ vs ++ v ∷ [] → EachLane IsSettled ws
+one_more_settled vs ws v settled is now = subst (EachLane IsSettled) (sym now) (λ lane w at. elim (slice_get_push vs v lane w at) [
+  | inl old ↦ settled lane w old.1
+  | inr new ↦ subst IsSettled new.1 is
+])
 
 pub kept_none : (s : Setting) (plans : ℕ → List Fate) (vs : List LaneValue) (c : Cell) → AreOpen s plans vs → c ≡ record { bits = s.bits; told = first_told s; lanes = vs; dealt = 0; upkeeps = []; fronts = [] } → IsKept s plans [] c
 kept_none s plans vs c opened now = subst (IsKept s plans []) (sym now) (record { bits = refl; told = refl; dealt = refl; lanes = opened.count_is; serving = λ lane v at. opened.serving lane v at; unkept = λ line later. refl; unread = λ line later. refl })

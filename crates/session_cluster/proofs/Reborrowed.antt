@@ -3,7 +3,7 @@ use Rattle.std.proofs.Common.{◌≡◌, ℕ, List, Result, Ok, Err, OnOk, OnErr
 use Rattle.std.proofs.lemmas.List.{length-map}
 use Rattle.lane_lives.specs.LaneValues.{LaneValue}
 use Rattle.session_cluster.specs.Cells.{Cell, IsCluster}
-use Rattle.session_cluster.specs.Steps.{IsRoomier, with_room, without_room}
+use Rattle.session_cluster.specs.Steps.{IsRoomier, with_room, without_room, IsShownOn, without_shown}
 use Rattle.value_lists.specs.declared.no_memory.NoMemory.{NoMemory}
 
 abbrev lanes_is : Cell → List LaneValue
@@ -33,11 +33,13 @@ room_wanted (Err e) old inside vs ws shown is same err shows = record {
   lanes = ap (map without_room) shows ∙ err ∙ ap (map without_room) (same ∙ ap lanes_is is);
 }
 
--- ---- nothing came of it
+-- ---- more is shown of some of them
 
-pub same_as_many : (inside vs ws : List LaneValue) (n : ℕ) → n ≡ length inside → vs ≡ inside → ws ≡ vs → length ws ≡ n
-same_as_many inside vs ws n count same after = ap length (after ∙ same) ∙ sym count
+pub shown_many : (inside vs ws : List LaneValue) (n : ℕ) → n ≡ length inside → vs ≡ inside → map without_shown ws ≡ map without_shown vs → length ws ≡ n
+shown_many inside vs ws n count same after = sym (length-map ws without_shown) ∙ ap length after ∙ length-map vs without_shown ∙ ap length same ∙ sym count
 
-pub unchanged : (old inside : Cell) (vs ws shown : List LaneValue) → inside ≡ old → vs ≡ inside.lanes → ws ≡ vs → shown ≡ ws → ◌≡◌ {A = Cell} (record inside { lanes = shown }) old
-unchanged old inside vs ws shown is same after shows =
-    ap (λ (x : Cell). record x { lanes = shown }) is ∙ ap (λ us. record old { lanes = us }) (shows ∙ after ∙ same ∙ ap lanes_is is)
+pub shown_on : (old inside : Cell) (vs ws shown : List LaneValue) → inside ≡ old → vs ≡ inside.lanes → map without_shown ws ≡ map without_shown vs → shown ≡ ws → IsShownOn old (record inside { lanes = shown })
+shown_on old inside vs ws shown is same after shows = record {
+  rest = ap (λ (x : Cell). record x { lanes = shown }) is;
+  lanes = ap (map without_shown) shows ∙ after ∙ ap (map without_shown) (same ∙ ap lanes_is is);
+}

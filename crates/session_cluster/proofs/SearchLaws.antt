@@ -1,63 +1,25 @@
 -- What a search finds in the lanes as they stand, and what it notes.
-use Rattle.std.proofs.Common.{◌≡◌, ◌<◌, ◌≤◌, ◌+◌, ℕ, suc, zero, Bool, true, false, List, [], ◌∷◌, ◌++◌, Option, None, Some, refl, sym, ap, ap₂, ◌∙◌, subst, arith, filter, length, map, take, set, slice_get, slice_index_or, if◌then◌else◌}
+use Rattle.std.proofs.Common.{◌≡◌, ◌<◌, ◌≤◌, ◌+◌, ℕ, suc, zero, List, [], ◌∷◌, ◌++◌, None, Some, refl, sym, ap, ap₂, ◌∙◌, subst, arith, length, map, take, set, slice_index_or}
 use Rattle.std.proofs.Math.Seq.{take-suc, take-length}
 use Rattle.std.proofs.lemmas.List.{map-append, take_all}
-use Rattle.std.proofs.lemmas.List.Elements.{filter-append}
-use Rattle.cluster_states.specs.Publishing.{Told}
 use Rattle.doc_types.specs.SchemaCodes.{Types}
-use Rattle.documents.specs.Fields.{Contents}
 use Rattle.lane_changes.specs.Changes.{changes_of}
-use Rattle.lane_core.specs.Showing.{view_in}
+use Rattle.lane_core.specs.Showing.{view_in, shown_view, IsSettled}
 use Rattle.lane_lives.specs.LaneValues.{LaneValue}
 use Rattle.query_groups.specs.declared.answers.SearchAnswer.{SearchAnswer}
-use Rattle.query_text.specs.Grammar.{Said, said_of}
-use Rattle.query_text.specs.Truth.{matches_document}
+use Rattle.query_text.specs.Grammar.{Said}
 use Rattle.query_text.specs.declared.query.Query.{Query}
-use Rattle.reports.specs.declared.answer.Answer.{Answer}
 use Rattle.reports.specs.declared.answer.Answer.TheVariants as answer
-use Rattle.search_views.specs.Answers.{documents_in, matched, all_matched, all_covered, capped, search_answer}
+use Rattle.search_views.specs.Answers.{search_answer}
 use Rattle.search_views.specs.Summed.{IsSummed}
 use Rattle.search_views.specs.declared.sums.SearchSum.{SearchSum}
-use Rattle.group_counts.specs.Groups.{groups_of}
 use Rattle.session_cluster.specs.Cells.{Cell, journals, journals_of}
 use Rattle.session_cluster.specs.Output.{found_answer_of}
-use Rattle.session_cluster.specs.Searches.{fronts_of, fronts_now, front_now, view_to, views_to, version_now, is_found, documents_at, all_documents, found_by, answer_to}
+use Rattle.session_cluster.specs.Searches.{fronts_of, fronts_now, front_now, view_to, views_to, version_now}
 use Rattle.session_cluster.specs.Steps.{EachLane, HasTypes, IsSearched}
 use Rattle.session_cluster.proofs.FrontLists.{fronts_own}
 use Rattle.view_changes.specs.Opening.{opening}
-use Rattle.view_changes.specs.Serving.{serves}
-use Rattle.view_changes.specs.Views.{NodeView, View, view_after}
-
--- ---- what is found
-
-filter_if : (p : Contents → Bool) (t : Bool) (ds : List Contents) → (if t then filter p ds else []) ≡ filter p (if t then ds else [])
-filter_if p true ds = refl
-filter_if p false ds = refl
-
-matched_is : (q : Query) (w : ℕ) (ns : List NodeView) → matched q w ns ≡ filter (matches_document q) (documents_at w ns)
-matched_is q w [] = refl
-matched_is q w (n ∷ ns) =
-    ap₂ (λ a b. a ++ b) (filter_if (matches_document q) (serves w n) (documents_in n.rows)) (matched_is q w ns)
-    ∙ sym (filter-append (matches_document q) (if serves w n then documents_in n.rows else []) (documents_at w ns))
-
-pub all_matched_is : (q : Query) (w : ℕ) (vs : List View) → all_matched q w vs ≡ found_by (said_of q) w vs
-all_matched_is q w [] = refl
-all_matched_is q w (v ∷ vs) =
-    ap₂ (λ a b. a ++ b) (matched_is q w v.nodes) (all_matched_is q w vs)
-    ∙ sym (filter-append (matches_document q) (documents_at w v.nodes) (all_documents w vs))
-
--- an answer is that of what the query says
-pub answer_is : (q : Query) (w : ℕ) (vs : List View) → search_answer q w vs ≡ answer_to (said_of q) w vs
-answer_is q w vs = λ i. record {
-  version = w;
-  count = length (all_matched_is q w vs i);
-  covered = capped (all_covered w vs);
-  full = (answer_to (said_of q) w vs).full;
-  groups = groups_of q.group (all_matched_is q w vs i);
-}
-
-pub said_answer : (q : Query) (said : Said) (w : ℕ) (vs : List View) → said_of q ≡ said → search_answer q w vs ≡ answer_to said w vs
-said_answer q said w vs is = answer_is q w vs ∙ ap (λ x. answer_to x w vs) is
+use Rattle.view_changes.specs.Views.{View, view_after}
 
 -- ---- in which views
 
@@ -71,11 +33,11 @@ views_are types (v ∷ vs) typed = ap₂ (λ x xs. x ∷ xs) (view_is types v (t
 
 -- the answer is that of the views to which the line read
 pub searched : (types : Types) (line : ℕ) (said : Said) (old new : Cell) (a : SearchAnswer) → EachLane (HasTypes types) old.lanes → fronts_of line old.fronts ≡ None → IsSearched line old new
-    → a ≡ answer_to said (version_now old.told) (map view_in old.lanes) → Some (answer.Search a) ≡ found_answer_of types old.told said (fronts_of line new.fronts) (journals_of new)
+    → a ≡ search_answer said (version_now old.told) (map view_in old.lanes) → Some (answer.Search a) ≡ found_answer_of types old.told said (fronts_of line new.fronts) (journals_of new)
 searched types line said old new a typed none now is =
     let noted : fronts_of line new.fronts ≡ Some (fronts_now old.lanes) =
     ap (λ (x : Cell). fronts_of line x.fronts) now ∙ fronts_own line old.fronts (record { line = line; fronts = fronts_now old.lanes }) refl none in
-    ap (λ x. Some (answer.Search x)) (is ∙ ap (answer_to said (version_now old.told)) (views_are types old.lanes typed ∙ ap (λ (x : Cell). views_to types (fronts_now old.lanes) (journals x.lanes)) (sym now)))
+    ap (λ x. Some (answer.Search x)) (is ∙ ap (search_answer said (version_now old.told)) (views_are types old.lanes typed ∙ ap (λ (x : Cell). views_to types (fronts_now old.lanes) (journals x.lanes)) (sym now)))
     ∙ sym (ap (λ o. found_answer_of types old.told said o (journals_of new)) noted)
 
 -- ---- lane by lane
@@ -101,14 +63,21 @@ pub none_read : (q : Query) (w : ℕ) (vs : List LaneValue) (fronts : List ℕ) 
 none_read q w vs fronts sum none new = record { fronts_are = none; summed = new }
 
 pub read_more : (q : Query) (w k : ℕ) (vs : List LaneValue) (v : LaneValue) (fronts more : List ℕ) (front : ℕ) (view : View) (sum added : SearchSum) → ReadSoFar q w k vs fronts sum → k < length vs → v ≡ slice_index_or vs k v
-    → view ≡ view_in v → front ≡ view.generation → view.generation ≡ length (changes_of v.journal) → more ≡ fronts ++ front ∷ []
+    → view ≡ shown_view v → front ≡ view.generation → view.generation ≡ v.shown → IsSettled v → more ≡ fronts ++ front ∷ []
     → ((us : List View) → IsSummed q w us sum → IsSummed q w (us ++ view ∷ []) added) → ReadSoFar q w (k + 1) vs more added
-read_more q w k vs v fronts more front view sum added so below is seen front_is counted now adds =
+read_more q w k vs v fronts more front view sum added so below is shown front_is counted settled now adds =
+    let seen : view ≡ view_in v = shown ∙ (ap (λ n. view_after (opening v.types) (take n (changes_of v.journal))) settled ∙ ap (view_after (opening v.types)) (take-length (changes_of v.journal))) in
     let taken = last_taken vs k v below is in
     record {
-      fronts_are = now ∙ ap₂ (λ a n. a ++ n ∷ []) so.fronts_are (front_is ∙ counted) ∙ sym (map-append front_now (take k vs) (v ∷ [])) ∙ ap fronts_now (sym taken);
+      fronts_are = now ∙ ap₂ (λ a n. a ++ n ∷ []) so.fronts_are (front_is ∙ counted ∙ settled) ∙ sym (map-append front_now (take k vs) (v ∷ [])) ∙ ap fronts_now (sym taken);
       summed = subst (λ us. IsSummed q w us added) (ap (λ x. map view_in (take k vs) ++ x ∷ []) seen ∙ sym (map-append view_in (take k vs) (v ∷ [])) ∙ ap (map view_in) (sym taken)) (adds (map view_in (take k vs)) so.summed);
     }
+
+-- each of them shows all of its changes
+pub settled_at : (vs : List LaneValue) (k : ℕ) (v : LaneValue) → EachLane IsSettled vs → k < length vs → v ≡ slice_index_or vs k v → IsSettled v
+settled_at [] k v settled below is = absurd (omega (arith, below))
+settled_at (w ∷ vs) zero v settled below is = settled zero v (ap Some (sym is))
+settled_at (w ∷ vs) (suc k) v settled below is = settled_at vs k v (λ lane u at. settled (suc lane) u at) (omega (arith, below)) is
 
 pub room_for : (q : Query) (w k : ℕ) (vs : List LaneValue) (fronts : List ℕ) (sum : SearchSum) → ReadSoFar q w k vs fronts sum → k < length vs → length vs ≤ 64 → sum.groups.views < 64
 room_for q w k vs fronts sum so below few = omega (arith, so.summed.views, few_taken, below, few)
@@ -131,9 +100,9 @@ all_fronts q w k vs fronts sum so past = so.fronts_are ∙ ap fronts_now (take_a
 
 -- the answer of the line that noted how far it read
 pub searched_whole : (types : Types) (line : ℕ) (said : Said) (old mid new : Cell) (a : SearchAnswer) (fronts : List ℕ) → EachLane (HasTypes types) old.lanes → fronts_of line old.fronts ≡ None → mid ≡ old → fronts ≡ fronts_now mid.lanes
-    → a ≡ answer_to said (version_now mid.told) (map view_in mid.lanes) → new ≡ record mid { dealt = line; fronts = mid.fronts ++ record { line = line; fronts = fronts } ∷ [] }
+    → a ≡ search_answer said (version_now mid.told) (map view_in mid.lanes) → new ≡ record mid { dealt = line; fronts = mid.fronts ++ record { line = line; fronts = fronts } ∷ [] }
     → IsSearched line old new × (Some (answer.Search a) ≡ found_answer_of types old.told said (fronts_of line new.fronts) (journals_of new))
 searched_whole types line said old mid new a fronts typed none same are is after =
     let now : IsSearched line old new = after ∙ ap (λ fs. record mid { dealt = line; fronts = mid.fronts ++ record { line = line; fronts = fs } ∷ [] }) are
     ∙ ap (λ (x : Cell). record x { dealt = line; fronts = x.fronts ++ record { line = line; fronts = fronts_now x.lanes } ∷ [] }) same in
-    (now, searched types line said old new a typed none now (is ∙ ap (λ (x : Cell). answer_to said (version_now x.told) (map view_in x.lanes)) same))
+    (now, searched types line said old new a typed none now (is ∙ ap (λ (x : Cell). search_answer said (version_now x.told) (map view_in x.lanes)) same))

@@ -13,8 +13,7 @@ use Rattle.lane_lives.specs.LaneValues.{LaneValue, IsLaneValue}
 use Rattle.lane_lives.specs.declared.setting.Setting.{Setting}
 use Rattle.lane_lives.specs.Lives.{Deed, Announces, Stops, Starts, Runs, Maintains, lines_of, last_line}
 use Rattle.lane_lives.specs.Serving.{IsServing}
-use Rattle.lane_core.proofs.Served.{serves_run, serves_announced, serves_stopped, serves_started, serves_room, serves_planned, serves_upkept, serves_spanned}
-use Rattle.session_cluster.specs.Steps.{IsRoomier}
+use Rattle.lane_core.proofs.Served.{serves_run, serves_announced, serves_stopped, serves_started, serves_room, serves_seen, serves_planned, serves_upkept, serves_spanned}
 use Rattle.session_cluster.specs.Cells.{Cell}
 use Rattle.session_cluster.specs.Deeds.{first_told, told_with, told_next, told_of, with_state, with_line, deeds_of_lane, planned_next, planned_for}
 use Rattle.session_cluster.specs.Keeping.{IsKept}
@@ -23,7 +22,7 @@ use Rattle.lane_lives.specs.Upkeep.{MayBeUpkept}
 use Rattle.query_text.specs.Grammar.{Said}
 use Rattle.session_cluster.specs.Searches.{fronts_of, fronts_now}
 use Rattle.session_cluster.specs.Spans.{spans_of, span_in}
-use Rattle.session_cluster.specs.Steps.{with_room, without_room, after_state, after_stop, after_start, IsOperatedIn, IsDoneInEach, IsPublished, IsStateTold, IsPlannedIn, MayHavePassed, MayHaveAllPassed, HasSpans, IsMaintained, IsSearched, IsAfter}
+use Rattle.session_cluster.specs.Steps.{with_room, after_state, after_stop, after_start, IsOperatedIn, IsDoneInEach, IsPublished, IsStateTold, IsPlannedIn, MayHavePassed, HasSpans, IsMaintained, IsSearched, IsAfter}
 use Rattle.session_cluster.specs.declared.asked.Asked.{Asked}
 use Rattle.session_cluster.specs.declared.asked.Asked.TheVariants as command
 use Rattle.session_cluster.specs.declared.cluster.LineSpans.{LineSpans}
@@ -31,6 +30,7 @@ use Rattle.lane_lives.specs.declared.spans.UpkeepSpan.{UpkeepSpan}
 use Rattle.session_cluster.proofs.DeedLists.{told_push, deeds_push, deeds_same, planned_push, with_own, with_other, plan_own, plan_other, lines_low}
 use Rattle.session_cluster.proofs.Elements.{element_set, element_map, element_seen}
 use Rattle.session_cluster.proofs.FrontLists.{fronts_other}
+use Rattle.session_cluster.proofs.Nearly.{bare, IsNearly}
 use Rattle.session_cluster.proofs.SpanLists.{spans_other, spans_own}
 
 count_next : (cs : List Asked) (c : Asked) (k : ℕ) → k ≡ length cs + 1 → k ≡ length (cs ++ c ∷ [])
@@ -393,29 +393,29 @@ leaves_fronts s c old new k after = elim (read_after s c old new k after) [
   | inr same ↦ same_fronts k old new same
 ]
 
--- ---- room alone
+-- ---- room and what is shown
 
--- a lane of which all but the room is the same
-but_room : (v w : LaneValue) → without_room v ≡ without_room w → v ≡ record w { has_room = v.has_room }
-but_room v w same = ap (λ (x : LaneValue). record x { has_room = v.has_room }) same
+-- a lane of which all else is the same
+but_bare : (v w : LaneValue) → bare v ≡ bare w → v ≡ record w { has_room = v.has_room; shown = v.shown }
+but_bare v w same = ap (λ (x : LaneValue). record x { has_room = v.has_room; shown = v.shown }) same
 
-serves_roomier : (s : Setting) (plans : ℕ → List Fate) (cs : List Asked) (old new : Cell) → IsKept s plans cs old → map without_room new.lanes ≡ map without_room old.lanes
+serves_nearly : (s : Setting) (plans : ℕ → List Fate) (cs : List Asked) (old new : Cell) → IsKept s plans cs old → map bare new.lanes ≡ map bare old.lanes
     → (lane : ℕ) (v : LaneValue) → slice_get new.lanes lane ≡ Some v → IsServing s (planned_for lane v.takes_plans (plans lane) cs) lane (deeds_of_lane s old.upkeeps lane cs) v
-serves_roomier s plans cs old new kept same lane v at =
-    let found = element_seen without_room old.lanes new.lanes lane v same at in
+serves_nearly s plans cs old new kept same lane v at =
+    let found = element_seen bare old.lanes new.lanes lane v same at in
     let w = found.0 in
-    let is = but_room v w found.1.1 in
+    let is = but_bare v w found.1.1 in
     subst (λ t. IsServing s (planned_for lane t (plans lane) cs) lane (deeds_of_lane s old.upkeeps lane cs) v) (sym (ap (λ (x : LaneValue). x.takes_plans) is))
-    (serves_room s (planned_for lane w.takes_plans (plans lane) cs) lane (deeds_of_lane s old.upkeeps lane cs) w v (kept.serving lane w found.1.0) is)
+    (serves_seen s (planned_for lane w.takes_plans (plans lane) cs) lane (deeds_of_lane s old.upkeeps lane cs) w v v.has_room v.shown (kept.serving lane w found.1.0) is)
 
-pub kept_roomier : (s : Setting) (plans : ℕ → List Fate) (cs : List Asked) (old new : Cell) → IsRoomier old new → IsKept s plans cs old → IsKept s plans cs new
-kept_roomier s plans cs old new r kept = record {
+pub kept_nearly : (s : Setting) (plans : ℕ → List Fate) (cs : List Asked) (old new : Cell) → IsNearly old new → IsKept s plans cs old → IsKept s plans cs new
+kept_nearly s plans cs old new r kept = record {
   bits = ap (λ (x : Cell). x.bits) r.rest ∙ kept.bits;
   told = ap (λ (x : Cell). x.told) r.rest ∙ kept.told;
   dealt = ap (λ (x : Cell). x.dealt) r.rest ∙ kept.dealt;
-  lanes = sym (length-map new.lanes without_room) ∙ ap length r.lanes ∙ length-map old.lanes without_room ∙ kept.lanes;
+  lanes = sym (length-map new.lanes bare) ∙ ap length r.lanes ∙ length-map old.lanes bare ∙ kept.lanes;
   serving = λ lane v at.
-      subst (λ us. IsServing s (planned_for lane v.takes_plans (plans lane) cs) lane (deeds_of_lane s us lane cs) v) (sym (ap (λ (x : Cell). x.upkeeps) r.rest)) (serves_roomier s plans cs old new kept r.lanes lane v at);
+      subst (λ us. IsServing s (planned_for lane v.takes_plans (plans lane) cs) lane (deeds_of_lane s us lane cs) v) (sym (ap (λ (x : Cell). x.upkeeps) r.rest)) (serves_nearly s plans cs old new kept r.lanes lane v at);
   unkept = λ line later. ap (λ (x : Cell). spans_of line x.upkeeps) r.rest ∙ kept.unkept line (subst (λ (x : Cell). x.dealt < line) r.rest later);
   unread = λ line later. ap (λ (x : Cell). fronts_of line x.fronts) r.rest ∙ kept.unread line (subst (λ (x : Cell). x.dealt < line) r.rest later);
 }

@@ -20,10 +20,11 @@ use Rattle.query_text.specs.Grammar.{Said}
 use Rattle.reports.specs.ReportText.{report_text}
 use Rattle.reports.specs.declared.answer.Answer.{Answer}
 use Rattle.reports.specs.declared.answer.Answer.TheVariants as answer
+use Rattle.search_views.specs.Answers.{search_answer}
 use Rattle.session_cluster.specs.Cells.{Cell, journals}
 use Rattle.session_cluster.specs.Deeds.{first_told, told_next}
 use Rattle.session_cluster.specs.Lanes.{Journal, lane_of_id, journal_in}
-use Rattle.session_cluster.specs.Searches.{fronts_of, views_to, version_now, answer_to}
+use Rattle.session_cluster.specs.Searches.{fronts_of, views_to, version_now}
 use Rattle.session_cluster.specs.Spans.{spans_of, is_rested, is_blocked, is_disturbed, count_of}
 use Rattle.lane_lives.specs.declared.spans.UpkeepSpan.{UpkeepSpan}
 
@@ -94,7 +95,7 @@ upkeep_answer (Some spans) = Some (answer.Maintained (length spans) (count_of is
 -- what a search finds under the state that was told last, in the views to which it read
 abbrev pub found_answer_of : Types → Told → Said → Option (List ℕ) → List Journal → Option Answer
 found_answer_of types told q None Js = None
-found_answer_of types told q (Some fronts) Js = Some (answer.Search (answer_to q (version_now told) (views_to types fronts Js)))
+found_answer_of types told q (Some fronts) Js = Some (answer.Search (search_answer q (version_now told) (views_to types fronts Js)))
 
 -- the answer of a line, where these states are told before it; a blank line has none
 abbrev pub answer_in : Setting → Told → ℕ → Asked → Cell → Option Answer

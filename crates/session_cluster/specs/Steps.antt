@@ -20,6 +20,7 @@ use Rattle.lane_lives.specs.Upkept.{Maintains}
 use Rattle.lane_keeping.specs.Lines.{IsFresh}
 use Rattle.lane_lives.specs.declared.setting.Setting.{Setting}
 use Rattle.lane_core.specs.Runs.{IsLineRun}
+use Rattle.lane_core.specs.Showing.{IsSettled}
 use Rattle.lane_lives.specs.Upkeep.{IsSpan}
 use Rattle.lane_lives.specs.declared.spans.UpkeepSpan.{UpkeepSpan}
 use Rattle.session_cluster.specs.Cells.{Cell}
@@ -60,12 +61,12 @@ EachLane P vs = (lane : ℕ) (v : LaneValue) → slice_get vs lane ≡ Some v �
 
 -- no operation is under way there, and these states are told
 pub record IsTelling (t : Told) (v : LaneValue) : Type 0 where
-  pub idle : v.under_way ≡ None
+  pub idle : v.under_way ≡ []
   pub told_is : told (setting_of v.lane v.rules) v.journal ≡ t
 
 -- a lane in which room was made, and no operation is under way
 pub record IsRoomy (v : LaneValue) : Type 0 where
-  pub idle : v.under_way ≡ None
+  pub idle : v.under_way ≡ []
   pub room : v.has_room ≡ true
 
 -- a state may be announced there
@@ -77,7 +78,7 @@ pub record MayAnnounce (state : ClusterState) (v : LaneValue) : Type 0 where
 
 -- the line's operation may run in a lane
 pub record MayRun (line : ℕ) (op : Operation) (via : Option ℕ) (v : LaneValue) : Type 0 where
-  pub idle : v.under_way ≡ None
+  pub idle : v.under_way ≡ []
   pub fresh : IsFresh (history v.journal) line
   pub published : IsSome (last_state v.journal)
   pub holds : IfSome via (λ d. IsSome (held d (history v.journal)))
@@ -121,7 +122,7 @@ pub record IsPlannedIn (line lane : ℕ) (fates : List Fate) (old new : Cell) : 
 
 -- upkeep may be made in a lane
 pub record MayMaintain (v : LaneValue) : Type 0 where
-  pub idle : v.under_way ≡ None
+  pub idle : v.under_way ≡ []
   pub published : IsSome (last_state v.journal)
 
 -- nothing was done in a lane, or a pass of upkeep was made, of which want of memory may have left out the rest
@@ -166,6 +167,27 @@ HasTypes types v = v.types ≡ types
 abbrev pub IsSearched : ℕ → Cell → Cell → Type 0
 IsSearched line old new = new ≡ record old { dealt = line; fronts = old.fronts ++ record { line = line; fronts = fronts_now old.lanes } ∷ [] }
 
+-- ---- what is shown
+
+-- a lane but for what is shown of it
+abbrev pub without_shown : LaneValue → LaneValue
+without_shown v = record v { shown = 0 }
+
+-- all changes of the lanes' journals are shown
+abbrev pub AreSettled : Cell → Type 0
+AreSettled c = EachLane IsSettled c.lanes
+
+-- the same, but that more is shown of some lanes
+pub record IsShownOn (old new : Cell) : Type 0 where
+  pub rest : new ≡ record old { lanes = new.lanes }
+  pub lanes : map without_shown new.lanes ≡ map without_shown old.lanes
+
+-- something was done, and then more was shown of some lanes
+pub record ThenShown (Done : Cell → Type 0) (new : Cell) : Type 0 where
+  pub mid : Cell
+  pub done : Done mid
+  pub shown : IsShownOn mid new
+
 -- ---- any line
 
 -- the line was dealt with
@@ -183,6 +205,10 @@ IsAfter s line command.Maintain old new = IsMaintained line old new
 IsAfter s line (command.Search q) old new = IsSearched line old new
 IsAfter s line (command.BadQuery offset) old new = new ≡ record old { dealt = line }
 
+-- that was done which the line asks for, and then more was shown
+abbrev pub IsDealt : Setting → ℕ → Asked → Cell → Cell → Type 0
+IsDealt s line asked old new = ThenShown (λ mid. IsAfter s line asked old mid × IsSpanNoted line asked old mid) new
+
 -- the line wasn't dealt with, or it was
 abbrev pub IsAllOrNothing : Setting → ℕ → Asked → Cell → Cell → Type 0
-IsAllOrNothing s line asked old new = IsRoomier old new ⊎ IsAfter s line asked old new
+IsAllOrNothing s line asked old new = IsRoomier old new ⊎ ThenShown (IsAfter s line asked old) new

@@ -1,6 +1,7 @@
 ghost use Rattle.std.specs.Prelude.{◌≡◌, ◌==◌, ◌<◌, ◌≤◌, ◌^◌, [], Some, length, option_map, IsTrue, slice_get, IfOk, OnOk, OnErr, map, ◌⊎◌, ◌∷◌, ◌++◌, None};
 ghost use Rattle.std.specs.Option.{option_copied};
 ghost use Rattle.cluster_states.specs.Publishing.{newest_of};
+ghost use Rattle.lane_core.specs.Showing.{IsSettled};
 ghost use Rattle.lane_journals.specs.KeptJournals.{past};
 ghost use Rattle.lane_journals.specs.Meanings.{entry_at};
 ghost use Rattle.lane_lives.specs.Settings.{IsSetting, lane_count};
@@ -17,7 +18,7 @@ ghost use Rattle.session_cluster.specs.Spans.{spans_of, is_rested, is_blocked, i
 ghost use Rattle.std.specs.List.{find};
 ghost use Rattle.session_cluster.specs.Keeping.{AreOpen, IsKept};
 ghost use Rattle.lane_lives.specs.LaneValues.{IsLaneValue};
-ghost use Rattle.session_cluster.specs.Steps.{with_room, without_room, after_state, after_stop, after_start, EachLane, IsRoomy, MayAnnounce, MayMaintain, MayHaveAllPassed, AreSpans, HasSpans, IsMaintained};
+ghost use Rattle.session_cluster.specs.Steps.{with_room, without_room, after_state, after_stop, after_start, EachLane, AreSettled, IsRoomy, MayAnnounce, MayMaintain, MayHaveAllPassed, AreSpans, HasSpans, IsMaintained};
 ghost use Rattle.session_cluster.specs.Output.{upkeep_answer};
 
 use crate::searching::{LineFronts, fronts_at};
@@ -261,6 +262,7 @@ pub fn open_cluster<C: Carriers>(
     ensures ok { OnOk result (IsKept setting.now (C.plans carriers.old) [] cluster.new) }
     ensures none { OnOk result (cluster.new.upkeeps ≡ []) }
     ensures unread { OnOk result (cluster.new.fronts ≡ []) }
+    ensures settled { OnOk result (AreSettled cluster.new) }
     ensures err { OnErr result (cluster.new ≡ cluster.old) }
 {
     let lanes = open_lanes(alloc, setting, carriers)?;
@@ -275,7 +277,8 @@ fn open_lanes<C: Carriers>(
     carriers: &mut C,
 ) -> Result<Vec<Lane<C::One>>, NoMemory>
     requires setting { IsSetting setting.now }
-    ensures { IfOk result (λ lanes. AreOpen setting.now (C.plans carriers.old) lanes.items) }
+    ensures open { IfOk result (λ lanes. AreOpen setting.now (C.plans carriers.old) lanes.items) }
+    ensures settled { IfOk result (λ lanes. EachLane IsSettled lanes.items) }
 {
     let count = 1u8 << setting.bits;
     let shared = SharedSchema::new(alloc, setting.schema.copy(alloc)?)?;

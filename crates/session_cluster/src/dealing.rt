@@ -9,7 +9,7 @@ ghost use Rattle.op_machine.specs.Plans.{IsPlainGet};
 ghost use Rattle.messages.specs.declared.outcome.Outcome.{Outcome};
 ghost use Rattle.op_machine.specs.Plans.{IsOwn};
 ghost use Rattle.reports.specs.declared.answer.Answer.TheVariants as answered;
-ghost use Rattle.session_cluster.specs.Steps.{IsAllOrNothing};
+ghost use Rattle.session_cluster.specs.Steps.{IsAllOrNothing, IsDealt, AreSettled};
 ghost use Rattle.session_cluster.specs.Steps.{IsRoomier};
 ghost use Rattle.session_cluster.specs.Asking.{IsOwnAsked};
 ghost use Rattle.session_cluster.specs.Cells.{journals_of};
@@ -45,8 +45,7 @@ fn lane_at(key: u64, bits: u8) -> u8
 
 impl<C: Carrier + Drop> Cluster<C> {
     /// Deals with a line's command, and gives the line's answer, which a blank line has not; then the lanes show what
-    /// changed in them, as far as there is memory for that. The only error is want of memory; the line may be dealt with
-    /// then.
+    /// changed in them. The only error is want of memory; the line may be dealt with then.
     pub fn deal(
         &mut self,
         alloc: Global,
@@ -56,19 +55,15 @@ impl<C: Carrier + Drop> Cluster<C> {
     ) -> Result<Option<Answer>, NoMemory>
         requires ready { IsReady setting.now line self.old }
         requires own { IsOwnAsked setting.now.bits command }
-        ensures ok { IfOk result (λ answer. IsAfter setting.now line command self.old self.new
+        requires settled { AreSettled self.old }
+        ensures ok { IfOk result (λ answer. IsDealt setting.now line command self.old self.new
             × (answer ≡ answer_in setting.now self.old.told line command self.new)) }
-        ensures noted { OnOk result (IsSpanNoted line command self.old self.new) }
+        ensures settled { OnOk result (AreSettled self.new) }
         ensures err { OnErr result (IsAllOrNothing setting.now line command self.old self.new) }
     {
-        // an operation changes its own lane alone
-        let is_wide = !matches!(command, Asked::Feed { .. });
-        let answer = self.deal_with(alloc, setting, line, command);
-        if is_wide {
-            // what isn't shown now is shown before the next search
-            let _settled = self.settle();
-        }
-        answer
+        let answer = self.deal_with(alloc, setting, line, command)?;
+        self.settle()?;
+        Ok(answer)
     }
 
     /// Deals with a line's command, and gives the line's answer.
@@ -81,10 +76,12 @@ impl<C: Carrier + Drop> Cluster<C> {
     ) -> Result<Option<Answer>, NoMemory>
         requires ready { IsReady setting.now line self.old }
         requires own { IsOwnAsked setting.now.bits command }
+        requires settled { AreSettled self.old }
         ensures ok { IfOk result (λ answer. IsAfter setting.now line command self.old self.new
             × (answer ≡ answer_in setting.now self.old.told line command self.new)) }
         ensures noted { OnOk result (IsSpanNoted line command self.old self.new) }
-        ensures err { OnErr result (IsAllOrNothing setting.now line command self.old self.new) }
+        ensures err { OnErr result (IsRoomier self.old self.new
+            ⊎ IsAfter setting.now line command self.old self.new) }
     {
         match command {
             Asked::Blank => {
@@ -145,8 +142,6 @@ impl<C: Carrier + Drop> Cluster<C> {
         let key = key_of(&operation.id);
         let at = lane_at(key, setting.bits);
         let outcome = self.operate(at, line, key, operation, via)?;
-        // what isn't shown now is shown before the next search
-        let _settled = self.settle_at(at);
         self.answer(alloc, at, outcome)
     }
 

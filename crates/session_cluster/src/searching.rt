@@ -4,15 +4,15 @@ ghost use Rattle.std.specs.Prelude.{◌≡◌, ◌≤◌, ◌∷◌, ◌++◌, [
 ghost use Rattle.std.specs.List.{find};
 ghost use Rattle.cluster_states.specs.Publishing.{newest_of};
 ghost use Rattle.doc_types.specs.SchemaCodes.{Types};
-ghost use Rattle.lane_core.specs.Showing.{view_in};
+ghost use Rattle.lane_core.specs.Showing.{view_in, IsSettled};
 ghost use Rattle.query_text.specs.Grammar.{said_of};
 ghost use Rattle.search_views.specs.Answers.{search_answer};
 ghost use Rattle.session_cluster.specs.Cells.{journals_of};
 ghost use Rattle.session_cluster.specs.Output.{found_answer_of};
 ghost use Rattle.session_cluster.specs.Noted.{is_for};
 ghost use Rattle.session_cluster.specs.declared.searching.LineFronts.{LineFronts};
-ghost use Rattle.session_cluster.specs.Searches.{fronts_of, fronts_now, version_of, version_now, answer_to};
-ghost use Rattle.session_cluster.specs.Steps.{EachLane, HasTypes, IsSearched};
+ghost use Rattle.session_cluster.specs.Searches.{fronts_of, fronts_now, version_of, version_now};
+ghost use Rattle.session_cluster.specs.Steps.{EachLane, HasTypes, IsSearched, without_shown, IsShownOn, AreSettled};
 
 use crate::cluster::Cluster;
 use carriers::Carrier;
@@ -53,9 +53,11 @@ fn version_told(states: &States) -> u32
     }
 }
 
-/// Each lane shows all changes of its events. The only error is want of memory; nothing is lost then.
+/// Each lane shows all changes of its events. The only error is want of memory; then the first lanes do, and the next one
+/// perhaps a part of them.
 pub fn settle_all<C: Carrier + Drop>(lanes: &mut [Lane<C>]) -> Result<(), NoMemory>
-    ensures { lanes.new ≡ lanes.old }
+    ensures same { map without_shown lanes.new ≡ map without_shown lanes.old }
+    ensures settled { OnOk result (EachLane IsSettled lanes.new) }
 {
     for lane in lanes.iter_mut() {
         lane.settle()?;
@@ -63,8 +65,7 @@ pub fn settle_all<C: Carrier + Drop>(lanes: &mut [Lane<C>]) -> Result<(), NoMemo
     Ok(())
 }
 
-/// What a query finds in lanes that show all changes, and how many changes each shows. An error is want of memory, also
-/// where a lane doesn't show them.
+/// What a query finds in lanes that show all changes, and how many changes each shows. The only error is want of memory.
 fn search_all<C: Carrier + Drop>(
     alloc: Global,
     lanes: &[Lane<C>],
@@ -73,15 +74,14 @@ fn search_all<C: Carrier + Drop>(
     fronts: &mut Vec<u64>,
 ) -> Result<SearchAnswer, NoMemory>
     requires few { length lanes.now ≤ 64 }
+    requires settled { EachLane IsSettled lanes.now }
     requires none { fronts.old.items ≡ [] }
-    ensures answer { IfOk result (λ answer. answer ≡ search_answer query.now version (map view_in lanes.now)) }
+    ensures answer { IfOk result (λ answer. answer ≡ search_answer (said_of query.now) version (map view_in lanes.now)) }
     ensures fronts { OnOk result (fronts.new.items ≡ fronts_now lanes.now) }
 {
     let mut sum = SearchSum::new(alloc, query, version);
     for lane in lanes {
-        let Some(view) = lane.shown() else {
-            return Err(NoMemory);
-        };
+        let view = lane.shown();
         fronts.push(view.generation())?;
         sum.add(alloc, view)?;
     }
@@ -89,8 +89,8 @@ fn search_all<C: Carrier + Drop>(
 }
 
 impl<C: Carrier + Drop> Cluster<C> {
-    /// Searches every lane, in their order, and gives the answer. The only error is want of memory, and then nothing
-    /// has changed.
+    /// Searches every lane, in their order, and gives the answer; all changes of their journals are shown. The only error
+    /// is want of memory, and then nothing has changed.
     pub(crate) fn search(
         &mut self,
         alloc: Global,
@@ -98,34 +98,25 @@ impl<C: Carrier + Drop> Cluster<C> {
         query: Parsed,
     ) -> Result<Option<Answer>, NoMemory>
         requires few { length self.old.lanes ≤ 64 }
+        requires settled { AreSettled self.old }
         requires new { fronts_of line self.old.fronts ≡ None }
         ensures ok { (types : Types) → EachLane (HasTypes types) self.old.lanes
             → IfOk result (λ answer. IsSearched line self.old self.new
             × (answer ≡ found_answer_of types self.old.told query (fronts_of line self.new.fronts) (journals_of self.new))) }
         ensures err { OnErr result (self.new ≡ self.old) }
     {
-        self.settle()?;
         let mut fronts = Vec::with_capacity(alloc, self.lanes.len())?;
         let answer = self.read(alloc, query, &mut fronts)?;
         self.note_fronts(line, fronts)?;
         Ok(Some(Answer::Search { answer }))
     }
 
-    /// Each lane shows all changes of its events. The only error is want of memory; nothing is lost then.
+    /// Each lane shows all changes of its events. The only error is want of memory; then some do.
     pub(crate) fn settle(&mut self) -> Result<(), NoMemory>
-        ensures { self.new ≡ self.old }
+        ensures shown { IsShownOn self.old self.new }
+        ensures settled { OnOk result (AreSettled self.new) }
     {
         settle_all(&mut self.lanes)
-    }
-
-    /// A lane shows all changes of its events. The only error is want of memory; nothing is lost then.
-    pub(crate) fn settle_at(&mut self, at: u8) -> Result<(), NoMemory>
-        ensures { self.new ≡ self.old }
-    {
-        match self.lanes.get_mut(usize::from(at)) {
-            Some(lane) => lane.settle(),
-            None => Ok(()),
-        }
     }
 
     /// What a query finds under the newest state, and how many changes it reads in each lane.
@@ -136,9 +127,10 @@ impl<C: Carrier + Drop> Cluster<C> {
         fronts: &mut Vec<u64>,
     ) -> Result<SearchAnswer, NoMemory>
         requires few { length self.now.lanes ≤ 64 }
+        requires settled { AreSettled self.now }
         requires none { fronts.old.items ≡ [] }
         ensures answer { IfOk result (λ answer. answer
-            ≡ answer_to query (version_now self.now.told) (map view_in self.now.lanes)) }
+            ≡ search_answer query (version_now self.now.told) (map view_in self.now.lanes)) }
         ensures fronts { OnOk result (fronts.new.items ≡ fronts_now self.now.lanes) }
     {
         let version = version_told(&self.states);

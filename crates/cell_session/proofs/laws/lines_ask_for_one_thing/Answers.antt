@@ -1,4 +1,4 @@
-use Rattle.cell_session.proofs.OneAsked.{OneQuery, asked_once, first_once}
+use Rattle.cell_session.proofs.OneAsked.{asked_once, first_once}
 use Rattle.cell_session.proofs.laws.lines_ask_for_one_thing.Goals as goal
 
 pub returns-clause-line : goal.returns-clause-line

@@ -12,10 +12,13 @@ returns-in_default-new-clause-ended g c = opened_ends _ _ _ _ _ _ _ c.in-Ok.ensu
 pub loop-number-init : goal.loop-number-init
 loop-number-init g c =
     let is = c.in-Ok-new.ensures in
-    (so_far_new _ _ _ _ _ _ _ c.requires.setting is c.in-Ok.ensures.ok c.in-Ok.ensures.none c.in-Ok.ensures.unread, (ap (λ r. r.max_lines) is, ap (λ r. r.max_bytes) is), omega (arith, ap (λ r. r.lines) is), (omega arith, omega arith))
+    (so_far_new _ _ _ _ _ _ _ c.requires.setting is c.in-Ok.ensures.ok c.in-Ok.ensures.none c.in-Ok.ensures.unread, (ap (λ r. r.max_lines) is, ap (λ r. r.max_bytes) is), omega (arith, ap (λ r. r.lines) is), (omega arith, omega arith), c.in-Ok.ensures.settled)
 
 pub answer_line-requires-clause-ready : goal.answer_line-requires-clause-ready
 answer_line-requires-clause-ready g c = so_far_ready _ _ _ _ _ _ _ _ _ _ _ c.loop-number.invariant.0 c.in-Command.ensures.advances.numbered
+
+pub answer_line-requires-clause-settled : goal.answer_line-requires-clause-settled
+answer_line-requires-clause-settled g c = c.loop-number.invariant.4
 
 pub loop-number-preserved : goal.loop-number-preserved
 loop-number-preserved g c =
@@ -24,10 +27,11 @@ loop-number-preserved g c =
     let told = c.in-Ok-answer_line.ensures in
     let grows = seen.advances.grows in
     let same_lines = grows.max_lines ∙ so.1.0 in (
-      so_far_more _ _ _ _ _ _ _ _ _ _ _ _ _ _ _ _ _ so.0 so.1.0 so.1.1 seen.shows seen.stands (sym c.in-Ok-counts_with.ensures) seen.advances.numbered (omega (arith, seen.advances.numbered, grows.lines, seen.advances.few, same_lines)) grows.lines told.dealt told.noted told.written,
+      so_far_more _ _ _ _ _ _ _ _ _ _ _ _ _ _ _ _ _ so.0 so.1.0 so.1.1 seen.shows seen.stands (sym c.in-Ok-counts_with.ensures) seen.advances.numbered (omega (arith, seen.advances.numbered, grows.lines, seen.advances.few, same_lines)) grows.lines told.dealt told.written,
       (same_lines, grows.max_bytes ∙ so.1.1),
       omega (arith, seen.advances.few, same_lines),
       (omega (arith, so.3.0, seen.count), omega (arith, so.3.1, told.count)),
+      told.settled,
     )
 
 pub returns-in-Over-clause-ended : goal.returns-in-Over-clause-ended

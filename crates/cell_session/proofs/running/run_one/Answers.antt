@@ -1,5 +1,5 @@
 use Rattle.std.proofs.Common.{◌∙◌, [], None, Err, ap}
-use Rattle.cell_session.proofs.Clauses.{legal_durable, legal_complete, ends_in_order, ends_together, ends_limit, chosen_legal, chosen_lanes, chosen_shown, chosen_lines, chosen_dealt, chosen_written, chosen_searches, empty_legal, empty_in_order, empty_together, empty_fates, empty_shown, empty_searches, empty_ends, usage_written}
+use Rattle.cell_session.proofs.Clauses.{legal_durable, legal_complete, ends_in_order, ends_together, ends_limit, chosen_legal, chosen_lanes, chosen_shown, chosen_lines, chosen_dealt, chosen_written, chosen_searches, empty_legal, empty_in_order, empty_together, empty_fates, empty_shown, empty_ends, usage_written}
 use Rattle.cell_session.proofs.SearchCounts.{SearchLaws}
 use Rattle.cell_session.proofs.running.run_one.Goals as goal
 
@@ -14,7 +14,7 @@ returns-in-Ok-clause-durability g c s x = legal_durable c.lanes_are_durable.ensu
 pub returns-in-Ok-clause-completeness : goal.returns-in-Ok-clause-completeness
 returns-in-Ok-clause-completeness g c s x =
     let ended = c.run_lines.ensures.ended in
-    let lines = chosen_lines (record { refused = c.lines_are_refused_with_cause.ensures; short = c.lines_fall_short_with_cause.ensures; hold = c.hearings_follow_deeds.ensures.hold; hear = c.hearings_follow_deeds.ensures.hear }) _ _ s _ _ _ _ _ _ _ c.in-Ok.ensures.chosen x ended in
+    let lines = chosen_lines (record { refused = c.lines_are_refused_with_cause.ensures; short = c.lines_fall_short_with_cause.ensures; hold = c.hearings_follow_deeds.ensures.hold; hear = c.hearings_follow_deeds.ensures.hear; searches = record { few = c.journals_are_read.ensures.few; shown = c.journals_are_shown.ensures.shown; view = c.journals_are_shown.ensures.view; once = c.fronts_count_once.ensures.once; current = c.fronts_count_once.ensures.current; full = c.fronts_count_once.ensures.full; answers = c.answers_are_of_what_is_read.ensures }; covered = c.rested_lanes_stay_covered.ensures }) _ _ s _ _ _ _ _ _ _ c.in-Ok.ensures.chosen x ended in
     legal_complete c.lanes_are_complete.ensures _ s _ lines.asked _ x (chosen_legal _ _ s _ _ _ _ _ _ _ c.in-Ok.ensures.chosen x ended) lines.fates
 
 pub returns-in-Ok-clause-lines_in_order : goal.returns-in-Ok-clause-lines_in_order
@@ -33,7 +33,7 @@ pub returns-in-Ok-clause-dealt_with : goal.returns-in-Ok-clause-dealt_with
 returns-in-Ok-clause-dealt_with g c s x = chosen_dealt _ _ s _ _ _ _ _ _ _ c.in-Ok.ensures.chosen x c.run_lines.ensures.ended
 
 pub returns-in-Ok-clause-lines : goal.returns-in-Ok-clause-lines
-returns-in-Ok-clause-lines g c s x = chosen_lines (record { refused = c.lines_are_refused_with_cause.ensures; short = c.lines_fall_short_with_cause.ensures; hold = c.hearings_follow_deeds.ensures.hold; hear = c.hearings_follow_deeds.ensures.hear }) _ _ s _ _ _ _ _ _ _ c.in-Ok.ensures.chosen x c.run_lines.ensures.ended
+returns-in-Ok-clause-lines g c s x = chosen_lines (record { refused = c.lines_are_refused_with_cause.ensures; short = c.lines_fall_short_with_cause.ensures; hold = c.hearings_follow_deeds.ensures.hold; hear = c.hearings_follow_deeds.ensures.hear; searches = record { few = c.journals_are_read.ensures.few; shown = c.journals_are_shown.ensures.shown; view = c.journals_are_shown.ensures.view; once = c.fronts_count_once.ensures.once; current = c.fronts_count_once.ensures.current; full = c.fronts_count_once.ensures.full; answers = c.answers_are_of_what_is_read.ensures }; covered = c.rested_lanes_stay_covered.ensures }) _ _ s _ _ _ _ _ _ _ c.in-Ok.ensures.chosen x c.run_lines.ensures.ended
 
 pub returns-in-Ok-clause-bytes_written : goal.returns-in-Ok-clause-bytes_written
 returns-in-Ok-clause-bytes_written g c s x = chosen_written _ _ s _ _ _ _ _ _ _ c.in-Ok.ensures.chosen x c.run_lines.ensures.ended
@@ -48,6 +48,7 @@ returns-in-Ok-clause-searches g c s x = chosen_searches laws _ _ s _ _ _ _ _ _ _
       view = c.journals_are_shown.ensures.view;
       once = c.fronts_count_once.ensures.once;
       current = c.fronts_count_once.ensures.current;
+      full = c.fronts_count_once.ensures.full;
       answers = c.answers_are_of_what_is_read.ensures;
     }
 
@@ -85,7 +86,7 @@ pub returns-in-Err-Usage-clause-bytes_written : goal.returns-in-Err-Usage-clause
 returns-in-Err-Usage-clause-bytes_written g c s x = absurd (c.read_choice.ensures.usage (c.in-Err-Usage.is ∙ ap Err c.in-Err-Usage.field-0-is) s x)
 
 pub returns-in-Err-Usage-clause-searches : goal.returns-in-Err-Usage-clause-searches
-returns-in-Err-Usage-clause-searches g c s x = empty_searches s.setting c.args.cluster.now c.requires
+returns-in-Err-Usage-clause-searches g c s x = absurd (c.read_choice.ensures.usage (c.in-Err-Usage.is ∙ ap Err c.in-Err-Usage.field-0-is) s x)
 
 pub returns-in-Err-Usage-clause-usage : goal.returns-in-Err-Usage-clause-usage
 returns-in-Err-Usage-clause-usage g c e =
@@ -119,7 +120,7 @@ returns-in-Err-NoMemory-clause-dealt_with g c s x =
 
 pub returns-in-Err-NoMemory-clause-lines : goal.returns-in-Err-NoMemory-clause-lines
 returns-in-Err-NoMemory-clause-lines g c s x =
-    chosen_lines (record { refused = c.lines_are_refused_with_cause.ensures; short = c.lines_fall_short_with_cause.ensures; hold = c.hearings_follow_deeds.ensures.hold; hear = c.hearings_follow_deeds.ensures.hear }) _ s s _ _ _ None c.args.cluster.now None None x x (empty_ends s.setting s.setting.schema _ _ None c.args.cluster.now None c.requires)
+    chosen_lines (record { refused = c.lines_are_refused_with_cause.ensures; short = c.lines_fall_short_with_cause.ensures; hold = c.hearings_follow_deeds.ensures.hold; hear = c.hearings_follow_deeds.ensures.hear; searches = record { few = c.journals_are_read.ensures.few; shown = c.journals_are_shown.ensures.shown; view = c.journals_are_shown.ensures.view; once = c.fronts_count_once.ensures.once; current = c.fronts_count_once.ensures.current; full = c.fronts_count_once.ensures.full; answers = c.answers_are_of_what_is_read.ensures }; covered = c.rested_lanes_stay_covered.ensures }) _ s s _ _ _ None c.args.cluster.now None None x x (empty_ends s.setting s.setting.schema _ _ None c.args.cluster.now None c.requires)
 
 pub returns-in-Err-NoMemory-clause-lanes : goal.returns-in-Err-NoMemory-clause-lanes
 returns-in-Err-NoMemory-clause-lanes g c s x =
@@ -130,4 +131,7 @@ returns-in-Err-NoMemory-clause-bytes_written g c s x =
     chosen_written _ s s _ (λ lane. []) _ None c.args.cluster.now _ _ x x (empty_ends s.setting s.setting.schema (λ lane. []) _ None c.args.cluster.now _ c.requires)
 
 pub returns-in-Err-NoMemory-clause-searches : goal.returns-in-Err-NoMemory-clause-searches
-returns-in-Err-NoMemory-clause-searches g c s x = empty_searches s.setting c.args.cluster.now c.requires
+returns-in-Err-NoMemory-clause-searches g c s x = chosen_searches laws _ s s _ (λ lane. []) _ None c.args.cluster.now None None x x (empty_ends s.setting s.setting.schema (λ lane. []) _ None c.args.cluster.now None c.requires)
+  where
+    laws : SearchLaws
+    laws = record { few = c.journals_are_read.ensures.few; shown = c.journals_are_shown.ensures.shown; view = c.journals_are_shown.ensures.view; once = c.fronts_count_once.ensures.once; current = c.fronts_count_once.ensures.current; full = c.fronts_count_once.ensures.full; answers = c.answers_are_of_what_is_read.ensures }

@@ -1,6 +1,7 @@
 use Rattle.std.proofs.Common.{map}
 use Rattle.journal_views.specs.Fronts.{seen_at}
 use Rattle.journal_views.proofs.Counting.{Laws, are-lanes, counted-as}
+use Rattle.journal_views.proofs.Covering.{full-where-read}
 use Rattle.journal_views.proofs.laws.fronts_count_once.Goals as goal
 
 pub returns : goal.returns
@@ -8,6 +9,7 @@ returns c = record {
   lanes = are-lanes laws;
   once = λ types w id fs h. c.searches_count_once.ensures.once w id (map (seen_at types) fs) (are-lanes laws types fs h);
   current = counted-as laws;
+  full = λ types w fs h each. full-where-read laws types w fs h c.searches_count_once.ensures.found each;
 }
   where
     laws : Laws

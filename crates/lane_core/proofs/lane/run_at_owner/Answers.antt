@@ -1,8 +1,8 @@
-use Rattle.lane_core.proofs.LineRuns.{owner_runs, at_owner}
+use Rattle.lane_core.proofs.LineRuns.{owner_alone, at_owner}
 use Rattle.lane_core.proofs.lane.run_at_owner.Goals as goal
 
 pub finish-outcome-requires : goal.finish-outcome-requires
-finish-outcome-requires g c = owner_runs _ c.args.operation.now _ _ c.in_ok-begin_at_owner.ensures.ok
+finish-outcome-requires g c = owner_alone _ c.args.operation.now _ _ c.requires.idle c.in-Begun.ensures
 
 pub returns-clause-ok : goal.returns-clause-ok
-returns-clause-ok g c = at_owner _ c.args.operation.now _ _ _ _ c.requires.idle c.requires.fresh c.in_ok-begin_at_owner.ensures.ok c.finish-outcome.ensures c.journal-journal.ensures.lane
+returns-clause-ok g c = at_owner _ c.args.operation.now _ _ _ _ c.requires.idle c.requires.fresh c.in-Begun.ensures c.finish-outcome.ensures c.journal-journal.ensures.lane

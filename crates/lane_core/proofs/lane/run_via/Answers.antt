@@ -1,8 +1,8 @@
-use Rattle.lane_core.proofs.LineRuns.{via_runs, at_via, refused_via}
+use Rattle.lane_core.proofs.LineRuns.{via_alone, at_via, refused_via}
 use Rattle.lane_core.proofs.lane.run_via.Goals as goal
 
 pub finish-outcome-requires : goal.finish-outcome-requires
-finish-outcome-requires g c = via_runs _ _ c.args.operation.now _ _ c.in-Begun.ensures
+finish-outcome-requires g c = via_alone _ _ c.args.operation.now _ _ c.requires.idle c.in-Begun.ensures
 
 pub returns-in-Refused-clause-ok : goal.returns-in-Refused-clause-ok
 returns-in-Refused-clause-ok g c = refused_via _ _ c.args.operation.now _ _ _ c.requires.fresh c.in-Refused.ensures c.journal-journal.ensures.lane

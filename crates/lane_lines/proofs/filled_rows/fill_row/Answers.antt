@@ -1,16 +1,17 @@
-use Rattle.std.proofs.Common.{◌≡◌, ◌∙◌, ℕ, ap, refl, sym, subst}
+use Rattle.std.proofs.Common.{◌≡◌, ◌<◌, ◌∙◌, ℕ, None, ap, refl, sym, subst}
 use Rattle.bucket_ids.specs.Buckets.{Low, IsIn}
 use Rattle.operation_keeping.specs.RuleBounds.{AreRules}
 use Rattle.lane_states.specs.declared.lane_state.LaneState.{LaneState}
 use Rattle.round_keeping.specs.declared.round_run.RoundRun.{RoundRun}
 use Rattle.lane_states.specs.LaneStates.{journal_of, part_of, IsResting}
 use Rattle.round_keeping.specs.RoundRuns.{IsRunning, IsRunBy, MayBegin}
-use Rattle.lane_lines.specs.Readying.{BeganNoRound, OfUnprepared, IsCutOffWith, HasRowFor}
+use Rattle.lane_journals.specs.Readers.{Journal, sent}
+use Rattle.lane_lines.specs.Readying.{HasSent, OfSearches, IsCutOffWith, HasRowFor}
 use Rattle.proof_basics.proofs.Results.{on-err}
 use Rattle.lane_lines.proofs.Entries.{adds-none, adds-on}
 use Rattle.lane_lines.proofs.EntryFree.{adds-begun, adds-whole, adds-cut}
-use Rattle.lane_lines.proofs.RunningSteps.{quiet-same}
-use Rattle.lane_lines.proofs.RoundLines.{idle-of, may-begin, ended-rests}
+use Rattle.lane_lines.proofs.RunningSteps.{unsent-since, quiet-same}
+use Rattle.lane_lines.proofs.RoundLines.{may-begin, ended-rests}
 use Rattle.lane_lines.proofs.RowRounds.{HasBegun, nothing-done, cut-nothing, goes-on, cut-off, whole-quiet, cut-quiet, others-on, enough-rests}
 use Rattle.lane_lines.proofs.FilledRows.{row-fit, somebody-lacks, finds-after}
 use Rattle.lane_lines.proofs.filled_rows.fill_row.Goals as goal
@@ -25,13 +26,8 @@ begin_round-requires-clause-may g c =
     (c.owners_act.ensures.heard _ _ _ _ _ _ _ c.requires.keeps.keeps d f.state f.waits.acting) c.requires.opened c.requires.resting in
     may
 
-pub begin_round-requires-clause-idle : goal.begin_round-requires-clause-idle
-begin_round-requires-clause-idle g c =
-    let x = c.args.lane.now in
-    let d = c.args.distributor in
-    let key = c.args.key in
-    let f = c.requires.for_line in
-    rw c.in_ok-reserve.ensures.items (idle-of x.lane f.line f.operation f.stamp (journal_of x) d f.state f.waits)
+pub begin_round-requires-clause-free : goal.begin_round-requires-clause-free
+begin_round-requires-clause-free g c = rw c.in_ok-reserve.ensures.items c.requires.free
 
 pub run_round-requires-clause-runs : goal.run_round-requires-clause-runs
 run_round-requires-clause-runs g c =
@@ -82,8 +78,8 @@ returns-in_err-reserve-clause-cut g c =
     let d = c.args.distributor in
     let key = c.args.key in
     let n = record x { journal = record x.journal { events = c.reserve.new.self } } in
-    let cut : OfUnprepared x d key (λ line o s stamp. BeganNoRound (journal_of x) line s.version → IsCutOffWith x n line o d s stamp) =
-    λ line o s stamp w same none. cut-nothing x n line o d s stamp (nothing-done x n line o d s stamp (rw c.in_err-reserve.ensures.items refl) w) in
+    let cut : OfSearches x d key (λ from line o s stamp. IsCutOffWith from x n line o d s stamp) =
+    λ line o s stamp w same from has none. cut-nothing from x n line o d s stamp (nothing-done from x n line o d s stamp (rw c.in_err-reserve.ensures.items refl) w) in
     on-err c.from_residual.result _ cut
 
 pub returns-in_err-reserve-clause-quiet : goal.returns-in_err-reserve-clause-quiet
@@ -101,7 +97,7 @@ returns-in_default-clause-goes_on g c =
     let key = c.args.key in
     let m = c.begin_round.new.lane in
     let same_journal : journal_of m ≡ journal_of x = c.in_default.ensures.nothing ∙ rw c.in_ok-reserve.ensures.items refl in
-    λ line o s stamp w same none. nothing-done x m line o d s stamp same_journal w
+    λ line o s stamp w same from has none. nothing-done from x m line o d s stamp same_journal w
 
 pub returns-in_default-clause-finds : goal.returns-in_default-clause-finds
 returns-in_default-clause-finds g c =
@@ -110,7 +106,7 @@ returns-in_default-clause-finds g c =
     let key = c.args.key in
     let m = c.begin_round.new.lane in
     let same_journal : journal_of m ≡ journal_of x = c.in_default.ensures.nothing ∙ rw c.in_ok-reserve.ensures.items refl in
-    λ line o s stamp w same none.
+    λ line o s stamp w same from has none.
     let e = c.in_default.ensures.enough in
     let keep = c.requires.keeps.keeps in
     subst (λ (k : ℕ). HasRowFor m s.version k) same
@@ -191,8 +187,10 @@ returns-in_err-end-clause-cut g c =
     } in
     let runs : IsRunning m.lane (journal_of m) run = subst (λ (l : Low). IsRunning l (journal_of m) run) (sym (ap (λ (z : LaneState). z.lane) c.begin_round.ensures.after)) c.in-Some.ensures.begins.runs in
     let by : IsRunBy (part_of m run.distributor) run = subst (λ (e : ℕ). IsRunBy (part_of m e) run) (sym c.in-Some.ensures.begins.distributor_is) c.in-Some.ensures.run_by in
-    let cut : OfUnprepared x d key (λ line o s stamp. BeganNoRound (journal_of x) line s.version → IsCutOffWith x n line o d s stamp) =
-    λ line o s stamp w same none. cut-off x m n d key run h line o s stamp w _ _ _ _ _ _ c.in_err-end.ensures.cut same none (c.rounds_are_wanted.ensures.cut m n run _ _ runs by c.in_err-end.ensures.cut) in
+    let above : (from : Journal) → HasSent from (journal_of x) → (n : ℕ) → m.last < n → sent n from ≡ None =
+    λ from has i more. unsent-since from (journal_of x) x.last i has c.requires.keeps.keeps.numbered (subst (λ (k : ℕ). k < i) (ap (λ (z : LaneState). z.last) c.begin_round.ensures.after) more) in
+    let cut : OfSearches x d key (λ from line o s stamp. IsCutOffWith from x n line o d s stamp) =
+    λ line o s stamp w same from has none. cut-off x m n d key run h line o s stamp w _ _ _ _ _ _ c.in_err-end.ensures.cut from same none (c.rounds_are_wanted.ensures.cut m n run _ _ runs by c.in_err-end.ensures.cut from (above from has)) in
     on-err c.from_residual-in_err-end.result _ cut
 
 pub returns-clause-quiet : goal.returns-clause-quiet
@@ -253,7 +251,9 @@ returns-clause-goes_on g c =
     } in
     let runs : IsRunning m.lane (journal_of m) run = subst (λ (l : Low). IsRunning l (journal_of m) run) (sym (ap (λ (z : LaneState). z.lane) c.begin_round.ensures.after)) c.in-Some.ensures.begins.runs in
     let by : IsRunBy (part_of m run.distributor) run = subst (λ (e : ℕ). IsRunBy (part_of m e) run) (sym c.in-Some.ensures.begins.distributor_is) c.in-Some.ensures.run_by in
-    λ line o s stamp w same none. goes-on x m n d key run h line o s stamp w c.in_ok-end.end _ _ _ _ _ _ c.in_ok-end.ensures.whole same none (c.rounds_are_wanted.ensures.whole m n run c.in_ok-end.end _ _ runs by c.in_ok-end.ensures.whole)
+    let above : (from : Journal) → HasSent from (journal_of x) → (n : ℕ) → m.last < n → sent n from ≡ None =
+    λ from has i more. unsent-since from (journal_of x) x.last i has c.requires.keeps.keeps.numbered (subst (λ (k : ℕ). k < i) (ap (λ (z : LaneState). z.last) c.begin_round.ensures.after) more) in
+    λ line o s stamp w same from has none. goes-on x m n d key run h line o s stamp w c.in_ok-end.end _ _ _ _ _ _ c.in_ok-end.ensures.whole from same none (c.rounds_are_wanted.ensures.whole m n run c.in_ok-end.end _ _ runs by c.in_ok-end.ensures.whole from (above from has))
 
 pub returns-clause-finds : goal.returns-clause-finds
 returns-clause-finds g c =
@@ -274,8 +274,8 @@ returns-clause-finds g c =
     let kept = c.run_round.ensures.keeps in
     let rules_are : n.rules ≡ x.rules = ap (λ (z : LaneState). z.rules) c.run_round.ensures.after ∙ ap (λ (z : LaneState). z.rules) c.begin_round.ensures.after in
     let are : AreRules n.rules = subst AreRules (sym rules_are) (record { some = c.requires.set_up.acked; enough = c.requires.set_up.enough }) in
-    λ line o s stamp w same none.
-    finds-after c.operations_end.ensures.gives_up c.preparing_ends.ensures.round c.rounds_fall_short.ensures.counted c.rounds_fall_short.ensures.applies x m n d key run h line o s stamp w same none
+    λ line o s stamp w same from has none.
+    finds-after c.operations_end.ensures.gives_up c.preparing_ends.ensures.round c.rounds_fall_short.ensures.counted c.rounds_fall_short.ensures.applies x m n d key run h line o s stamp w same from has none
     (ap (λ (z : LaneState). z.lane) c.run_round.ensures.after ∙ ap (λ (z : LaneState). z.lane) c.begin_round.ensures.after) c.requires.keeps kept c.run_round.ensures.none_runs
     end _ _ _ _ _ _ whole c.serving-serving.result c.serving-serving.ensures c.found_after.result c.found_after.ensures
     (somebody-lacks whole.before (journal_of n) whole.run end whole.ended whole.end n.rules.acks (c.rounds_reach_enough.ensures n.lane n.rules are (journal_of n) kept.keeps.legal _ _))

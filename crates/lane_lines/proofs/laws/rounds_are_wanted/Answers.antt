@@ -10,7 +10,7 @@ pub returns : goal.returns
 returns c =
     let law = c.owners_act.ensures in
     record {
-      begun = λ x e d key run keep none begins step line o stamp w.
+      begun = λ x e d key run keep none begins step line o stamp from w.
           let acting = acting-before x.lane (journal_of x) (journal_of e) d key run begins in
           begin-wanted x.lane x.rules run (journal_of x) (journal_of e) d key (part_of x d) (part_of e d) acting begins (keep.keeps.parts_are d) step
           (λ rows at row opened is_row. (
@@ -18,13 +18,13 @@ returns c =
                 (subst (λ (n : ℕ). (part_in x.lane x.rules x.parts.items n).rows ≡ Some rows) (sym begins.distributor_is) opened) is_row,
             law.inside rows key at row is_row,
           ))
-          none line o stamp w;
-      whole = λ x e run end given now runs by h line o stamp w.
-          whole-wanted x.lane x.rules run (journal_of x) runs line o stamp w
+          none line o stamp from w;
+      whole = λ x e run end given now runs by h from above line o stamp w.
+          whole-wanted x.lane x.rules run (journal_of x) runs line o stamp w from
           (subst (λ (b : Low). contains b run.key ≡ true) (sym by.row_is) (law.inside by.rows run.key by.at by.row by.is_row))
-          end given now x.last e.last x.late.late e.late.late (journal_of e) h;
-      cut = λ x e run given now runs by h line o stamp w.
-          cut-wanted x.lane x.rules run (journal_of x) runs line o stamp w
+          end given now x.last above e.last x.late.late e.late.late (journal_of e) h;
+      cut = λ x e run given now runs by h from above line o stamp w.
+          cut-wanted x.lane x.rules run (journal_of x) runs line o stamp w from
           (subst (λ (b : Low). contains b run.key ≡ true) (sym by.row_is) (law.inside by.rows run.key by.at by.row by.is_row))
-          given now x.last e.last x.late.late e.late.late (journal_of e) h;
+          given now x.last above e.last x.late.late e.late.late (journal_of e) h;
     }

@@ -1,20 +1,20 @@
-use Rattle.std.proofs.Common.{◌∙◌, ap}
+use Rattle.std.proofs.Common.{◌∙◌, ap, sym, subst}
 use Rattle.lane_states.specs.declared.lane_state.LaneState.{LaneState}
 use Rattle.lane_states.specs.LaneStates.{journal_of}
 use Rattle.proof_basics.proofs.Results.{if_ok, on_err}
 use Rattle.lane_rounds.proofs.Askings.{on-err}
 use Rattle.lane_lines.proofs.RunningSteps.{quiet-on}
 use Rattle.lane_lines.proofs.Entries.{adds-on}
-use Rattle.lane_lines.proofs.RowsFound.{none-on, for-line, cut-anyway, opened-so, short-so, moved-then, line-on, rows-on, goes-then, finds-then, cuts-then, parts-then}
+use Rattle.bucket_ids.specs.Buckets.{Low}
+use Rattle.lane_keeping.specs.Acting.{IsActing}
+use Rattle.lane_lines.specs.Readying.{search_from, GoesOnWith, IsOpenedFor}
+use Rattle.proof_basics.proofs.Options.{some_same as some-same}
+use Rattle.lane_lines.proofs.RowsFound.{none-on, free-so, opened-so, short-so, moved-then, line-on, rows-on, goes-then, finds-then, cuts-then, parts-then}
 use Rattle.lane_lines.proofs.readying.open_row.Goals as goal
-
-pub open_for_line-requires-clause-for_line : goal.open_for_line-requires-clause-for_line
-open_for_line-requires-clause-for_line g c =
-    for-line c.args.lane.now c.args.distributor c.args.key c.requires.for_line
 
 pub returns-in_err-shortage-clause-cut : goal.returns-in_err-shortage-clause-cut
 returns-in_err-shortage-clause-cut g c =
-    on-err c.from_residual.result _ (cut-anyway c.args.lane.now c.open_for_line.new.lane c.args.distributor c.args.key c.in_err-shortage.ensures.cut)
+    on-err c.from_residual.result _ c.in_err-shortage.ensures.cut
 
 pub fill_row-requires-clause-none_runs : goal.fill_row-requires-clause-none_runs
 fill_row-requires-clause-none_runs g c =
@@ -25,22 +25,33 @@ fill_row-requires-clause-for_line g c =
     let x = c.args.lane.now in
     let y = c.open_for_line.new.lane in
     line-on x y y c.args.distributor c.args.key (ap (λ (w : LaneState). w.lane) c.open_for_line.ensures.after) (ap (λ (w : LaneState). w.rules) c.open_for_line.ensures.after)
-    c.in_ok-shortage.ensures.goes_on (λ line o s stamp w e asked none. opened-so y c.args.distributor line o s c.in_ok-shortage.field-0 (c.in_ok-shortage.ensures.opens line o s stamp w e asked none) c.in-None.is) c.requires.for_line
+    c.in_ok-shortage.ensures.goes_on (λ line o s stamp w e. opened-so (search_from x) y c.args.distributor line o s c.in_ok-shortage.field-0 (c.in_ok-shortage.ensures.opens line o s stamp w e) c.in-None.is) c.requires.for_line
 
 pub fill_row-requires-clause-opened : goal.fill_row-requires-clause-opened
 fill_row-requires-clause-opened g c =
     let x = c.args.lane.now in
     let y = c.open_for_line.new.lane in
     rows-on x y y c.args.distributor c.args.key (ap (λ (w : LaneState). w.lane) c.open_for_line.ensures.after) (ap (λ (w : LaneState). w.rules) c.open_for_line.ensures.after)
-    c.in_ok-shortage.ensures.goes_on (λ line o s stamp w e asked none. opened-so y c.args.distributor line o s c.in_ok-shortage.field-0 (c.in_ok-shortage.ensures.opens line o s stamp w e asked none) c.in-None.is) c.requires.for_line
+    c.in_ok-shortage.ensures.goes_on (λ line o s stamp w e. opened-so (search_from x) y c.args.distributor line o s c.in_ok-shortage.field-0 (c.in_ok-shortage.ensures.opens line o s stamp w e) c.in-None.is) c.requires.for_line
+
+pub fill_row-requires-clause-free : goal.fill_row-requires-clause-free
+fill_row-requires-clause-free g c = λ s heard.
+    let x = c.args.lane.now in
+    let y = c.open_for_line.new.lane in
+    let d = c.args.distributor in
+    let f = c.requires.for_line in
+    let opened : IsOpenedFor (search_from x) y d f.state = opened-so (search_from x) y d f.line f.operation f.state c.in_ok-shortage.field-0 (c.in_ok-shortage.ensures.opens f.line f.operation f.state f.stamp f.waits f.key_is) c.in-None.is in
+    let goes : GoesOnWith (search_from x) x y f.line f.operation d f.state f.stamp = c.in_ok-shortage.ensures.goes_on f.line f.operation f.state f.stamp f.waits f.key_is in
+    let acting : IsActing y.lane (journal_of y) d f.state = subst (λ (l : Low). IsActing l (journal_of y) d f.state) (sym (ap (λ (w : LaneState). w.lane) c.open_for_line.ensures.after)) goes.still.acting in
+    free-so y s f.state y.rules.acks c.args.key (some-same s f.state (sym heard ∙ c.owners_act.ensures.heard _ _ _ _ _ _ _ c.open_for_line.ensures.keeps.keeps d f.state acting)) opened.idle
 
 pub returns-in-Some-clause-goes_on : goal.returns-in-Some-clause-goes_on
 returns-in-Some-clause-goes_on g c =
-    λ line o s stamp w e asked none. c.in_ok-shortage.ensures.goes_on line o s stamp w e asked
+    c.in_ok-shortage.ensures.goes_on
 
 pub returns-in-Some-clause-finds : goal.returns-in-Some-clause-finds
 returns-in-Some-clause-finds g c =
-    λ line o s stamp w e asked none. short-so c.open_for_line.new.lane c.args.distributor line o s c.in_ok-shortage.field-0 (c.in_ok-shortage.ensures.opens line o s stamp w e asked none) c.in-Some.shortage c.in-Some.is
+    λ line o s stamp w e. short-so (search_from c.args.lane.now) c.open_for_line.new.lane c.args.distributor line o s c.in_ok-shortage.field-0 (c.in_ok-shortage.ensures.opens line o s stamp w e) c.in-Some.shortage c.in-Some.is
 
 pub returns-in-None-clause-goes_on : goal.returns-in-None-clause-goes_on
 returns-in-None-clause-goes_on g c =
@@ -48,7 +59,7 @@ returns-in-None-clause-goes_on g c =
     let y = c.open_for_line.new.lane in
     let z = c.fill_row.new.lane in
     if_ok c.fill_row.result (λ end h. goes-then x y z c.args.distributor c.args.key (ap (λ (w : LaneState). w.lane) c.open_for_line.ensures.after) (ap (λ (w : LaneState). w.rules) c.open_for_line.ensures.after)
-    c.in_ok-shortage.ensures.goes_on (λ line o s stamp w e asked none. opened-so y c.args.distributor line o s c.in_ok-shortage.field-0 (c.in_ok-shortage.ensures.opens line o s stamp w e asked none) c.in-None.is) h) c.fill_row.ensures.goes_on
+    c.in_ok-shortage.ensures.goes_on (λ line o s stamp w e. opened-so (search_from x) y c.args.distributor line o s c.in_ok-shortage.field-0 (c.in_ok-shortage.ensures.opens line o s stamp w e) c.in-None.is) h) c.fill_row.ensures.goes_on
 
 pub returns-in-None-clause-finds : goal.returns-in-None-clause-finds
 returns-in-None-clause-finds g c =
@@ -56,7 +67,7 @@ returns-in-None-clause-finds g c =
     let y = c.open_for_line.new.lane in
     let z = c.fill_row.new.lane in
     if_ok c.fill_row.result (λ end h. finds-then x y z c.args.distributor c.args.key (ap (λ (w : LaneState). w.lane) c.open_for_line.ensures.after) (ap (λ (w : LaneState). w.rules) c.open_for_line.ensures.after)
-    c.in_ok-shortage.ensures.goes_on (λ line o s stamp w e asked none. opened-so y c.args.distributor line o s c.in_ok-shortage.field-0 (c.in_ok-shortage.ensures.opens line o s stamp w e asked none) c.in-None.is) end h) c.fill_row.ensures.finds
+    c.in_ok-shortage.ensures.goes_on (λ line o s stamp w e. opened-so (search_from x) y c.args.distributor line o s c.in_ok-shortage.field-0 (c.in_ok-shortage.ensures.opens line o s stamp w e) c.in-None.is) end h) c.fill_row.ensures.finds
 
 pub returns-in-None-clause-cut : goal.returns-in-None-clause-cut
 returns-in-None-clause-cut g c =
@@ -64,7 +75,7 @@ returns-in-None-clause-cut g c =
     let y = c.open_for_line.new.lane in
     let z = c.fill_row.new.lane in
     on_err c.fill_row.result (λ h. cuts-then x y z c.args.distributor c.args.key (ap (λ (w : LaneState). w.lane) c.open_for_line.ensures.after) (ap (λ (w : LaneState). w.rules) c.open_for_line.ensures.after)
-    c.in_ok-shortage.ensures.goes_on (λ line o s stamp w e asked none. opened-so y c.args.distributor line o s c.in_ok-shortage.field-0 (c.in_ok-shortage.ensures.opens line o s stamp w e asked none) c.in-None.is) h) c.fill_row.ensures.cut
+    c.in_ok-shortage.ensures.goes_on (λ line o s stamp w e. opened-so (search_from x) y c.args.distributor line o s c.in_ok-shortage.field-0 (c.in_ok-shortage.ensures.opens line o s stamp w e) c.in-None.is) h) c.fill_row.ensures.cut
 
 pub returns-in-None-clause-quiet : goal.returns-in-None-clause-quiet
 returns-in-None-clause-quiet g c =

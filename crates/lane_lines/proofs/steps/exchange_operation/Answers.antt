@@ -1,13 +1,13 @@
-use Rattle.std.proofs.Common.{◌≡◌, ◌+◌, ◌∷◌, inl, ap, sym, subst}
+use Rattle.std.proofs.Common.{◌≡◌, ◌+◌, ◌∷◌, inl, ap, sym, subst, arith}
 use Rattle.bucket_ids.specs.Buckets.{Low}
 use Rattle.lane_keeping.specs.Replaying.{sending}
 use Rattle.lane_states.specs.declared.lane_state.LaneState.{LaneState}
 use Rattle.lane_states.specs.LaneStates.{journal_of}
 use Rattle.lane_states.proofs.TellingBack.{kept-back}
-use Rattle.operation_keeping.specs.Wants.{Same, More}
+use Rattle.operation_keeping.specs.Wants.{Still, Longer}
 use Rattle.lane_lines.specs.Steps.{GoesIn}
 use Rattle.lane_lines.proofs.Standing.{awaiting-sent, standing-told}
-use Rattle.lane_lines.proofs.RunningSteps.{next-asked, next-no-ask, has-written, wants-sent, going-of, going-sent, run-brought, going-brought, quiet-brought, quiet-sent, quiet-same, told-in}
+use Rattle.lane_lines.proofs.RunningSteps.{next-asked, next-no-ask, has-written, wants-sent, going-of, going-sent, run-brought, unsent-since, going-brought, quiet-brought, quiet-sent, quiet-same, told-in}
 use Rattle.lane_lines.proofs.Entries.{adds-none, adds-went}
 use Rattle.lane_lines.proofs.steps.exchange_operation.Goals as goal
 
@@ -50,8 +50,9 @@ returns-clause-runs g c =
     let back = c.in_ok-reply.ensures.exchanged.brought in
     let lane : e.lane ≡ x.lane = ap (λ (z : LaneState). z.lane) c.exchange.ensures.after in
     λ line row written ready st. (
-      run-brought (x.last + 1) (sending (x.last + 1) m ∷ journal_of x) x.nodes.items m c.in_ok-reply.reply (journal_of e) back x.lane x.rules line t.plan.operation (journal_of x)
-          (More (sending (x.last + 1) m) (journal_of x) Same (wants-sent x.lane x.rules (journal_of x) line row written t m st c.requires.next (x.last + 1) (has-written x.lane x.rules (journal_of x) line row written t m st c.requires.next ready))),
+      (λ from has. run-brought (x.last + 1) (sending (x.last + 1) m ∷ journal_of x) x.nodes.items m c.in_ok-reply.reply (journal_of e) back x.lane x.rules line t.plan.operation from (journal_of x)
+          (unsent-since from (journal_of x) x.last (x.last + 1) has c.requires.keeps.keeps.numbered (omega arith))
+          (Longer (sending (x.last + 1) m) (journal_of x) Still (wants-sent x.lane x.rules (journal_of x) line row written t m st c.requires.next from (x.last + 1) (has-written x.lane x.rules (journal_of x) line row written t m st c.requires.next ready)))),
       subst (λ (l : Low). GoesIn (record e { lane = l }) line t.plan) (sym lane)
           (going-brought (x.last + 1) (sending (x.last + 1) m ∷ journal_of x) x.nodes.items m c.in_ok-reply.reply (journal_of e) back x.lane line t.plan
           (going-sent x.lane line t.plan (journal_of x) (x.last + 1) m (going-of x.lane x.rules (journal_of x) line row written t st))),

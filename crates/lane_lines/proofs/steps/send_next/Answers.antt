@@ -4,7 +4,7 @@ use Rattle.op_machine.specs.Outcomes.{Asks}
 use Rattle.op_machine.specs.Standings.{next_at}
 use Rattle.lane_states.specs.declared.lane_state.LaneState.{LaneState}
 use Rattle.lane_states.specs.LaneStates.{journal_of}
-use Rattle.operation_keeping.specs.Wants.{Same}
+use Rattle.operation_keeping.specs.Wants.{Still}
 use Rattle.lane_lines.specs.Steps.{SendsIn, SentIn, IsStandingTold}
 use Rattle.lane_lines.proofs.MessageKeys.{message-key}
 use Rattle.lane_lines.proofs.RunningSteps.{asks-of, run-same, going-of, wrote-in, sent-in, quiet-on}
@@ -13,10 +13,10 @@ use Rattle.lane_lines.proofs.Entries.{finds-grown}
 use Rattle.lane_lines.proofs.steps.send_next.Goals as goal
 
 pub returns-in_err-message-clause-run : goal.returns-in_err-message-clause-run
-returns-in_err-message-clause-run g c = Same
+returns-in_err-message-clause-run g c = λ from has. Still
 
 pub returns-in_default-clause-run : goal.returns-in_default-clause-run
-returns-in_default-clause-run g c = Same
+returns-in_default-clause-run g c = λ from has. Still
 
 pub write_wanted-requires-clause-wants : goal.write_wanted-requires-clause-wants
 write_wanted-requires-clause-wants g c = record {

@@ -2,7 +2,7 @@ use Rattle.std.proofs.Common.{Bool, ap, subst}
 use Rattle.lane_journals.specs.declared.event.LaneEvent.TheVariants.{Wrote}
 use Rattle.lane_states.specs.declared.lane_state.LaneState.{LaneState}
 use Rattle.lane_states.specs.LaneStates.{journal_of}
-use Rattle.operation_keeping.specs.Wants.{Same}
+use Rattle.operation_keeping.specs.Wants.{Still}
 use Rattle.lane_lines.specs.Steps.{StandsIn}
 use Rattle.lane_lines.proofs.RunningSteps.{unwritten, writes-on, quiet-wrote, quiet-same}
 use Rattle.lane_lines.proofs.Carrying.{carried-more}
@@ -17,7 +17,7 @@ write_entry-requires-clause-legal c =
     (c.operations_write.ensures.due w.standing c.args.message.now c.in-Store.entry w.next c.in-Store.is)).legal
 
 pub returns-then-written-clause-writes : goal.returns-then-written-clause-writes
-returns-then-written-clause-writes c = λ row t next st. (subst (λ (b : Bool). StandsIn c.args.lane.now c.args.line row b t) c.if-written.true st, Same)
+returns-then-written-clause-writes c = λ row t next st. (subst (λ (b : Bool). StandsIn c.args.lane.now c.args.line row b t) c.if-written.true st, λ from has. Still)
 
 pub returns-in_ok-write_entry-in-Store-clause-writes : goal.returns-in_ok-write_entry-in-Store-clause-writes
 returns-in_ok-write_entry-in-Store-clause-writes c =
@@ -32,7 +32,7 @@ returns-in_ok-write_entry-in-Store-clause-writes c =
     (c.operations_write.ensures.due t m c.in-Store.entry next c.in-Store.is))
 
 pub returns-in-Ask-2-clause-writes : goal.returns-in-Ask-2-clause-writes
-returns-in-Ask-2-clause-writes c = λ row t next st. (st, Same)
+returns-in-Ask-2-clause-writes c = λ row t next st. (st, λ from has. Still)
 
 pub returns-in_ok-write_entry-in-Store-clause-carried : goal.returns-in_ok-write_entry-in-Store-clause-carried
 returns-in_ok-write_entry-in-Store-clause-carried c =

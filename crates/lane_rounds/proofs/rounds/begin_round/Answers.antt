@@ -16,6 +16,7 @@ use Rattle.lane_keeping.proofs.Parts.{part-others}
 use Rattle.round_keeping.proofs.RoundEnds.{owning-of, inside-of, owner-as, begun-of, begins-by, run-by, begins-at, both-at, now-at, alike-at}
 use Rattle.round_keeping.proofs.Runs.{carried-decided}
 use Rattle.lane_rounds.proofs.Accepting.{accepted-changed}
+use Rattle.lane_rounds.proofs.FreeRows.{idle-begun}
 use Rattle.lane_rounds.proofs.rounds.begin_round.Goals as goal
 
 pub begin_step-requires-clause-owner : goal.begin_step-requires-clause-owner
@@ -89,7 +90,7 @@ returns-clause-keeps c =
     let step : BeginsRound (part_in x.lane x.rules x.parts.items d) q c.args.key plan.bucket plan.receivers = subst (λ (z : Part). BeginsRound z q c.args.key plan.bucket plan.receivers) (sym is) c.in-Some-begin_step.ensures.some in
     let begun : IsBegun x.lane x.rules (journal_of x) x.parts.items d s q step.at plan.bucket plan.receivers = begun-of x.lane x.rules (journal_of x) x.parts.items d step.at c.args.key q plan.bucket plan.receivers s
     (round_at (part_in x.lane x.rules x.parts.items d) q c.args.key plan.bucket plan.receivers step) step.is_row.has acting c.bits-bits.ensures.valid
-    (λ rows key at row e h. c.owners_act.ensures.rows _ _ _ _ _ _ _ keep d s acting rows key at row e h) (c.requires.idle s.version plan.bucket) (c.requires.none_runs s.version) in
+    (λ rows key at row e h. c.owners_act.ensures.rows _ _ _ _ _ _ _ keep d s acting rows key at row e h) (idle-begun (journal_of x) s x.rules (part_in x.lane x.rules x.parts.items d) q c.args.key plan.bucket plan.receivers (c.requires.free s heard) (keep.parts_are d).rules_are step (λ rows key at row e h. c.owners_act.ensures.rows _ _ _ _ _ _ _ keep d s acting rows key at row e h) (λ rows key at row h. c.owners_act.ensures.inside rows key at row h)) (c.requires.none_runs s.version) in
     let keep1 = c.events_are_kept.ensures.quiet _ _ _ _ _ _ _ keep (Decided d s.version (RoundBegun plan.bucket plan.receivers)) tt (c.rounds_begin.ensures.legal _ _ _ _ _ _ _ keep d s q step.at plan.bucket plan.receivers begun) in
     rw (c.push_within.ensures.past, c.version.ensures.value, c.from.ensures)
     (kept_more c.requires.keeps (c.parts_are_told.ensures.alike _ _ _ _ _ _ _ keep1 d (slice_set x.parts.items d q) p.asked p.awaited (Running c.in-Some-begin_step.ensures.some.at plan.receivers)
@@ -113,7 +114,7 @@ returns-clause-begins c =
     let step : BeginsRound (part_in x.lane x.rules x.parts.items d) q c.args.key plan.bucket plan.receivers = subst (λ (z : Part). BeginsRound z q c.args.key plan.bucket plan.receivers) (sym is) c.in-Some-begin_step.ensures.some in
     let begun : IsBegun x.lane x.rules (journal_of x) x.parts.items d s q step.at plan.bucket plan.receivers = begun-of x.lane x.rules (journal_of x) x.parts.items d step.at c.args.key q plan.bucket plan.receivers s
     (round_at (part_in x.lane x.rules x.parts.items d) q c.args.key plan.bucket plan.receivers step) step.is_row.has acting c.bits-bits.ensures.valid
-    (λ rows key at row e h. c.owners_act.ensures.rows _ _ _ _ _ _ _ keep d s acting rows key at row e h) (c.requires.idle s.version plan.bucket) (c.requires.none_runs s.version) in
+    (λ rows key at row e h. c.owners_act.ensures.rows _ _ _ _ _ _ _ keep d s acting rows key at row e h) (idle-begun (journal_of x) s x.rules (part_in x.lane x.rules x.parts.items d) q c.args.key plan.bucket plan.receivers (c.requires.free s heard) (keep.parts_are d).rules_are step (λ rows key at row e h. c.owners_act.ensures.rows _ _ _ _ _ _ _ keep d s acting rows key at row e h) (λ rows key at row h. c.owners_act.ensures.inside rows key at row h)) (c.requires.none_runs s.version) in
     rw (c.push_within.ensures.past, c.version.ensures.value)
     (begins-by x.lane (journal_of x) d s plan.bucket plan.receivers c.args.key c.run_of.result c.run_of.ensures acting c.requires.none_runs
     (c.rounds_begin.ensures.knows _ _ _ _ _ _ _ keep d s q step.at plan.bucket plan.receivers begun c.run_of.ensures.readers c.run_of.ensures.readers_are))

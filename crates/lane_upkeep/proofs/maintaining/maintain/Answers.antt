@@ -1,4 +1,5 @@
 use Rattle.std.proofs.Common.{inl, inr, refl, rules}
+use Rattle.lane_upkeep.proofs.Reaching.{passes-reach}
 use Rattle.lane_upkeep.proofs.Resting.{rests-if}
 use Rattle.lane_upkeep.proofs.maintaining.maintain.Goals as goal
 
@@ -33,3 +34,13 @@ returns-then-not-branch-clause-passes g c =
       opening = c.open_owner.ensures.on;
       behind = inr (c.in_ok-open_owner.ensures.lacking c.if-not-branch.true, refl, refl);
     }
+
+pub returns-clause-run : goal.returns-clause-run
+returns-clause-run g c =
+    let e = c.make_pass.new.lane in
+    rests-if c.make_pass.result _ _
+    (λ pass. passes-reach c.settings_are_found.ensures.ordered c.upkeep_goes_on.ensures.span c.upkeep_leaves_states.ensures.stopped c.args.lane.now c.open_owner.new.lane e c.args.owner.now (g.C.Carrier.given c.open_owner.new.carrier) (g.C.Carrier.given c.make_pass.new.carrier)
+    c.nodes_are_few.ensures (c.make_pass.ensures.passing.keeps.keeps).legal c.open_owner.ensures.on c.make_pass.ensures.on pass) c.make_pass.ensures.pass
+
+pub returns-then-not-branch-clause-run : goal.returns-then-not-branch-clause-run
+returns-then-not-branch-clause-run g c = λ back. absurd (c.in_ok-open_owner.ensures.lacking c.if-not-branch.true back)

@@ -51,13 +51,15 @@ returns-in_ok-round-in-Round-clause-quiet g c = does_step c.passes_stand.ensures
     c.next_of.new.pass c.round.new.pass _ c.requires.passing c.rows_are_whole.ensures.whole c.in-Round.ensures.comes c.in_ok-round-in-Round.ensures.quiet
 
 pub returns-in-Finished-clause-takes : goal.returns-in-Finished-clause-takes
-returns-in-Finished-clause-takes g c = record { step = Finished; next = c.next_of.new.pass; comes = c.in-Finished.ensures.comes; may = tt; does = (refl, refl, refl, refl) }
+returns-in-Finished-clause-takes g c = record { whole = c.rows_are_whole.ensures.whole; on = on_none c.args.lane.now c.args.owner.now; step = Finished; next = c.next_of.new.pass; comes = c.in-Finished.ensures.comes; may = tt; does = (refl, refl, refl, refl) }
 
 pub returns-in_ok-say-in-Tell-clause-takes : goal.returns-in_ok-say-in-Tell-clause-takes
-returns-in_ok-say-in-Tell-clause-takes g c = record { step = Tell c.in-Tell.node c.in-Tell.body; next = c.next_of.new.pass; comes = c.in-Tell.ensures.comes; may = c.in-Tell.ensures.may; does = c.in_ok-say-in-Tell.ensures.does }
+returns-in_ok-say-in-Tell-clause-takes g c = record { whole = c.rows_are_whole.ensures.whole; on = c.say.ensures.on; step = Tell c.in-Tell.node c.in-Tell.body; next = c.next_of.new.pass; comes = c.in-Tell.ensures.comes; may = c.in-Tell.ensures.may; does = c.in_ok-say-in-Tell.ensures.does }
 
 pub returns-in_ok-decide-in-Decide-clause-takes : goal.returns-in_ok-decide-in-Decide-clause-takes
 returns-in_ok-decide-in-Decide-clause-takes g c = record {
+  whole = c.rows_are_whole.ensures.whole;
+  on = c.decide.ensures.on;
   step = Decide c.in-Decide.at c.in-Decide.decision;
   next = c.next_of.new.pass;
   comes = c.in-Decide.ensures.comes;
@@ -66,7 +68,7 @@ returns-in_ok-decide-in-Decide-clause-takes g c = record {
 }
 
 pub returns-in-Accept-clause-takes : goal.returns-in-Accept-clause-takes
-returns-in-Accept-clause-takes g c = record { step = Accept c.in-Accept.at; next = c.next_of.new.pass; comes = c.in-Accept.ensures.comes; may = c.in-Accept.ensures.may; does = (refl, c.note_acceptance.ensures.does) }
+returns-in-Accept-clause-takes g c = record { whole = c.rows_are_whole.ensures.whole; on = c.note_acceptance.ensures.on; step = Accept c.in-Accept.at; next = c.next_of.new.pass; comes = c.in-Accept.ensures.comes; may = c.in-Accept.ensures.may; does = (refl, c.note_acceptance.ensures.does) }
 
 pub returns-in_ok-round-in-Round-clause-takes : goal.returns-in_ok-round-in-Round-clause-takes
-returns-in_ok-round-in-Round-clause-takes g c = record { step = Round c.in-Round.at; next = c.next_of.new.pass; comes = c.in-Round.ensures.comes; may = c.in-Round.ensures.may; does = c.in_ok-round-in-Round.ensures.does }
+returns-in_ok-round-in-Round-clause-takes g c = record { whole = c.rows_are_whole.ensures.whole; on = c.round.ensures.on; step = Round c.in-Round.at; next = c.next_of.new.pass; comes = c.in-Round.ensures.comes; may = c.in-Round.ensures.may; does = c.in_ok-round-in-Round.ensures.does }

@@ -1,4 +1,4 @@
-use Rattle.std.proofs.Common.{◌≡◌, true, None, subst, refl, arith}
+use Rattle.std.proofs.Common.{◌≡◌, true, None, [], subst, refl, arith}
 use Rattle.cluster_states.specs.Publishing.{publish_fault}
 use Rattle.lane_journals.specs.Places.{told}
 use Rattle.lane_keeping.specs.LaneKeeping.{setting_of}
@@ -12,7 +12,7 @@ loop-lane-init g c = (refl, below_none IsLaneValue _)
 
 pub announce-requires-clause-idle : goal.announce-requires-clause-idle
 announce-requires-clause-idle g c =
-    subst (λ (v : LaneValue). v.under_way ≡ None) c.lane-item.is
+    subst (λ (v : LaneValue). v.under_way ≡ []) c.lane-item.is
     (c.requires _ _ (each_there (after_state c.args.state.now c.args.deaf) _ _ _ _ c.loop-lane-test.true c.loop-lane.invariant.0 c.lane-item.is)).roomy.idle
 
 pub announce-requires-clause-room : goal.announce-requires-clause-room

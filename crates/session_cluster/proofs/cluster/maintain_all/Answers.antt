@@ -1,4 +1,4 @@
-use Rattle.std.proofs.Common.{◌≡◌, None, Some, inr, subst, slice_get}
+use Rattle.std.proofs.Common.{◌≡◌, [], Some, inr, subst, slice_get}
 use Rattle.std.specs.Option.{IsSome}
 use Rattle.lane_lives.specs.LaneValues.{LaneValue}
 use Rattle.lane_keeping.specs.Tidings.{last_state}
@@ -7,7 +7,7 @@ use Rattle.session_cluster.proofs.cluster.maintain_all.Goals as goal
 
 pub maintain-requires-clause-idle : goal.maintain-requires-clause-idle
 maintain-requires-clause-idle g c =
-    subst (λ (v : LaneValue). v.under_way ≡ None) c.lane-item.is
+    subst (λ (v : LaneValue). v.under_way ≡ []) c.lane-item.is
     (c.requires.may _ _ (next_there _ _ _ _ _ c.loop-lane.invariant c.loop-lane-test.true c.lane-item.is)).idle
 
 pub maintain-requires-clause-published : goal.maintain-requires-clause-published

@@ -1,4 +1,4 @@
-use Rattle.std.proofs.Common.{◌≡◌, true, None, subst, refl, arith}
+use Rattle.std.proofs.Common.{◌≡◌, true, [], subst, refl, arith}
 use Rattle.lane_lives.specs.LaneValues.{LaneValue, IsLaneValue}
 use Rattle.session_cluster.specs.Steps.{after_stop}
 use Rattle.session_cluster.proofs.Elements.{each_more, each_there, below_none, below_set, below_all}
@@ -9,7 +9,7 @@ loop-lane-init g c = (refl, below_none IsLaneValue _)
 
 pub stop-requires-clause-idle : goal.stop-requires-clause-idle
 stop-requires-clause-idle g c =
-    subst (λ (v : LaneValue). v.under_way ≡ None) c.lane-item.is
+    subst (λ (v : LaneValue). v.under_way ≡ []) c.lane-item.is
     (c.requires.roomy _ _ (each_there (after_stop c.args.node) _ _ _ _ c.loop-lane-test.true c.loop-lane.invariant.0 c.lane-item.is)).idle
 
 pub stop-requires-clause-room : goal.stop-requires-clause-room

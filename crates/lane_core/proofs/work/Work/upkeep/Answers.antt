@@ -54,7 +54,7 @@ returns-clause-opened g c =
     let same : journal_of c.need_part.new.self.state ≡ journal_of c.args.self.now.state = ap (λ (w : Work). journal_of w.state) c.need_part.ensures.after ∙ ap past c.room_to_begin.ensures.items in
     opens-by c.upkeep_goes_on.ensures.span c.upkeep_goes_on.ensures.behind c.maintain.result c.args.self.now c.hear_within.new.self c.maintain.new.self (record { distributor = d; state = s })
     (sym c.requires.keeps.newest_is ∙ c.in-Some.is) (c.hear_within.ensures.grows ∙ ap (λ (K : List LaneEvent). heard_next d (Some s) K) same)
-    c.maintain.ensures.on c.maintain.ensures.opened
+    c.maintain.ensures.on c.maintain.ensures.opened c.maintain.ensures.run
 
 pub returns-clause-rests : goal.returns-clause-rests
 returns-clause-rests g c =

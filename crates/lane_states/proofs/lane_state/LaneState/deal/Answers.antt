@@ -1,9 +1,10 @@
-use Rattle.std.proofs.Common.{Some, ap, refl, subst}
+use Rattle.std.proofs.Common.{◌+◌, Some, length, ap, refl, subst, ◌∙◌, arith}
 use Rattle.lane_states.specs.declared.lane_state.LaneState.{LaneState}
 use Rattle.lane_states.specs.LaneStates.{journal_of, IsKeptWith}
 use Rattle.lane_states.specs.Exchanging.{Nothing}
 use Rattle.lane_states.proofs.Exchanging.{delivers-same, delivers-one, brought-more}
 use Rattle.lane_states.proofs.TellingBack.{kept-somehow}
+use Rattle.lane_states.proofs.Turns.{fewer-places, places-late}
 use Rattle.lane_states.proofs.NodeSpans.{on-same, on-then}
 use Rattle.lane_keeping.specs.LaneKeeping.{node_in}
 use Rattle.lane_states.proofs.lane_state.LaneState.deal.Goals as goal
@@ -48,3 +49,33 @@ returns-in-Twice-clause-keeps c parts are = c.deliver-in-Twice.ensures.keeps par
 
 pub returns-in-Late-clause-keeps : goal.returns-in-Late-clause-keeps
 returns-in-Late-clause-keeps c = subst (λ (z : LaneState). IsKeptWith z.parts.items c.keep_late.new.self) c.keep_late.ensures.after c.keep_late.ensures.keeps
+
+-- ---- places for what is told
+
+pub returns-in-Deliver-clause-places : goal.returns-in-Deliver-clause-places
+returns-in-Deliver-clause-places c =
+    let x = c.args.self.now in
+    let b = c.bring_back.new.self in
+    let n = length x.late.late in
+    fewer-places (length b.late.late) (length b.late.late + 0) b (omega arith)
+    (places-late x b 0 (ap (λ (z : LaneState). z.late.late) c.bring_back.ensures.after) (c.bring_back.ensures.places (n + 0) (fewer-places (n + 0 + 1) (n + 2) x (omega arith) c.requires.places)))
+
+pub returns-in-LoseReply-clause-places : goal.returns-in-LoseReply-clause-places
+returns-in-LoseReply-clause-places c =
+    let x = c.args.self.now in
+    let e = c.deliver.new.self in
+    let n = length x.late.late in
+    fewer-places (length e.late.late) (length e.late.late + 0) e (omega arith)
+    (places-late x e 0 (ap (λ (z : LaneState). z.late.late) c.deliver.ensures.after) (c.deliver.ensures.places (n + 0) (fewer-places (n + 0 + 1) (n + 2) x (omega arith) c.requires.places)))
+
+pub deliver-requires-in-Twice-clause-places : goal.deliver-requires-in-Twice-clause-places
+deliver-requires-in-Twice-clause-places c = c.bring_back-reply.ensures.places 1 (fewer-places 2 (length c.args.self.now.late.late + 2) c.args.self.now (omega arith) c.requires.places)
+
+pub returns-in-Twice-clause-places : goal.returns-in-Twice-clause-places
+returns-in-Twice-clause-places c =
+    let x = c.args.self.now in
+    let e = c.deliver-in-Twice.new.self in
+    let n = length x.late.late in
+    fewer-places (length e.late.late) (length e.late.late + 0) e (omega arith)
+    (places-late x e 0 (ap (λ (z : LaneState). z.late.late) c.deliver-in-Twice.ensures.after ∙ ap (λ (z : LaneState). z.late.late) c.bring_back-reply.ensures.after)
+    (c.deliver-in-Twice.ensures.places (n + 0) (c.bring_back-reply.ensures.places (n + 0 + 1) (fewer-places (n + 0 + 1 + 1) (n + 2) x (omega arith) c.requires.places))))

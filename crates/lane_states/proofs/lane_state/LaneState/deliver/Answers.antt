@@ -41,7 +41,8 @@ returns-clause-keeps c parts k =
     (taken-at x.nodes.items m y c.take_at-reply.new.self r within here c.take_at-reply.ensures.takes))
     (told-more (journal_of x) (delivered c.args.number r) (changes_taken y m r) (tells_of x) _ k.told_is told refl
     (c.push_telling.ensures.told ∙ ap (λ (cs : List LaneChange). min (x.journal.told + length cs) 18446744073709551615) c.take_at-reply.ensures.changes)
-    (λ l. let was = c.push_telling.ensures.kept l in (was.0, was.1 ∙ ap (λ (cs : List LaneChange). all_kept x.journal.kept.items ++ cs) c.take_at-reply.ensures.changes))))
+    (c.push_telling.ensures.kept ∙ ap (λ (cs : List LaneChange). all_kept x.journal.kept.items ++ cs) c.take_at-reply.ensures.changes)
+    (λ _. search rules)))
 
 pub returns-clause-taken : goal.returns-clause-taken
 returns-clause-taken c =

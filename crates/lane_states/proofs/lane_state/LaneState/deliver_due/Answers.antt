@@ -15,6 +15,7 @@ loop-init c = record {
   nodes = refl;
   len = omega arith;
   capacity = omega arith;
+  places = c.requires.places;
 }
 
 pub deliver_first-requires-clause-keeps : goal.deliver_first-requires-clause-keeps
@@ -39,4 +40,5 @@ loop-preserved c =
       nodes = c.deliver_first.ensures.nodes ∙ c.loop.invariant.nodes;
       len = (let a = c.loop.invariant.len in let b = c.deliver_first.ensures.len in omega (arith, a, b));
       capacity = (let a = c.loop.invariant.capacity in let b = c.deliver_first.ensures.capacity in omega (arith, a, b));
+      places = c.deliver_first.ensures.places;
     }

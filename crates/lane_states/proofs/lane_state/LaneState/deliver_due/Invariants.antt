@@ -1,5 +1,5 @@
 use Rattle.std.proofs.Common.{◌≡◌, ◌≤◌, ◌+◌, length, vec_len, vec_capacity}
-use Rattle.lane_states.specs.LaneStates.{journal_of, StaysKept, NodesOn}
+use Rattle.lane_states.specs.LaneStates.{journal_of, HasPlaces, StaysKept, NodesOn}
 use Rattle.lane_carriage.specs.Carrying.{DeliversSome}
 use Rattle.lane_states.proofs.lane_state.LaneState.deliver_due.Given as goal
 
@@ -13,6 +13,7 @@ invariant-loop l = record {
   nodes : vec_len l.self.nodes ≡ vec_len l.fn.self.nodes;
   len : vec_len l.self.journal.events + length l.self.late.late ≤ vec_len l.fn.self.journal.events + length l.fn.self.late.late;
   capacity : vec_capacity l.fn.self.journal.events ≤ vec_capacity l.self.journal.events;
+  places : HasPlaces (length l.self.late.late) l.self;
 }
 
 abbrev pub decreases-loop : goal.decreases-loop

@@ -5,7 +5,7 @@ use Rattle.lane_states.proofs.Counts.{told-nothing}
 use Rattle.lane_states.proofs.lane_state.LaneState.new.Goals as goal
 
 pub returns-clause-keeps : goal.returns-clause-keeps
-returns-clause-keeps c = rw (c.new.ensures.items, past-nil, c.new-2.ensures.items, c.new-3.ensures.items, c.new-4.ensures.items, c.new-5.ensures) (record { small = c.requires.small; coming = tt; keeps = c.lanes_begin.ensures c.args.lane c.args.rules; counted = omega arith; stops_are = λ n. sym (c.none.ensures n); accepted = accepted-none c.args.lane c.args.rules; told_is = told-nothing _ c.requires.unused })
+returns-clause-keeps c = rw (c.new.ensures.items, past-nil, c.new-2.ensures.items, c.new-3.ensures.items, c.new-4.ensures.items, c.new-5.ensures) (record { small = c.requires.small; coming = tt; keeps = c.lanes_begin.ensures c.args.lane c.args.rules; counted = omega arith; stops_are = λ n. sym (c.none.ensures n); accepted = accepted-none c.args.lane c.args.rules; told_is = told-nothing _ _ _ c.requires.unused })
 
 pub returns-clause-journal : goal.returns-clause-journal
 returns-clause-journal c = rw c.new.ensures.items past-nil

@@ -1,9 +1,10 @@
-use Rattle.std.proofs.Common.{◌+◌, ap}
+use Rattle.std.proofs.Common.{◌+◌, length, ap}
 use Rattle.lane_carriage.specs.Waits.{numbers}
 use Rattle.lane_states.specs.declared.lane_state.LaneState.{LaneState}
 use Rattle.lane_states.proofs.Exchanging.{brought-sent}
 use Rattle.lane_states.proofs.Going.{IsSentIn, went-by, went-carried}
 use Rattle.lane_states.proofs.TellingBack.{asker-sent, kept-somehow, back-after}
+use Rattle.lane_states.proofs.Turns.{places-late}
 use Rattle.lane_states.proofs.NodeSpans.{on-event, on-then}
 use Rattle.lane_keeping.specs.Replaying.{sending}
 use Rattle.lane_keeping.specs.LaneKeeping.{node_in}
@@ -49,3 +50,8 @@ deal-reply-requires-clause-asker g c = asker-sent c.args.self.now c.send_message
 pub returns-clause-keeps : goal.returns-clause-keeps
 returns-clause-keeps g c =
     back-after c.args.self.now c.send_message.new.self c.deal-reply.new.self c.deliver_due.new.self c.args.message c.deal-reply.result c.send_message.ensures.after c.deliver_due.ensures.keeps c.deal-reply.ensures.keeps
+
+pub deal-reply-requires-clause-places : goal.deal-reply-requires-clause-places
+deal-reply-requires-clause-places g c =
+    let x = c.args.self.now in
+    places-late x c.send_message.new.self 2 (ap (λ (z : LaneState). z.late.late) c.send_message.ensures.after) (c.send_message.ensures.places (length x.late.late + 2) c.requires.places)

@@ -25,14 +25,14 @@ returns-clause-ok g c =
     let new = c.operate.new.self in
     let at = lane_is _ _ _ _ c.lane_at-at.ensures.value c.key_of-key.ensures.value in
     let done = subst (λ n. IsOperatedIn n c.args.line c.args.operation.now c.args.via c.args.self.now new x) at c.in_ok-outcome.ensures.ok in
-    rw c.settle_at-settled.ensures (IfOk-weaker c.answer.result _ _ (λ answer told. (
+    IfOk-weaker c.answer.result _ _ (λ answer told. (
       (x, done),
       answered c.args.setting.now c.args.self.now new c.args.line c.args.operation.now c.args.via x answer done
           (told ∙ ap (λ n. outcome_answer x (entry_of x (journal_in n (journals_of new)))) at),
-    )) (rw c.settle_at-settled.ensures at c.answer.ensures))
+    )) c.answer.ensures
 
 pub returns-clause-err : goal.returns-clause-err
 returns-clause-err g c =
     let at = lane_is _ _ _ _ c.lane_at-at.ensures.value c.key_of-key.ensures.value in
-    rw c.settle_at-settled.ensures (err_then c.answer.result
-    (inr (c.in_ok-outcome.outcome, subst (λ n. IsOperatedIn n c.args.line c.args.operation.now c.args.via c.args.self.now c.operate.new.self c.in_ok-outcome.outcome) at c.in_ok-outcome.ensures.ok)))
+    err_then c.answer.result
+    (inr (c.in_ok-outcome.outcome, subst (λ n. IsOperatedIn n c.args.line c.args.operation.now c.args.via c.args.self.now c.operate.new.self c.in_ok-outcome.outcome) at c.in_ok-outcome.ensures.ok))

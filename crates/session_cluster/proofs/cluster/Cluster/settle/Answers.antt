@@ -1,13 +1,22 @@
+use Rattle.std.proofs.Common.{sym, subst}
 use Rattle.std.proofs.lemmas.List.{with_items_is}
-use Rattle.session_cluster.proofs.Reborrowed.{still_cluster, same_as_many, unchanged}
+use Rattle.std.proofs.lemmas.Result.{on_ok_weaker}
+use Rattle.lane_core.specs.Showing.{IsSettled}
+use Rattle.session_cluster.specs.Steps.{EachLane}
+use Rattle.session_cluster.proofs.Reborrowed.{still_cluster, shown_many, shown_on}
 use Rattle.session_cluster.proofs.cluster.Cluster.settle.Goals as goal
 
 pub invariant_of-self : goal.invariant_of-self
 invariant_of-self g c =
-    let many = same_as_many c.self.inside.lanes.items _ c.settle_all.new.lanes _ c.self.inside.lanes.ok.0 c.deref_mut.ensures.value c.settle_all.ensures in
+    let many = shown_many c.self.inside.lanes.items _ c.settle_all.new.lanes _ c.self.inside.lanes.ok.0 c.deref_mut.ensures.value c.settle_all.ensures.same in
     still_cluster _ _ c.self.inside.lanes.items c.settle_all.new.lanes _ c.self.invariant c.self.inside.lanes.ok.0 many (with_items_is c.self.inside.lanes c.settle_all.new.lanes many)
 
-pub returns : goal.returns
-returns g c =
-    let many = same_as_many c.self.inside.lanes.items _ c.settle_all.new.lanes _ c.self.inside.lanes.ok.0 c.deref_mut.ensures.value c.settle_all.ensures in
-    unchanged c.args.self.now _ _ c.settle_all.new.lanes _ c.self.view_is c.deref_mut.ensures.value c.settle_all.ensures (with_items_is c.self.inside.lanes c.settle_all.new.lanes many)
+pub returns-clause-shown : goal.returns-clause-shown
+returns-clause-shown g c =
+    let many = shown_many c.self.inside.lanes.items _ c.settle_all.new.lanes _ c.self.inside.lanes.ok.0 c.deref_mut.ensures.value c.settle_all.ensures.same in
+    shown_on c.args.self.now _ _ c.settle_all.new.lanes _ c.self.view_is c.deref_mut.ensures.value c.settle_all.ensures.same (with_items_is c.self.inside.lanes c.settle_all.new.lanes many)
+
+pub returns-clause-settled : goal.returns-clause-settled
+returns-clause-settled g c =
+    let many = shown_many c.self.inside.lanes.items _ c.settle_all.new.lanes _ c.self.inside.lanes.ok.0 c.deref_mut.ensures.value c.settle_all.ensures.same in
+    on_ok_weaker c.settle_all.result (subst (EachLane IsSettled) (sym (with_items_is c.self.inside.lanes c.settle_all.new.lanes many))) c.settle_all.ensures.settled

@@ -1,0 +1,4 @@
+mod Prefixes
+mod Adding
+mod Rules
+mod Facing

@@ -1,0 +1,41 @@
+-- What holds of the value of each lane.
+use Rattle.std.proofs.Common.{◌≡◌, ℕ, Bool, false, List, Some, IsSome, slice_get, inl, inr, refl, sym, ap, subst}
+use Rattle.carriers.specs.declared.fate.Fate.{Fate}
+use Rattle.distributor_part.specs.declared.rules.Rules.{Rules}
+use Rattle.bucket_ids.specs.Buckets.{Low}
+use Rattle.lane_states.specs.LaneStates.{journal_of}
+use Rattle.lane_journals.specs.Readers.{began, closed}
+use Rattle.lane_journals.specs.Meanings.{history}
+use Rattle.lane_journals.specs.declared.event.LaneEvent.{LaneEvent}
+use Rattle.lane_lives.specs.LaneValues.{LinesAre, IsLaneValue}
+use Rattle.lane_lives.specs.declared.progress.UnderWay.{UnderWay}
+use Rattle.lane_core.specs.declared.work.Job.{Job}
+use Rattle.lane_core.specs.declared.work.Work.{Work}
+use Rattle.lane_core.specs.Works.{AreJobs, under_way_at, under_way_in, value_of}
+use Rattle.lane_core.specs.LaneInside.{IsLane}
+use Rattle.lane_core.proofs.Places.{get-map, get-map-back}
+
+module _ (lane : Low) (rules : Rules) (J : List LaneEvent) (jobs : List Job) (a : AreJobs lane rules J jobs) where
+  -- an operation under way was begun, and isn't closed
+  unclosed : (at : ℕ) (u : UnderWay) → slice_get (under_way_in jobs) at ≡ Some u → IsSome (began u.line (history J)) × (closed u.line (history J) ≡ false)
+  unclosed at u found =
+      let b = get-map-back under_way_at jobs at u found in
+      let j = a.each at b.0 b.1 in
+      let line : u.line ≡ (b.0).line = ap (λ (x : UnderWay). x.line) b.2 in
+      (subst (λ (n : ℕ). IsSome (began n (history J))) (sym line) (subst IsSome (sym (j.under_way).begun_as) refl), subst (λ (n : ℕ). closed n (history J) ≡ false) (sym line) (j.under_way).unclosed)
+
+  lines-are : LinesAre (history J) (under_way_in jobs)
+  lines-are = record {
+    unclosed = unclosed;
+    others = λ line begin begun. elim (a.others line begin begun) [
+      | inl closed_is ↦ inl closed_is
+      | inr there ↦ inr (there.0, under_way_at there.1, record { found = get-map under_way_at jobs there.0 there.1 there.2; line_is = there.3 })
+    ];
+  }
+
+pub lane-value : (w : Work) (given planned : List Fate) (takes : Bool) → IsLane w given → IsLaneValue (value_of w given planned takes)
+lane-value w given planned takes is = record {
+  legal = ((is.works).kept).keeps.legal;
+  carried = (is.carried).carried;
+  lines = lines-are w.state.lane w.state.rules (journal_of w.state) w.jobs.items (is.works).jobs_are;
+}

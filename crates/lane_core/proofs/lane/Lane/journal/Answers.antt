@@ -1,0 +1,8 @@
+use Rattle.std.proofs.Common.{subst}
+use Rattle.upkeep_spans.specs.Watches.{takes_plans, planned_in}
+use Rattle.lane_lives.specs.LaneValues.{IsLaneValue}
+use Rattle.lane_core.proofs.Shown.{lane-value}
+use Rattle.lane_core.proofs.lane.Lane.journal.Goals as goal
+
+pub returns-clause-lane : goal.returns-clause-lane
+returns-clause-lane g c = subst IsLaneValue c.self.view_is (lane-value c.self.inside.work c.self.inside.carrier.given (planned_in c.self.inside.carrier.plans) (takes_plans c.self.inside.carrier.plans) c.self.invariant)

@@ -1,0 +1,2 @@
+-- `Tables` says what a call of a lane is answered while three operations are under way there.
+pub mod Tables

@@ -1,0 +1,5 @@
+mod Shortages
+mod Agreeing
+mod Unprepared
+mod Prepared
+mod Ending
