@@ -91,7 +91,7 @@ pub fn remove_all(lists: &mut BTreeMap<i64, Vec<u32>>, numbers: &[i64], local: u
     }
 }
 
-/// An id more at each of some numbers that lack it. The only error is want of memory, which leaves each list as it was.
+/// An id more at each of some numbers that lack it.
 pub fn add_all(
     alloc: Global,
     lists: &mut BTreeMap<i64, Vec<u32>>,

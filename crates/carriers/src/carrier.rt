@@ -31,8 +31,7 @@ pub trait Carrier {
         ensures planned { planned self.new ≡ planned self.old }
         ensures kind { takes_plans self.new ≡ takes_plans self.old };
 
-    /// Plans the fates of the coming messages, behind those that are planned; `false` exactly where
-    /// it takes no plans. The only error is want of memory, and then nothing has changed.
+    /// Plans the fates of the coming messages, behind those that are planned; `false` exactly where it takes no plans.
     fn plan(&mut self, fates: &[Fate]) -> Result<bool, NoMemory>
         ensures taken { IfOk result (λ taken. taken ≡ takes_plans self.old) }
         ensures planned { IfOk result (λ taken. planned self.new ≡ planned_with taken (planned self.old) fates.now) }

@@ -1,4 +1,4 @@
--- For a reader: Lines, Operations, Upkeep, Searches, FullSearches, Ends and Limits. The others serve the calls below the top one.
+-- For a reader: Lines, Operations, Upkeep, Searches, FullSearches, Ends, Limits and Programs. The others serve the calls below the top one.
 pub mod StatusNumbers
 pub mod Limits
 pub mod Counting
@@ -11,6 +11,7 @@ pub mod Hearing
 pub mod LanePromises
 pub mod Ends
 pub mod Lines
+pub mod Programs
 pub mod Answering
 pub mod Reads
 pub mod Dealing

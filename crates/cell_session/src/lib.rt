@@ -19,10 +19,12 @@ mod counts;
 pub mod laws;
 pub mod limits;
 mod next_command;
+pub mod program;
 pub mod running;
 pub mod status;
 
 pub use lane_lives::UpkeepSpan;
+pub use program::{exit_code, run_program, words_of};
 pub use running::run_one;
 pub use session_cluster::{Asked, Cluster, LineSpans, SpanList};
 pub use status::Status;

@@ -118,7 +118,7 @@ pub fn run_one<S: Source, K: Sink, C: Carriers>(
 }
 
 /// Writes the usage line.
-fn refuse_words<K: Sink>(alloc: Global, sink: &mut K) -> Status
+pub(crate) fn refuse_words<K: Sink>(alloc: Global, sink: &mut K) -> Status
     ensures ended { UsageEnd result (K.written sink.old) (K.written sink.new) }
     ensures fault { result ≡ Status.WriteFault → HasRisen K.last (K.faults sink.old) (K.faults sink.new) }
     ensures count { K.faults sink.old ≤ K.faults sink.new }

@@ -180,9 +180,9 @@ impl DistributorPart {
         }
     }
 
-    /// The next step of a job. This distributor owns the lane; the answer to the message before was
-    /// told, and so was that a round is over. The reply to a message takes no memory then. The only error is
-    /// want of memory, and it comes only before the state is opened.
+    /// The next step of a job. This distributor owns the lane; the answer to the message before was told, and so was
+    /// that a round is over. The reply to a message takes no memory then. `NoMemory` comes only before the state is
+    /// opened.
     pub fn next_step(&mut self, alloc: Global, job: Job) -> Result<Step, NoMemory>
         requires job { Prepares self.old.lane job }
         requires owner { IsOwning self.old }
@@ -352,7 +352,7 @@ impl DistributorPart {
         }
     }
 
-    /// The same, of a reply that the caller keeps. The only error is want of memory; nothing changes then.
+    /// The same, of a reply that the caller keeps.
     pub fn answer(&mut self, alloc: Global, node: u8, reply: Option<&Reply>) -> Result<(), NoMemory>
         requires { self.old.awaited ≡ Some node }
         ensures ok { OnOk result (IsAfterAnswer self.old self.new node (option_copied reply.entry)) }
@@ -366,9 +366,8 @@ impl DistributorPart {
         Ok(())
     }
 
-    /// The round under way is over: the receivers that answered the Apply, the union, which is absent
-    /// where a Read wasn't answered, and what the answers to the Reads showed. Where there is no union it
-    /// takes no memory; the only error is want of memory, and then nothing has changed.
+    /// The round under way is over: the receivers that answered the Apply, the union, which is absent where a Read
+    /// wasn't answered, and what the answers to the Reads showed. Where there is no union it takes no memory.
     pub fn round_over(
         &mut self,
         complete: NodeSet,

@@ -89,8 +89,7 @@ impl DistributorPart {
 
     // ---- splits and joins
 
-    /// Splits the row of a place: each half inherits the marks, the active node and the Delete. The only error is
-    /// want of memory, and then nothing has changed.
+    /// Splits the row of a place: each half inherits the marks, the active node and the Delete.
     pub fn split_row(&mut self, at: usize) -> Result<(), NoMemory>
         requires place { at < length (rows_of self.old.rows) }
         requires fewer { IfSome (slice_get (rows_of self.old.rows) at) (λ row. row.bucket.bits < 58) }

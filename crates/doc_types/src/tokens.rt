@@ -109,8 +109,8 @@ fn read_symbol(language: Language, text: &str) -> Option<(Lexeme<'_>, &str)>
     }
 }
 
-/// The longest token at the front of a text, and what is behind it; none where no token can be read
-/// there. The only error is want of memory, which only a text literal takes.
+/// The longest token at the front of a text, and what is behind it; none where no token can be read there. Only a text
+/// literal takes memory.
 pub fn read_token(
     alloc: Global,
     language: Language,

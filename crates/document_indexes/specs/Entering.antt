@@ -50,3 +50,15 @@ ComesFrom old name es n f h = (kind_at old n f ≡ Some h.kind) ⊎ ((bytes_eq n
 abbrev pub cell_of : List ℕ → List ℕ → Option Contents → Option FieldValue
 cell_of n f None = None
 cell_of n f (Some d) = if bytes_eq (type_of d.id) n then fin.get d.fields f else None
+
+-- ---- columns
+
+-- what is lent of a field: just what the documents of a type have there, each value of the field's kind; or nothing, where
+-- none has a value
+pub record IsColumn (name field : List ℕ) (g : ℕ → Option Contents) (h : Held) : Type 0 where
+  pub cells : (n : ℕ) → fin.get h.values n ≡ cell_of name field (g n)
+  pub kinds : (n : ℕ) → IfSome (fin.get h.values n) (λ v. kind_of v ≡ h.kind)
+
+abbrev pub IsLent : List ℕ → List ℕ → (ℕ → Option Contents) → Option Held → Type 0
+IsLent name field g None = (n : ℕ) → cell_of name field (g n) ≡ None
+IsLent name field g (Some h) = IsColumn name field g h

@@ -20,7 +20,7 @@ pub fn leave_fields(indexes: &mut FieldIndexes, name: &str, fields: &[SharedFiel
     }
 }
 
-/// A document without fields has these. The only error is want of memory, which leaves it without.
+/// A document without fields has these. Want of memory leaves it without.
 pub fn enter_fields(
     alloc: Global,
     indexes: &mut FieldIndexes,

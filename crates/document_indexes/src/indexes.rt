@@ -35,7 +35,7 @@ impl Indexes {
         }
     }
 
-    /// A document has a local id that none had. The only error is want of memory, which leaves what is read as it was.
+    /// A document has a local id that none had.
     pub fn enter(&mut self, alloc: Global, local: u32, document: &Document) -> Result<(), NoMemory>
         requires rising { IsRising (list_of (type_of document.now.id) self.old.types) }
         requires new { Contains (list_of (type_of document.now.id) self.old.types) local → ⊥ }

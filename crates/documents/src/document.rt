@@ -95,7 +95,7 @@ impl Document {
         }
     }
 
-    /// Gives a field a value. The only error is want of memory, which leaves the document as it was.
+    /// Gives a field a value.
     pub fn set(&mut self, alloc: Global, field: &str, value: FieldValue) -> Result<(), NoMemory>
         ensures id { self.new.id ≡ self.old.id }
         ensures ok { OnOk result (self.new.fields ≡ fin.insert self.old.fields field.now value) }

@@ -10,4 +10,5 @@ mod MergeLaws
 mod MergedRows
 mod CountLaws
 mod AloneLaws
+mod NewerLaws
 mod RemovalLaws

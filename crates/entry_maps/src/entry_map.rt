@@ -1,8 +1,8 @@
-ghost use Rattle.std.specs.Prelude.{◌≡◌, ℕ, List, IfOk, OnOk, OnErr, not};
+ghost use Rattle.std.specs.Prelude.{◌≡◌, ℕ, List, IfOk, OnOk, OnErr, not, true, false};
 ghost use Rattle.std.specs.Option.{option_copied};
 ghost use Rattle.std.specs.FinMap as fin;
 ghost use Rattle.global_ids.specs.Keys.{key_of};
-ghost use Rattle.entry_maps.specs.Entries.{is_newer, with_entry, with_instead, newer_of, alone, in_bucket, documents_of, by_id, AreSingle};
+ghost use Rattle.entry_maps.specs.Entries.{is_newer, with_entry, with_instead, newer_of, alone, in_bucket, documents_of, by_id, AreSingle, HasNoneNewer, HasOneNewer};
 ghost use Rattle.entry_maps.specs.Stamps.{stamps_of};
 
 use crate::kept::Kept;
@@ -163,6 +163,15 @@ impl EntryMap {
         ensures err { OnErr result (self.new ≡ self.old) }
     {
         self.kept.merge(self.alloc, &other.kept)
+    }
+
+    /// Whether it has a newer entry of some document than another map. It takes a search there for each entry, to the
+    /// first that is newer.
+    pub fn has_newer(&self, there: &EntryMap) -> bool
+        ensures none { result ≡ false → HasNoneNewer self.now there.now }
+        ensures some { result ≡ true → HasOneNewer self.now there.now }
+    {
+        self.kept.has_newer(&there.kept)
     }
 
     /// The entries whose documents' keys lie in a bucket.

@@ -14,6 +14,7 @@
 //! map.get_at(key, &id)                // the same, where the id's key is at hand
 //! map.within(Bucket::new(4, 0))?      // the entries of one bucket
 //! map.merge(&other)?;                 // of each document the newer entry
+//! other.has_newer(&map)               // false now: a merge would change nothing
 //! join(&mut union, &answer)?;         // union is now the join of both
 //! map.stamps()?                       // the stamps of all entries, the smallest first
 //! map.listed()?                       // all entries, shared, each document once
@@ -31,6 +32,7 @@ mod kept;
 pub mod laws;
 mod listing;
 mod merging;
+mod newer;
 mod runs;
 mod seeks;
 mod stored;

@@ -73,7 +73,7 @@ impl Chunks {
         }
     }
 
-    /// Adds a slot. The only error is want of memory, which leaves all as it was.
+    /// Adds a slot.
     pub fn insert(&mut self, alloc: Global, spot: Spot, slot: Slot) -> Result<(), NoMemory>
         requires some { AreSome self.old }
         requires spot { IsSpot self.old spot }

@@ -50,7 +50,7 @@ fn words_at(kept: &LocalMap<TextList>, local: u32) -> &[TextValue]
     }
 }
 
-/// A document has words that it lacked. The only error is want of memory, which leaves both as they were.
+/// A document has words that it lacked.
 fn enter_words(
     alloc: Global,
     kept: &mut LocalMap<TextList>,
@@ -126,6 +126,13 @@ impl FieldIndex {
         move_words(&mut self.words, words_at(&self.kept, from), from, to);
         self.kept.move_down(from, to);
         self.column.move_down(from, to);
+    }
+
+    /// The kind of the field.
+    pub fn kind(&self) -> FieldType
+        ensures { result ≡ self.now.kind }
+    {
+        self.column.kind()
     }
 
     /// The value of a document.

@@ -20,7 +20,7 @@ pub fn drop_words(words: &mut WordIndex, tokens: &[TextValue], local: u32)
     }
 }
 
-/// A document has some words that it lacked. The only error is want of memory, which leaves each list as it was.
+/// A document has some words that it lacked.
 pub fn add_words(
     alloc: Global,
     words: &mut WordIndex,

@@ -5,3 +5,4 @@ pub mod GatherLaws
 pub mod StepLaws
 pub mod KeyLaws
 pub mod LeastLaws
+mod SlotLaws

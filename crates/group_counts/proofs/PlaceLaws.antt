@@ -1,5 +1,5 @@
 -- Places for tallies.
-use Rattle.std.proofs.Common.{◌≡◌, ℕ, zero, suc, ◌+◌, ◌<◌, ◌≤◌, ◌++◌, Bool, true, false, cond, List, [], ◌∷◌, length, get_or, Option, None, Some, refl, sym, ap, subst, ◌∙◌, arith}
+use Rattle.std.proofs.Common.{◌≡◌, ℕ, zero, suc, ◌<◌, ◌++◌, Bool, true, false, cond, List, [], ◌∷◌, length, get_or, Option, None, Some, refl, sym, ap, subst, ◌∙◌, arith}
 use Rattle.std.specs.Prelude.{nat_lt, is_some, IsSome}
 use Rattle.std.specs.Option.{IfSome}
 use Rattle.std.specs.Ordering.{is_eq, match_ordering}
@@ -76,6 +76,10 @@ module _ {K : Type 0} where
   pub placed-more : (key : Contents → Option K) (docs : List Contents) (d : Contents) (old new : K → Option Told) → ((k : K) → IsSome (old k) → IsSome (new k)) → ArePlaced key docs old → HasPlace (key d) new → ArePlaced key (docs ++ d ∷ []) new
   placed-more key [] d old new stay h p = (p, tt)
   placed-more key (e ∷ docs) d old new stay h p = (place-stays (key e) old new stay h.0, placed-more key docs d old new stay h.1 p)
+
+  pub placed-still : (key : Contents → Option K) (docs : List Contents) (old new : K → Option Told) → ((k : K) → IsSome (old k) → IsSome (new k)) → ArePlaced key docs old → ArePlaced key docs new
+  placed-still key [] old new stay h = tt
+  placed-still key (e ∷ docs) old new stay h = (place-stays (key e) old new stay h.0, placed-still key docs old new stay h.1)
 
   -- the document that is found at a place
   pub placed-found : {A : Type 0} (f : A → Option Contents) (key : Contents → Option K) (tallies : K → Option Told) (xs : List A) (i : ℕ) (x : A) (d : Contents) → i < length xs → Some d ≡ f (get_or xs i x)

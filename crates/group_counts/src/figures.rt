@@ -1,20 +1,21 @@
-//! What one output is with a document more.
+//! What one output is with a number more.
 
 ghost use Rattle.std.specs.Prelude.{◌≡◌, ◌+◌, ◌+ℤ◌, ℕ, [], Some, IfSome};
 ghost use Rattle.std.specs.Int.{int_min, int_max};
 ghost use Rattle.group_counts.specs.Numbers.{either};
-ghost use Rattle.group_counts.specs.Keyed.{number_in, output_over};
-ghost use Rattle.group_counts.specs.Tallies.{plus, with_number, next_value, IsSmall, IsWide};
+ghost use Rattle.std.specs.Option.{option_copied};
+ghost use Rattle.group_counts.specs.Keyed.{number_of, output_over};
+ghost use Rattle.group_counts.specs.Tallies.{plus, with_number, IsSmall, IsWide};
+ghost use Rattle.group_counts.specs.Figures.{with_figure};
 
 use doc_types::{FieldValue, OutputKind};
-use documents::Document;
 
-/// The number that a document has in a field.
-fn number_in(document: &Document, field: &str) -> Option<i64>
-    ensures value { result ≡ number_in field.now document.now }
+/// The number of a value, if it is one.
+pub fn number_of(value: Option<&FieldValue>) -> Option<i64>
+    ensures value { result ≡ number_of (option_copied value.entry) }
     ensures wide { IfSome result IsWide }
 {
-    match document.get(field) {
+    match value {
         Some(FieldValue::Int(number)) => Some(*number),
         _ => None,
     }
@@ -61,17 +62,18 @@ fn raised(value: Option<i128>, number: Option<i64>) -> Option<i128>
     }
 }
 
-/// An output with a document more.
-pub fn next_value(kind: &OutputKind, value: Option<i128>, document: &Document) -> Option<i128>
-    requires { IsSmall 9223372036854775807 value }
-    ensures value { result ≡ next_value kind.now value document.now }
+/// An output with a number more, where there is one.
+pub fn next_value(kind: &OutputKind, value: Option<i128>, number: Option<i64>) -> Option<i128>
+    requires small { IsSmall 9223372036854775807 value }
+    requires wide { IfSome number IsWide }
+    ensures value { result ≡ with_figure kind.now value number }
     ensures small { (n : ℕ) → IsSmall n value → IsSmall (n + 1) result }
 {
     match kind {
-        OutputKind::Count => summed(value, Some(1)),
-        OutputKind::Sum(field) => summed(value, number_in(document, field.text())),
-        OutputKind::Min(field) => lowered(value, number_in(document, field.text())),
-        OutputKind::Max(field) => raised(value, number_in(document, field.text())),
+        OutputKind::Count => summed(value, number),
+        OutputKind::Sum(_) => summed(value, number),
+        OutputKind::Min(_) => lowered(value, number),
+        OutputKind::Max(_) => raised(value, number),
     }
 }
 

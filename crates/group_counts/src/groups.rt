@@ -8,6 +8,7 @@ ghost use Rattle.group_counts.specs.Groups.{groups_of};
 ghost use Rattle.group_counts.specs.Tallies.{told_group, counted_of};
 ghost use Rattle.group_counts.specs.Gathered.{IsGathered, documents_at};
 
+use crate::slots::first_slots;
 use crate::taking::{place_all, take_all};
 use crate::tallies::keys_rise;
 use crate::tally::Tally;
@@ -19,12 +20,13 @@ use std::alloc::Global;
 use std::collections::BTreeMap;
 use std::marker::Model;
 use value_lists::{NoMemory, TextValue};
-use view_changes::Shown;
+use view_columns::Columns;
 
 /// The groups of documents that come view by view.
 #[derive(Drop)]
 pub struct Groups<'a> {
     by: Option<&'a GroupBy>,
+    type_name: &'a str,
     views: u8,
     numbers: BTreeMap<i64, Tally>,
     texts: BTreeMap<String, Tally>,
@@ -94,6 +96,7 @@ impl<'a> Groups<'a> {
     {
         Groups {
             by: query.group.as_ref(),
+            type_name: query.type_name.text(),
             views: 0,
             numbers: BTreeMap::new(alloc),
             texts: BTreeMap::new(alloc),
@@ -101,9 +104,9 @@ impl<'a> Groups<'a> {
     }
 
     /// The documents of a view that `matches` found for the query come behind those that came before. A hit without a
-    /// document counts as none. Takes for each document the logarithm of the groups. The only error is want of memory;
-    /// then the groups are as they were.
-    pub fn add<V: Shown>(&mut self, alloc: Global, view: &V, hits: &Hits) -> Result<(), NoMemory>
+    /// document counts as none. What a document of the query's type has is read from columns, each of which is lent
+    /// once for the hits of a node. Takes for each document the logarithm of the groups.
+    pub fn add<V: Columns>(&mut self, alloc: Global, view: &V, hits: &Hits) -> Result<(), NoMemory>
         requires views { self.old.views < 64 }
 
         // `matches` finds no more.
@@ -119,10 +122,28 @@ impl<'a> Groups<'a> {
             self.views += 1;
             return Ok(());
         };
+        let name = self.type_name;
         let hits = hits.items();
-        place_all(alloc, by, &mut self.numbers, &mut self.texts, view, hits)?;
+        let mut slots = first_slots(alloc, view, name, by.outputs.items())?;
+        place_all(
+            alloc,
+            by,
+            name,
+            &mut self.numbers,
+            &mut self.texts,
+            view,
+            hits,
+        )?;
         keys_rise(&self.numbers, &self.texts);
-        take_all(by, &mut self.numbers, &mut self.texts, view, hits);
+        take_all(
+            by,
+            name,
+            &mut self.numbers,
+            &mut self.texts,
+            view,
+            hits,
+            &mut slots,
+        );
         keys_rise(&self.numbers, &self.texts);
         self.views += 1;
         Ok(())

@@ -15,6 +15,7 @@
 mod figures;
 pub mod groups;
 pub mod laws;
+mod slots;
 mod taking;
 mod tallies;
 mod tally;

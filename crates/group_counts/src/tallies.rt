@@ -2,16 +2,18 @@
 //!
 //! A value gets its place first, a tally of no document; that alone takes memory. Then a document is counted in it.
 
-ghost use Rattle.std.specs.Prelude.{◌≡◌, ℕ, ℤ, List, Some, IsSome, if◌then◌else◌, bytes_eq, OnOk};
+ghost use Rattle.std.specs.Prelude.{◌≡◌, ℕ, ℤ, List, length, Some, IsSome, if◌then◌else◌, bytes_eq, OnOk};
+ghost use Rattle.documents.specs.Fields.{Contents};
 ghost use Rattle.std.specs.Ordering.{int_cmp, int_eq};
 ghost use Rattle.std.specs.BTreeMap as tree;
 ghost use Rattle.std.specs.BTreeMap.{get_by_text};
 ghost use Rattle.std.specs.String.{string_cmp};
 ghost use Rattle.group_counts.specs.Tallies.{tally_with, AreKept, ArePlacesMore};
+ghost use Rattle.group_counts.specs.Figures.{AreFigures};
 
+use crate::slots::Slot;
 use crate::tally::Tally;
 use doc_types::OutputKind;
-use documents::Document;
 use std::alloc::Global;
 use std::collections::BTreeMap;
 use value_lists::NoMemory;
@@ -58,16 +60,17 @@ pub fn take_number(
     tallies: &mut BTreeMap<i64, Tally>,
     number: i64,
     kinds: &[OutputKind],
-    document: &Document,
+    slots: &[Slot<'_>],
 )
     requires few { AreKept kinds.now 9223372036854775807 (tree.get int_cmp tallies.old) }
     requires placed { IsSome (tree.get int_cmp tallies.old number) }
-    ensures { (z : ℤ) → tree.get int_cmp tallies.new z
-        ≡ (if int_eq number z then Some (tally_with kinds.now document.now (tree.get int_cmp tallies.old number))
+    requires same { length slots.now ≡ length kinds.now }
+    ensures { (d : Contents) → AreFigures kinds.now d slots.now → (z : ℤ) → tree.get int_cmp tallies.new z
+        ≡ (if int_eq number z then Some (tally_with kinds.now d (tree.get int_cmp tallies.old number))
         else tree.get int_cmp tallies.old z) }
 {
     if let Some(tally) = tallies.get_mut(&number) {
-        tally.take(kinds, document);
+        tally.take(kinds, slots);
     }
 }
 
@@ -76,16 +79,17 @@ pub fn take_text(
     tallies: &mut BTreeMap<String, Tally>,
     text: &str,
     kinds: &[OutputKind],
-    document: &Document,
+    slots: &[Slot<'_>],
 )
     requires few { AreKept kinds.now 9223372036854775807 (get_by_text tallies.old) }
     requires placed { IsSome (get_by_text tallies.old text.now) }
-    ensures { (t : List ℕ) → get_by_text tallies.new t
-        ≡ (if bytes_eq text.now t then Some (tally_with kinds.now document.now (get_by_text tallies.old text.now))
+    requires same { length slots.now ≡ length kinds.now }
+    ensures { (d : Contents) → AreFigures kinds.now d slots.now → (t : List ℕ) → get_by_text tallies.new t
+        ≡ (if bytes_eq text.now t then Some (tally_with kinds.now d (get_by_text tallies.old text.now))
         else get_by_text tallies.old t) }
 {
     if let Some(tally) = tallies.get_mut(text) {
-        tally.take(kinds, document);
+        tally.take(kinds, slots);
     }
 }
 

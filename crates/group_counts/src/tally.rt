@@ -1,9 +1,11 @@
-ghost use Rattle.std.specs.Prelude.{◌≡◌, ◌+◌, ◌<◌, ℕ, [], IfOk};
+ghost use Rattle.std.specs.Prelude.{◌≡◌, ◌+◌, ◌<◌, ℕ, [], length, IfOk};
+ghost use Rattle.documents.specs.Fields.{Contents};
 ghost use Rattle.group_counts.specs.Tallies.{told_of, told_with, told_outputs, told_group, next_values, is_counted, AreSmall};
+ghost use Rattle.group_counts.specs.Figures.{AreFigures};
 
 use crate::figures::{first_value, next_value};
+use crate::slots::{Slot, number_at};
 use doc_types::{FieldValue, OutputKind};
-use documents::Document;
 use query_groups::{Group, Output, OutputList};
 use std::alloc::Global;
 use std::marker::Model;
@@ -26,15 +28,16 @@ impl Model for Tally {
     ghost invariant = { λ t. AreSmall t.count t.values.items };
 }
 
-/// Outputs with a document more, each in its place.
-fn take_values(values: &mut [Option<i128>], kinds: &[OutputKind], document: &Document)
-    requires { AreSmall 9223372036854775807 values.old }
-    ensures value { values.new ≡ next_values kinds.now document.now values.old }
+/// Outputs with a document more, of which each has its number.
+fn take_values(values: &mut [Option<i128>], kinds: &[OutputKind], slots: &[Slot<'_>])
+    requires small { AreSmall 9223372036854775807 values.old }
+    requires same { length slots.now ≡ length kinds.now }
+    ensures value { (d : Contents) → AreFigures kinds.now d slots.now → values.new ≡ next_values kinds.now d values.old }
     ensures small { (n : ℕ) → AreSmall n values.old → AreSmall (n + 1) values.new }
 {
     let mut at = 0;
     while at < kinds.len() && at < values.len() {
-        values[at] = next_value(&kinds[at], values[at], document);
+        values[at] = next_value(&kinds[at], values[at], number_at(slots, at));
         at += 1;
     }
 }
@@ -82,12 +85,13 @@ impl Tally {
         })
     }
 
-    /// A document more.
-    pub fn take(&mut self, kinds: &[OutputKind], document: &Document)
-        requires { self.old.count < 9223372036854775808 }
-        ensures { self.new ≡ told_with kinds.now document.now self.old }
+    /// A document more, of which each output has its number.
+    pub fn take(&mut self, kinds: &[OutputKind], slots: &[Slot<'_>])
+        requires few { self.old.count < 9223372036854775808 }
+        requires same { length slots.now ≡ length kinds.now }
+        ensures { (d : Contents) → AreFigures kinds.now d slots.now → self.new ≡ told_with kinds.now d self.old }
     {
-        take_values(&mut self.values, kinds, document);
+        take_values(&mut self.values, kinds, slots);
         self.count += 1;
     }
 

@@ -191,7 +191,6 @@ pub onward : (x y : LaneState) → y ≡ record x { journal = y.journal; last = 
 onward x y e q = record {
   lane = ap (λ (z : LaneState). z.lane) e;
   rules = ap (λ (z : LaneState). z.rules) e;
-  shelf = ap (λ (z : LaneState). z.shelf) e;
   newest = ap (λ (z : LaneState). z.newest) e;
   spare = ap (λ (z : LaneState). z.spare) e;
   parted = ap (λ (z : LaneState). vec_len z.parts) e;
@@ -303,7 +302,7 @@ module _ (x w : Work) (at : ℕ) (j : Job) (t : Standing) (row : Low) (written :
     later = value_as x y fates planned takes items
 
     value : later ≡ with_run before (journal_of y) fates at (under_way_at now)
-    value = value-as x y given fates planned takes at now items (on).lane (on).rules (on).shelf put
+    value = value-as x y given fates planned takes at now items (on).lane (on).rules put
 
     -- nothing stands against what is prepared
     free : IsFree (under_way_at j) before

@@ -1,5 +1,6 @@
 -- Shared: other crates cite these.
 pub mod Served
+pub mod Shelves
 -- Of this crate alone.
 mod Places
 mod Blocking

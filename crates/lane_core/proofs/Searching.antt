@@ -78,7 +78,6 @@ pub onward-rested : (x y : LaneState) (d : ℕ) → y ≡ record x { journal = y
 onward-rested x y d e q rests others parted = record {
   lane = lane_is;
   rules = rules_are;
-  shelf = ap (λ (z : LaneState). z.shelf) e;
   newest = ap (λ (z : LaneState). z.newest) e;
   spare = ap (λ (z : LaneState). z.spare) e;
   parted = parted;
@@ -199,7 +198,7 @@ module _ (x : Work) (at : ℕ) (j : Job) (w : IsWork x) (found : slice_get x.job
         (off-document x.state.lane x.state.rules J (journal_of y) x.jobs.items w.jobs_are ((w.kept).keeps).legal legal-now at j found b m got off))
         (done).begins (done).ends
 
-    module _ (m : Work) (state : m.state ≡ y) (drawn : m.drawn ≡ x.drawn) (places : m.places ≡ x.places) (room : m.has_room ≡ x.has_room) (items : m.jobs.items ≡ slice_set x.jobs.items at (spent j)) where
+    module _ (m : Work) (state : m.state ≡ y) (drawn : m.drawn ≡ x.drawn) (places : m.places ≡ x.places) (room : m.has_room ≡ x.has_room) (schema : m.schema ≡ x.schema) (items : m.jobs.items ≡ slice_set x.jobs.items at (spent j)) where
       found-now : slice_get m.jobs.items at ≡ Some (spent j)
       found-now = ap (λ (js : List Job). slice_get js at) items ∙ get-set x.jobs.items at j (spent j) found
 
@@ -238,7 +237,7 @@ module _ (x : Work) (at : ℕ) (j : Job) (w : IsWork x) (found : slice_get x.job
 
       module _ (given now planned : List Fate) (takes : Bool) where
         value-is : value_of m now planned takes ≡ with_run (value_of x given planned takes) (journal_of y) now at (under_way_at (spent j))
-        value-is = value-set x m given now planned takes at (spent j) (ap (λ (z : LaneState). z.lane) state ∙ on.lane) (ap (λ (z : LaneState). z.rules) state ∙ on.rules) (ap (λ (z : LaneState). z.shelf) state ∙ on.shelf) room items
+        value-is = value-set x m given now planned takes at (spent j) (ap (λ (z : LaneState). z.lane) state ∙ on.lane) (ap (λ (z : LaneState). z.rules) state ∙ on.rules) schema room items
             ∙ ap (λ (z : LaneState). with_run (value_of x given planned takes) (journal_of z) now at (under_way_at (spent j))) state
 
         same-journal : (value_of m now planned takes).journal ≡ journal_of y

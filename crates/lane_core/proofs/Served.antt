@@ -98,12 +98,12 @@ module _ (s : Setting) (planned : List Fate) (lane : ℕ) (deeds : List Deed) (v
 
     -- ---- what is no deed
 
-    seen_holds : (room : Bool) (shown : ℕ) → IsLaneValue v → IsLaneValue (record v { has_room = room; shown = shown })
-    seen_holds room shown h = record { legal = h.legal; carried = h.carried; lines = h.lines }
+    room_holds : (room : Bool) → IsLaneValue v → IsLaneValue (record v { has_room = room })
+    room_holds room h = record { legal = h.legal; carried = h.carried; lines = h.lines }
 
-    -- room was made, or more is shown
-    pub serves_seen : (room : Bool) (shown : ℕ) → IsServing s planned lane deeds v → new ≡ record v { has_room = room; shown = shown } → IsServing s planned lane deeds new
-    serves_seen room shown is after = subst (IsServing s planned lane deeds) (sym after) (record {
+    -- room was made
+    pub serves_room : (room : Bool) → IsServing s planned lane deeds v → new ≡ record v { has_room = room } → IsServing s planned lane deeds new
+    serves_room room is after = subst (IsServing s planned lane deeds) (sym after) (record {
       lane_is = is.lane_is;
       rules_are = is.rules_are;
       types_are = is.types_are;
@@ -111,11 +111,8 @@ module _ (s : Setting) (planned : List Fate) (lane : ℕ) (deeds : List Deed) (v
       idle = is.idle;
       rising = is.rising;
       life = is.life;
-      holds = seen_holds room shown is.holds;
+      holds = room_holds room is.holds;
     })
-
-    pub serves_room : IsServing s planned lane deeds v → new ≡ record v { has_room = new.has_room } → IsServing s planned lane deeds new
-    serves_room is after = serves_seen new.has_room v.shown is after
 
     plans_hold : (more : List Fate) → IsLaneValue v → IsLaneValue (record v { planned = more })
     plans_hold more h = record { legal = h.legal; carried = h.carried; lines = h.lines }

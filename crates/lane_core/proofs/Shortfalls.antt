@@ -36,7 +36,7 @@ no-marks H j s n NoMemory e = tt
 
 -- the operation of the place is over with the outcome
 module _ (x w : Work) (at : ℕ) (o told : Outcome) (n : ℕ) (k : IsWork x) (j : Job) (found : slice_get x.jobs.items at ≡ Some j) (f : FallsShort x.state j o told) (same : w.state ≡ x.state) (drawn : w.drawn ≡ x.drawn) (places : w.places ≡ x.places) (room : w.has_room ≡ x.has_room)
-    (items : w.jobs.items ≡ slice_set x.jobs.items at (record j { phase = Over o told n })) where
+    (schema : w.schema ≡ x.schema) (items : w.jobs.items ≡ slice_set x.jobs.items at (record j { phase = Over o told n })) where
   was : IsJob x.state.lane x.state.rules (journal_of x.state) j
   was = (k.jobs_are).each at j found
 
@@ -60,7 +60,6 @@ module _ (x w : Work) (at : ℕ) (o told : Outcome) (n : ℕ) (k : IsWork x) (j 
   work-over = work-set x w k (record {
     lane = ap (λ (z : LaneState). z.lane) same;
     rules = ap (λ (z : LaneState). z.rules) same;
-    shelf = ap (λ (z : LaneState). z.shelf) same;
     newest = ap (λ (z : LaneState). z.newest) same;
     spare = ap (λ (z : LaneState). z.spare) same;
     parted = ap (λ (z : LaneState). vec_len z.parts) same;
@@ -76,6 +75,6 @@ module _ (x w : Work) (at : ℕ) (o told : Outcome) (n : ℕ) (k : IsWork x) (j 
   over-value given planned takes = (
     under_way_at j,
     get-map under_way_at x.jobs.items at j found,
-    value-set x w given given planned takes at (record j { phase = Over o told n }) (ap (λ (z : LaneState). z.lane) same) (ap (λ (z : LaneState). z.rules) same) (ap (λ (z : LaneState). z.shelf) same) room items
+    value-set x w given given planned takes at (record j { phase = Over o told n }) (ap (λ (z : LaneState). z.lane) same) (ap (λ (z : LaneState). z.rules) same) schema room items
         ∙ ap (λ (J : List LaneEvent). with_run (value_of x given planned takes) J given at (under_way_at (record j { phase = Over o told n }))) (ap journal_of same),
   )

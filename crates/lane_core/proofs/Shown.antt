@@ -1,6 +1,7 @@
 -- What holds of the value of each lane.
 use Rattle.std.proofs.Common.{◌≡◌, ℕ, Bool, false, List, Some, IsSome, slice_get, inl, inr, refl, sym, ap, subst}
 use Rattle.carriers.specs.declared.fate.Fate.{Fate}
+use Rattle.view_changes.specs.declared.change.LaneChange.{LaneChange}
 use Rattle.distributor_part.specs.declared.rules.Rules.{Rules}
 use Rattle.bucket_ids.specs.Buckets.{Low}
 use Rattle.lane_states.specs.LaneStates.{journal_of}
@@ -33,8 +34,8 @@ module _ (lane : Low) (rules : Rules) (J : List LaneEvent) (jobs : List Job) (a 
     ];
   }
 
-pub lane-value : (w : Work) (given planned : List Fate) (takes : Bool) → IsLane w given → IsLaneValue (value_of w given planned takes)
-lane-value w given planned takes is = record {
+pub lane-value : {H : Type 0} (shows : H → List LaneChange → Type 0) (pending : H → List LaneChange) (w : Work) (given planned : List Fate) (takes : Bool) (shelf : H) → IsLane shows pending w given shelf → IsLaneValue (value_of w given planned takes)
+lane-value shows pending w given planned takes shelf is = record {
   legal = ((is.works).kept).keeps.legal;
   carried = (is.carried).carried;
   lines = lines-are w.state.lane w.state.rules (journal_of w.state) w.jobs.items (is.works).jobs_are;

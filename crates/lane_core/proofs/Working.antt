@@ -34,13 +34,10 @@ use Rattle.lane_states.specs.LaneStates.{journal_of, IsKept, HasRoom, StaysCarri
 use Rattle.lane_lives.specs.LaneValues.{LaneValue, drawn, with_run}
 use Rattle.lane_keeping.specs.Tidings.{last_state}
 use Rattle.lane_states.specs.declared.lane_state.LaneState.{LaneState}
-use Rattle.lane_states.specs.Told.{shown_by}
 use Rattle.stamps.specs.Places.{place_of}
 use Rattle.lane_states.specs.Written.{FindsEntries}
 use Rattle.lane_lines.proofs.Entries.{past-past, finds-none, finds-noted}
-use Rattle.lane_changes.specs.Changes.{changes_of}
-use Rattle.lane_core.specs.Showing.{ShowsMore}
-use Rattle.lane_core.specs.Works.{value_of, OfValues, under_way_at, under_way_in, new_job, count_of, count_after, room_for, IsItsRow, IsUnprepared, IsJob, AreJobs, IsWork}
+use Rattle.lane_core.specs.Works.{value_of, SameValue, under_way_at, under_way_in, new_job, count_of, count_after, room_for, IsItsRow, IsUnprepared, IsJob, AreJobs, IsWork}
 use Rattle.lane_core.proofs.Places.{map-set, remove-length}
 use Rattle.lane_core.proofs.JobLists.{no-jobs, jobs-remove, jobs-push, off-line}
 use Rattle.std.specs.List.{remove}
@@ -95,23 +92,22 @@ work-by w J set_up kept room spare parted placed resting is lines finds =
     }
 
 -- the value with another journal and other operations
-pub value-by : (a b : Work) (given planned : List Fate) (takes : Bool) (J : List LaneEvent) → b.state.lane ≡ a.state.lane → b.state.rules ≡ a.state.rules → b.state.shelf ≡ a.state.shelf → journal_of b.state ≡ J → b.has_room ≡ a.has_room
+pub value-by : (a b : Work) (given planned : List Fate) (takes : Bool) (J : List LaneEvent) → b.state.lane ≡ a.state.lane → b.state.rules ≡ a.state.rules → b.schema ≡ a.schema → journal_of b.state ≡ J → b.has_room ≡ a.has_room
     → value_of b given planned takes ≡ record (value_of a given planned takes) { journal = J; under_way = under_way_in b.jobs.items }
-value-by a b given planned takes J lane rules shelf journal room = rw (lane, rules, shelf, journal, room) refl
+value-by a b given planned takes J lane rules schema journal room = rw (lane, rules, schema, journal, room) refl
 
 -- the value where the journal is another, with other fates, and the operation at a place
-pub value-set : (a b : Work) (given now planned : List Fate) (takes : Bool) (at : ℕ) (k : Job) → b.state.lane ≡ a.state.lane → b.state.rules ≡ a.state.rules → b.state.shelf ≡ a.state.shelf → b.has_room ≡ a.has_room → b.jobs.items ≡ slice_set a.jobs.items at k
+pub value-set : (a b : Work) (given now planned : List Fate) (takes : Bool) (at : ℕ) (k : Job) → b.state.lane ≡ a.state.lane → b.state.rules ≡ a.state.rules → b.schema ≡ a.schema → b.has_room ≡ a.has_room → b.jobs.items ≡ slice_set a.jobs.items at k
     → value_of b now planned takes ≡ with_run (value_of a given planned takes) (journal_of b.state) now at (under_way_at k)
-value-set a b given now planned takes at k lane rules shelf room items = rw (lane, rules, shelf, room, items, map-set under_way_at a.jobs.items at k) refl
+value-set a b given now planned takes at k lane rules schema room items = rw (lane, rules, schema, room, items, map-set under_way_at a.jobs.items at k) refl
 
 -- that of a state, with these operations
 abbrev pub value_as : Work → LaneState → List Fate → List Fate → Bool → List Job → LaneValue
 value_as a y now planned takes items = record {
   lane = y.lane;
   rules = y.rules;
-  types = ((y.shelf).opening).types;
+  types = a.schema;
   journal = journal_of y;
-  shown = shown_by y.shelf;
   given = now;
   planned = planned;
   takes_plans = takes;
@@ -119,9 +115,9 @@ value_as a y now planned takes items = record {
   under_way = under_way_in items;
 }
 
-pub value-as : (a : Work) (y : LaneState) (given now planned : List Fate) (takes : Bool) (at : ℕ) (k : Job) (items : List Job) → y.lane ≡ a.state.lane → y.rules ≡ a.state.rules → y.shelf ≡ a.state.shelf → items ≡ slice_set a.jobs.items at k
+pub value-as : (a : Work) (y : LaneState) (given now planned : List Fate) (takes : Bool) (at : ℕ) (k : Job) (items : List Job) → y.lane ≡ a.state.lane → y.rules ≡ a.state.rules → items ≡ slice_set a.jobs.items at k
     → value_as a y now planned takes items ≡ with_run (value_of a given planned takes) (journal_of y) now at (under_way_at k)
-value-as a y given now planned takes at k items lane rules shelf put = rw (lane, rules, shelf, put, map-set under_way_at a.jobs.items at k) refl
+value-as a y given now planned takes at k items lane rules put = rw (lane, rules, put, map-set under_way_at a.jobs.items at k) refl
 
 -- ---- who holds a state
 
@@ -201,7 +197,6 @@ counts-begun J line d v id (Some s) old new next is after w = after w ∙ by_tes
 pub record IsOnward (x y : LaneState) : Type 0 where
   pub lane : y.lane ≡ x.lane
   pub rules : y.rules ≡ x.rules
-  pub shelf : y.shelf ≡ x.shelf
   pub newest : y.newest ≡ x.newest
   pub spare : y.spare ≡ x.spare
   pub parted : vec_len y.parts ≡ vec_len x.parts
@@ -324,25 +319,25 @@ work-new w set_up kept journal newest parts spare room unmade none counts places
     }))
     (finds-none (place_of w.places) places)
 
--- ---- a settling
+-- ---- changes are handed over, or dropped
 
-module _ (x : Work) (y : LaneState) (after : y ≡ record x.state { journal = y.journal; shelf = y.shelf }) (events : y.journal.events ≡ x.state.journal.events) where
+module _ (x : Work) (y : LaneState) (after : y ≡ record x.state { journal = y.journal; handed = y.handed }) (events : y.journal.events ≡ x.state.journal.events) where
   lane_is : y.lane ≡ x.state.lane
   lane_is = ap (λ (z : LaneState). z.lane) after
 
   rules_are : y.rules ≡ x.state.rules
   rules_are = ap (λ (z : LaneState). z.rules) after
 
-  journal_is : journal_of y ≡ journal_of x.state
+  pub journal_is : journal_of y ≡ journal_of x.state
   journal_is = ap (λ v. past v.items) events
 
-  pub work-settled : IsWork x → IsKept y → IsWork (record { state = y; drawn = x.drawn; places = x.places; has_room = x.has_room; jobs = x.jobs })
-  work-settled k kept =
+  pub work-handed : IsWork x → IsKept y → IsWork (record { state = y; schema = x.schema; drawn = x.drawn; places = x.places; has_room = x.has_room; jobs = x.jobs })
+  work-handed k kept =
       let newest : y.newest ≡ x.state.newest = ap (λ (z : LaneState). z.newest) after in
       let parts : y.parts ≡ x.state.parts = ap (λ (z : LaneState). z.parts) after in
       let same : y.spare ≡ x.state.spare = ap (λ (z : LaneState). z.spare) after in
       let room : HasRoom 0 x.state = k.room in
-      work-by (record { state = y; drawn = x.drawn; places = x.places; has_room = x.has_room; jobs = x.jobs }) (journal_of x.state)
+      work-by (record { state = y; schema = x.schema; drawn = x.drawn; places = x.places; has_room = x.has_room; jobs = x.jobs }) (journal_of x.state)
       (rw (lane_is, rules_are) k.set_up) kept (rw (events, same) room) (same ∙ k.spare_is)
       (λ made. rw parts (k.parted made))
       (λ made. ap (λ (z : LaneState). z.turn_room) after ∙ k.placed made)
@@ -350,17 +345,8 @@ module _ (x : Work) (y : LaneState) (after : y ≡ record x.state { journal = y.
       (rw (lane_is, rules_are, newest) (lines-of x k))
       (subst (λ (xs : List LaneEvent). FindsEntries (place_of x.places) xs) (sym (past-past x.state.journal.events.items)) k.finds)
 
-  pub carried-settled : StaysCarried x.state y
-  carried-settled given h = rw (journal_is, ap (λ (z : LaneState). z.last) after, ap (λ (z : LaneState). z.late) after) h
+  pub carried-handed : StaysCarried x.state y
+  carried-handed given h = rw (journal_is, ap (λ (z : LaneState). z.last) after, ap (λ (z : LaneState). z.late) after) h
 
-  pub value-settled : (y.shelf).opening ≡ (x.state.shelf).opening → (given planned : List Fate) (takes : Bool)
-      → value_of (record { state = y; drawn = x.drawn; places = x.places; has_room = x.has_room; jobs = x.jobs }) given planned takes ≡ record (value_of x given planned takes) { shown = shown_by y.shelf }
-  value-settled opening given planned takes = rw (lane_is, rules_are, opening, journal_is) refl
-
-  pub shows-settled : (y.shelf).opening ≡ (x.state.shelf).opening → shown_by x.state.shelf ≤ shown_by y.shelf → shown_by y.shelf ≤ length (changes_of (journal_of y))
-      → OfValues ShowsMore x (record { state = y; drawn = x.drawn; places = x.places; has_room = x.has_room; jobs = x.jobs })
-  shows-settled opening more within given planned takes = record {
-    after = value-settled opening given planned takes;
-    more = more;
-    within = subst (λ J. shown_by y.shelf ≤ length (changes_of J)) journal_is within;
-  }
+  pub value-handed : SameValue x (record { state = y; schema = x.schema; drawn = x.drawn; places = x.places; has_room = x.has_room; jobs = x.jobs })
+  value-handed given planned takes = rw (lane_is, rules_are, journal_is) refl

@@ -1,9 +1,8 @@
--- `LaneValues` says what a lane is to its callers, and `Works` and `LaneInside` what it keeps behind that. `Preparations` says
--- what prepares an operation in its row, `Phases` what it does then, and `Searching` is the search for its row. `Upkept` says
--- what an upkeep makes of a lane, `Upkeeping` the same of its work, and `Undisturbed` when one rests.
--- `Lives` says what happens in a lane of a session, `Serving` what its lane is between two lines, `Runs` what the
--- calls say of one operation and `Upkeep` what they say of upkeep, `Promises` what becomes of lines and of what was
--- acknowledged, and `Hearings` who hears which state.
+-- `Works` and `LaneInside` say what a lane keeps behind its value. `Preparations` says
+-- what prepares an operation in its row, `Phases` what it does then, and `Searching` is the search for its row. `Upkeeping` says
+-- what an upkeep makes of its work, and `Undisturbed` when one rests.
+-- `Runs` says what the calls say of one operation, `Shelved` what a lane is with its shelf, and `Showing` what searches
+-- see of it.
 pub mod Works
 pub mod LaneInside
 pub mod Phases
@@ -13,4 +12,5 @@ pub mod Upkeeping
 pub mod Undisturbed
 pub mod Advancing
 pub mod Runs
+pub mod Shelved
 pub mod Showing

@@ -1,28 +1,22 @@
 -- What searches see of a lane.
-use Rattle.std.specs.Prelude.{◌≡◌, ◌≤◌, ℕ, length, take}
+use Rattle.std.specs.Prelude.{◌≡◌, ◌<◌, ℕ, List, [], length}
 use Rattle.lane_changes.specs.Changes.{changes_of}
 use Rattle.view_changes.specs.Opening.{opening}
 use Rattle.view_changes.specs.Views.{View, view_after}
+use Rattle.view_changes.specs.declared.change.LaneChange.{LaneChange}
 use Rattle.lane_lives.specs.LaneValues.{LaneValue}
+use Rattle.lane_core.specs.Shelved.{Shelved}
 
 -- how many changes its journal gives
 abbrev pub all_changes : LaneValue → ℕ
 all_changes v = length (changes_of v.journal)
 
--- the view after the first of them, as many as are shown
-abbrev pub shown_view : LaneValue → View
-shown_view v = view_after (opening v.types) (take v.shown (changes_of v.journal))
-
 -- the view after all of them
 abbrev pub view_in : LaneValue → View
 view_in v = view_after (opening v.types) (changes_of v.journal)
 
--- all of them are shown
-abbrev pub IsSettled : LaneValue → Type 0
-IsSettled v = v.shown ≡ all_changes v
-
--- some more of them are shown, perhaps, and nothing else has changed
-pub record ShowsMore (old new : LaneValue) : Type 0 where
-  pub after : new ≡ record old { shown = new.shown }
-  pub more : old.shown ≤ new.shown
-  pub within : new.shown ≤ all_changes old
+-- its shelf shows all of them, which a view can count, and has none pending
+pub record IsSettled {H : Type 0} (shows : H → List LaneChange → Type 0) (pending : H → List LaneChange) (s : Shelved H) : Type 0 where
+  pub shown : shows s.shelf (changes_of (s.lane).journal)
+  pub none : pending s.shelf ≡ []
+  pub few : all_changes s.lane < 18446744073709551615

@@ -38,8 +38,7 @@ use Rattle.lane_lives.specs.declared.progress.Progress.{Progress}
 use Rattle.lane_lives.specs.declared.progress.Progress.TheVariants as progress
 use Rattle.lane_lives.specs.declared.progress.UnderWay.{UnderWay}
 use Rattle.lane_core.specs.declared.work.Work.{Work}
-use Rattle.lane_states.specs.LaneStates.{journal_of, IsKept, HasRoom, AreResting, IsSetUp}
-use Rattle.lane_states.specs.Told.{shown_by}
+use Rattle.lane_states.specs.LaneStates.{journal_of, handed_of, IsKept, HasRoom, AreResting, IsSetUp}
 use Rattle.stamps.specs.Places.{place_of}
 use Rattle.lane_states.specs.Written.{FindsEntries}
 use Rattle.operation_keeping.specs.Wants.{IsAtStanding}
@@ -64,9 +63,8 @@ abbrev pub value_of : Work → List Fate → List Fate → Bool → LaneValue
 value_of w given planned takes_plans = record {
   lane = w.state.lane;
   rules = w.state.rules;
-  types = ((w.state.shelf).opening).types;
+  types = w.schema;
   journal = journal_of w.state;
-  shown = shown_by w.state.shelf;
   given = given;
   planned = planned;
   takes_plans = takes_plans;
@@ -80,6 +78,10 @@ OfValues R old new = (given planned : List Fate) (takes_plans : Bool) → R (val
 
 abbrev pub SameValue : Work → Work → Type 0
 SameValue old new = OfValues (λ a b. b ≡ a) old new
+
+-- no change was handed over to a shelf
+abbrev pub SameHanded : Work → Work → Type 0
+SameHanded old new = handed_of new.state ≡ handed_of old.state
 
 -- the operation of a line begins at a distributor under a version
 abbrev pub begun_by : ℕ → Operation → ℕ → ℕ → LaneValue → LaneValue

@@ -11,7 +11,7 @@ ghost use Rattle.op_machine.specs.Plans.{IsPlainGet};
 ghost use Rattle.lane_states.specs.LaneStates.{journal_of, part_of, HasRoom, StaysCarried, IsCarriedBy, IsKept};
 ghost use Rattle.lane_lives.specs.LaneValues.{drawn, Begins, BeginsAtOwner, Refuses, IsBeginning, IsBeginningAtOwner};
 ghost use Rattle.lane_keeping.specs.Tidings.{is_older, last_state};
-ghost use Rattle.lane_core.specs.Works.{IsWork, OfValues, SameValue, OfJob, OfNoJob, count_of, count_after, begun_by};
+ghost use Rattle.lane_core.specs.Works.{IsWork, OfValues, SameValue, SameHanded, OfJob, OfNoJob, count_of, count_after, begun_by};
 ghost use Rattle.lane_core.specs.Phases.{AdvancesBy, HasEnded, IsPhaseOf, OfPrepared, IsAtMessages, ComesTo, IsToStep};
 ghost use Rattle.lane_core.specs.declared.work.Phase.TheVariants as phase;
 ghost use Rattle.lane_core.specs.Searching.{JustBegun, is_begun, spent, IsFreeFor, IsBlocked, SearchesBy, ComesToRow, MayCome, ComesFrom};
@@ -143,6 +143,7 @@ impl Work {
         ensures keeps { IsWork self.new }
         ensures carried { StaysCarried self.old.state self.new.state }
         ensures begins { OfValues (λ old new. IsBeginning line operation.now via old new result) self.old self.new }
+        ensures handed { SameHanded self.old self.new }
     {
         owners_act();
         let Some(state) = self.state.state_at(via) else {
@@ -186,6 +187,7 @@ impl Work {
         ensures carried { StaysCarried self.old.state self.new.state }
         ensures ok { OnOk result (OfValues (Begins line operation.now via) self.old self.new) }
         ensures err { OnErr result (SameValue self.old self.new) }
+        ensures handed { SameHanded self.old self.new }
     {
         owners_act();
         let id = operation.id.copy(self.state.alloc)?;
@@ -214,6 +216,7 @@ impl Work {
         ensures keeps { IsWork self.new }
         ensures carried { StaysCarried self.old.state self.new.state }
         ensures begins { OfValues (λ old new. IsBeginningAtOwner line operation.now old new result) self.old self.new }
+        ensures handed { SameHanded self.old self.new }
     {
         let Some(state) = self.state.newest else {
             unreachable!();
@@ -255,6 +258,7 @@ impl Work {
         ensures carried { StaysCarried self.old.state self.new.state }
         ensures ok { OnOk result (OfValues (BeginsAtOwner line operation.now) self.old self.new) }
         ensures err { OnErr result (SameValue self.old self.new) }
+        ensures handed { SameHanded self.old self.new }
     {
         let id = operation.id.copy(self.state.alloc)?;
         let copy = shared_copy(self.state.alloc, operation)?;
@@ -317,6 +321,7 @@ impl Work {
         ensures keeps { IsWork self.new }
         ensures carried { StaysCarried self.old.state self.new.state }
         ensures begun { OfValues (λ old new. new ≡ begun_by line operation via state.now.version old) self.old self.new }
+        ensures handed { SameHanded self.old self.new }
     {
         operations_begin();
         let version = state.version();
@@ -362,6 +367,7 @@ impl Work {
         ensures carried { StaysCarried self.old.state self.new.state }
         ensures ok { IfOk result (λ outcome. OfValues (Refuses line via outcome) self.old self.new) }
         ensures err { OnErr result (SameValue self.old self.new) }
+        ensures handed { SameHanded self.old self.new }
     {
         lines_are_refused();
         let version = state.version();
@@ -431,8 +437,8 @@ impl Work {
         prepared_in(&self.jobs, job.distributor, row.bucket)
     }
 
-    /// Finds the row for the operation at a place, which was begun, or how it ends without one. The only error is want of
-    /// memory, and then the operation goes no further.
+    /// Finds the row for the operation at a place, which was begun, or how it ends without one. At want of memory the
+    /// operation goes no further.
     fn search<C: Carrier>(
         &mut self,
         at: usize,
@@ -451,6 +457,7 @@ impl Work {
         ensures comes { IfOk result (ComesToRow (search_from self.old.state) self.new at) }
         ensures cut { OnErr result
             (AdvancesBy at self.old self.new (C.given carrier.old) (C.given carrier.new) advance.NoMemory) }
+        ensures handed { SameHanded self.old self.new }
     {
         owners_act();
         let job = &self.jobs[at];
@@ -467,6 +474,7 @@ impl Work {
         ensures keeps { IsWork self.new }
         ensures carried { StaysCarried self.old.state self.new.state }
         ensures advances { ComesFrom at self.old found self.new result }
+        ensures handed { SameHanded self.old self.new }
     {
         match found {
             None => match self.prepare_in_row(at) {
@@ -491,6 +499,7 @@ impl Work {
         ensures planned { C.planned carrier.new ≡ C.planned carrier.old }
         ensures kind { C.takes_plans carrier.new ≡ C.takes_plans carrier.old }
         ensures advances { AdvancesBy at self.old self.new (C.given carrier.old) (C.given carrier.new) result }
+        ensures handed { SameHanded self.old self.new }
     {
         if let Some(by) = self.blocker(at) {
             return Advance::Waits { by };
@@ -646,6 +655,7 @@ impl Work {
         ensures planned { C.planned carrier.new ≡ C.planned carrier.old }
         ensures kind { C.takes_plans carrier.new ≡ C.takes_plans carrier.old }
         ensures advances { AdvancesBy at self.old self.new (C.given carrier.old) (C.given carrier.new) result }
+        ensures handed { SameHanded self.old self.new }
     {
         operations_end();
         step_job(
@@ -714,6 +724,7 @@ impl Work {
         ensures carried { StaysCarried self.old.state self.new.state }
         ensures ok { OnOk result (OfValues (PreparesAt at) self.old self.new) }
         ensures err { OnErr result (SameValue self.old self.new) }
+        ensures handed { SameHanded self.old self.new }
     {
         owners_act();
         operations_prepare();
@@ -752,6 +763,7 @@ impl Work {
         ensures keeps { IsWork self.new }
         ensures carried { StaysCarried self.old.state self.new.state }
         ensures over { OfValues (OverAt at outcome) self.old self.new }
+        ensures handed { SameHanded self.old self.new }
     {
         set_phase(
             &mut self.jobs,

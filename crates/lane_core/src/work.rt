@@ -1,8 +1,10 @@
-ghost use Rattle.std.specs.Prelude.{◌≡◌, Some, ◌<◌, ◌≤◌, ◌+◌, [], ◌∷◌, ◌++◌, ℕ, Bool, true, false, IsSome, IfSome, IfNone, OnOk, OnErr, List, vec_len, vec_capacity};
+ghost use Rattle.std.specs.Prelude.{◌≡◌, Some, ◌<◌, ◌≤◌, ◌+◌, [], ◌∷◌, ◌++◌, ℕ, Bool, true, false, IsSome, IfSome, IfNone, OnOk, OnErr, List, length, vec_len, vec_capacity};
 ghost use Rattle.lane_lives.specs.LaneValues.{Closes, IsHearing, new_value};
-ghost use Rattle.lane_core.specs.Works.{IsWork, OfValues, OfNoJob, OfFirstJob, IsToClosePhase, HasJobToClose, IsEndedBy, value_of, SameValue};
-ghost use Rattle.lane_states.specs.LaneStates.{StaysCarried, journal_of, IsCarriedBy, HasRoom, IsSetUp};
-ghost use Rattle.lane_states.specs.Told.{IsUnused};
+ghost use Rattle.lane_core.specs.Works.{IsWork, OfValues, OfNoJob, OfFirstJob, IsToClosePhase, HasJobToClose, IsEndedBy, value_of, SameValue, SameHanded};
+ghost use Rattle.lane_states.specs.LaneStates.{StaysCarried, journal_of, handed_of, IsCarriedBy, HasRoom, IsSetUp};
+ghost use Rattle.lane_states.specs.Told.{ShowsOn};
+ghost use Rattle.lane_changes.specs.Changes.{changes_of};
+ghost use Rattle.shelves.specs.Shelves.{Holds};
 ghost use Rattle.carriers.specs.declared.fate.Fate.{Fate};
 ghost use Rattle.cluster_states.specs.Publishing.{publish_fault};
 ghost use Rattle.lane_journals.specs.Places.{told};
@@ -14,7 +16,6 @@ ghost use Rattle.lane_journals.specs.Readers.{held};
 ghost use Rattle.lane_journals.specs.Meanings.{history};
 ghost use Rattle.lane_upkeep.specs.Passing.{PassesOn};
 ghost use Rattle.lane_upkeep.specs.Maintaining.{AreReturned, HasOpened, HaveRun};
-ghost use Rattle.lane_core.specs.Showing.{all_changes, ShowsMore};
 ghost use Rattle.lane_core.specs.Upkeeping.{MaintainsBy, MayMaintain, OpensBy, RestsBy};
 ghost use Rattle.lane_journals.specs.declared.event.LaneEvent.TheVariants as event;
 
@@ -31,10 +32,11 @@ use lane_states::known_owner::KnownOwner;
 use lane_states::lane_state::LaneState;
 use lane_upkeep::{Owner, maintain};
 use messages::{Outcome, SharedOperation};
+use node_rows::SharedSchema;
 use node_sets::NodeSet;
 use op_machine::OpMachine;
 use operation_keeping::laws::operations_end;
-use shelves::PlainShelf;
+use shelves::Shelf;
 use stamps::{Stamp, StampPlaces};
 use std::alloc::Global;
 use std::collections::BTreeMap;
@@ -42,10 +44,11 @@ use upkeep_spans::laws::{upkeep_goes_on, upkeep_leaves_lines, upkeep_leaves_stat
 use value_lists::NoMemory;
 
 /// A lane with what it keeps of its lines: how many stamps were drawn under each version, where in the journal
-/// the entry of each stamp stands, and the operations that are under way.
+/// the entry of each stamp stands, and the operations that are under way. Its documents are of the types of a schema.
 #[derive(Drop)]
 pub struct Work {
     pub state: LaneState,
+    pub schema: SharedSchema,
     pub drawn: BTreeMap<u32, u64>,
     pub places: StampPlaces,
     /// Whether room was made for a publication, a stop or a start.
@@ -121,6 +124,7 @@ impl Work {
         ensures keeps { IsWork self.new }
         ensures carried { StaysCarried self.old.state self.new.state }
         ensures closes { OfValues (Closes line result) self.old self.new }
+        ensures handed { SameHanded self.old self.new }
     {
         operations_end();
         let at = place_of(&self.jobs, line);
@@ -179,17 +183,18 @@ pub struct Job {
 
 impl Work {
     /// A lane in which nothing happened.
-    pub fn new(alloc: Global, lane: Bucket, rules: Rules, shelf: PlainShelf) -> Work
+    pub fn new(alloc: Global, lane: Bucket, rules: Rules, schema: SharedSchema) -> Work
         requires set_up { IsSetUp lane rules }
-        requires unused { IsUnused shelf }
         ensures keeps { IsWork result }
         ensures carried { IsCarriedBy result.state [] }
         ensures value { (given planned : List Fate) (takes : Bool) → value_of result given planned takes
-            ≡ new_value lane rules (shelf.opening).types given planned takes }
+            ≡ new_value lane rules schema given planned takes }
+        ensures handed { handed_of result.state ≡ [] }
     {
         late_messages_wait();
         Work {
-            state: LaneState::new(alloc, lane, rules, shelf),
+            state: LaneState::new(alloc, lane, rules),
+            schema,
             drawn: BTreeMap::new(alloc),
             places: StampPlaces::none(alloc),
             has_room: false,
@@ -204,6 +209,7 @@ impl Work {
         ensures carried { StaysCarried self.old.state self.new.state }
         ensures ok { OnOk result (OfValues (λ old new. new ≡ record old { has_room = true }) self.old self.new) }
         ensures err { OnErr result (SameValue self.old self.new) }
+        ensures handed { SameHanded self.old self.new }
     {
         if self.has_room {
             return Ok(());
@@ -216,18 +222,31 @@ impl Work {
         Ok(())
     }
 
-    /// Shows all changes of the lane's view that its events gave.
-    pub fn settle(&mut self) -> Result<(), NoMemory>
+    /// Hands the changes of the lane's view that are kept over to a shelf, first to last, behind those that it has.
+    /// `NoMemory` comes also for the count of 2^64 - 1 changes; the others are kept then.
+    pub fn hand_over<H: Shelf>(&mut self, shelf: &mut H) -> Result<(), NoMemory>
         requires keeps { IsWork self.old }
         ensures keeps { IsWork self.new }
         ensures carried { StaysCarried self.old.state self.new.state }
-        ensures ok { OnOk result (OfValues (λ old new. new ≡ record old { shown = all_changes old }) self.old self.new) }
-        ensures more { OfValues ShowsMore self.old self.new }
+        ensures same { SameValue self.old self.new }
+        ensures holds { Holds (H.shows shelf.old) (H.pending shelf.old) (handed_of self.old.state)
+            → Holds (H.shows shelf.new) (H.pending shelf.new) (handed_of self.new.state) }
+        ensures all { OnOk result (handed_of self.new.state ≡ changes_of (journal_of self.old.state)) }
+        ensures few { OnOk result (length (changes_of (journal_of self.old.state)) < 18446744073709551615) }
+        ensures more { ShowsOn (H.shows shelf.old) (H.shows shelf.new) }
+        ensures name { H.name shelf.new ≡ H.name shelf.old }
     {
-        let settled = self.state.settle();
-        // that no more is shown than there is is known once the shelf is read
-        let _shelf = self.state.shelf();
-        settled
+        self.state.hand_over(shelf)
+    }
+
+    /// Drops the changes of the lane's view that are kept.
+    pub fn drop_kept(&mut self)
+        requires keeps { IsWork self.old }
+        ensures keeps { IsWork self.new }
+        ensures carried { StaysCarried self.old.state self.new.state }
+        ensures same { SameValue self.old self.new }
+    {
+        self.state.drop_kept();
     }
 
     /// Publishes a state, for which room was made.
@@ -240,6 +259,7 @@ impl Work {
         ensures carried { StaysCarried self.old.state self.new.state }
         ensures after { OfValues (λ old new. new
             ≡ record old { journal = event.Published state.now ∷ old.journal; has_room = false }) self.old self.new }
+        ensures handed { SameHanded self.old self.new }
     {
         self.state.spare -= 33;
         self.has_room = false;
@@ -258,6 +278,7 @@ impl Work {
         ensures carried { StaysCarried self.old.state self.new.state }
         ensures after { OfValues (λ old new. new
             ≡ record old { journal = announced deaf state.now old.journal; has_room = false }) self.old self.new }
+        ensures handed { SameHanded self.old self.new }
     {
         kept_journals_mean_legal_ones();
         self.state.spare -= 33;
@@ -300,6 +321,7 @@ impl Work {
         ensures keeps { IsWork self.new }
         ensures carried { StaysCarried self.old.state self.new.state }
         ensures hears { OfValues (λ old new. IsHearing distributor old new result) self.old self.new }
+        ensures handed { SameHanded self.old self.new }
     {
         let Some(state) = self.state.newest else {
             unreachable!();
@@ -326,6 +348,7 @@ impl Work {
         ensures heard { OnOk result (OfValues (λ old new. new
             ≡ record old { journal = heard_next distributor (Some state.now) old.journal }) self.old self.new) }
         ensures err { OnErr result (SameValue self.old self.new) }
+        ensures handed { SameHanded self.old self.new }
     {
         self.room_to_begin(1, state.version())?;
         self.need_part(distributor)?;
@@ -342,6 +365,7 @@ impl Work {
         ensures carried { StaysCarried self.old.state self.new.state }
         ensures after { OfValues (λ old new. new
             ≡ record old { journal = stopped_next node old.journal; has_room = false }) self.old self.new }
+        ensures handed { SameHanded self.old self.new }
     {
         self.state.spare -= 33;
         self.has_room = false;
@@ -357,6 +381,7 @@ impl Work {
         ensures carried { StaysCarried self.old.state self.new.state }
         ensures after { OfValues (λ old new. new
             ≡ record old { journal = started_next node old.journal; has_room = false }) self.old self.new }
+        ensures handed { SameHanded self.old self.new }
     {
         self.state.spare -= 33;
         self.has_room = false;
@@ -408,8 +433,7 @@ impl Work {
 }
 
 impl Work {
-    /// The owner, which holds its state, makes a pass of upkeep. The only error is want of memory, of the lane or of
-    /// a node.
+    /// The owner, which holds its state, makes a pass of upkeep. `NoMemory` is of the lane or of a node.
     fn maintain<C: Carrier>(&mut self, carrier: &mut C, owner: &Owner) -> Result<(), NoMemory>
         requires keeps { IsWork self.old }
         requires carried { IsCarriedBy self.old.state (C.given carrier.old) }
@@ -427,14 +451,15 @@ impl Work {
         ensures run { OnOk result (AreReturned self.old.state self.new.state → HaveRun self.new.state owner.now) }
         ensures rests { OnOk result (RestsBy self.old self.new (C.given carrier.new)) }
         ensures after { self.new ≡ record self.old { state = self.new.state } }
+        ensures handed { SameHanded self.old self.new }
     {
         upkeep_leaves_lines();
         upkeep_leaves_states();
         maintain(&mut self.state, carrier, owner)
     }
 
-    /// The owner under the newest state hears it, and makes a pass of upkeep. The owner may be known. The only error is
-    /// want of memory, of the lane or of a node.
+    /// The owner under the newest state hears it, and makes a pass of upkeep. The owner may be known. `NoMemory` is of
+    /// the lane or of a node.
     pub fn upkeep<C: Carrier>(
         &mut self,
         carrier: &mut C,
@@ -453,6 +478,7 @@ impl Work {
         ensures rests { OnOk result (RestsBy self.old self.new (C.given carrier.new)) }
         ensures err { OnErr result (MayMaintain self.old self.new (C.given carrier.old) (C.given carrier.new)) }
         ensures idle { self.new.jobs.items ≡ [] }
+        ensures handed { SameHanded self.old self.new }
     {
         upkeep_goes_on();
         let Some(state) = self.state.newest else {

@@ -3,7 +3,7 @@
 //!
 //! Each function here carries laws in its contract and does nothing. A law speaks of all journals `J` that
 //! are legal where a write needs `acks` copies and `P` says which nodes serve under a version; `laws` has
-//! three facts (that of active nodes stands in `journal_facts`), `theorem` the law on the versions below a
+//! three facts (that of active nodes stands in `lane_journals`), `theorem` the law on the versions below a
 //! version and what follows. What is promised stands in `specs/`, what the induction carries besides in
 //! `proofs/`; `docs/journal.md` tells how it goes.
 //!

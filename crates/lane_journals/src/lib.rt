@@ -1,4 +1,3 @@
-//! [[lane_journals]]
 //! The journal of a lane: its events, what is read off it, and which journals are legal.
 //!
 //! A lane keeps the list of its events, and what each node stores, which rows there are and what is
@@ -13,7 +12,6 @@
 //! Opened { version: 1, rows, .. }, Decided { decision: RoundBegun { .. }, .. }, ..
 //! ```
 //!
-//! [[journal_facts]]
 //! What holds of every legal journal and is needed before the durability theorem.
 //!
 //! The lemmas stand in `proofs/`: one stamp is of one line, and one line of a document is open at a time (`Kept`);

@@ -94,8 +94,8 @@ fn write_wanted(
     }
 }
 
-/// Exchanges the message that comes next, the key of whose document is known, and tells the machine the reply that
-/// came back, or that none did. The only error is want of memory, and then nothing is sent.
+/// Exchanges the message that comes next, the key of whose document is known, and tells the machine the reply that came
+/// back, or that none did.
 fn exchange_operation<C: Carrier>(
     lane: &mut LaneState,
     machine: &mut OpMachine,
@@ -135,9 +135,9 @@ fn exchange_operation<C: Carrier>(
     Ok(())
 }
 
-/// Sends the next message of an operation that is prepared, if one is left, and deals with it; the entry of
-/// a Store is written before. The key of its document is known. Answers whether one was left. The only error is
-/// want of memory, and then nothing more is known of the operation than that it is under way.
+/// Sends the next message of an operation that is prepared, if one is left, and deals with it; the entry of a Store is
+/// written before. The key of its document is known. Answers whether one was left. At want of memory nothing more is
+/// known of the operation than that it is under way.
 pub fn send_next<C: Carrier>(
     lane: &mut LaneState,
     line: u32,

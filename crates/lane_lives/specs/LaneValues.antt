@@ -1,5 +1,5 @@
--- What a lane is to its callers: its bucket and its rules, the types of its documents, its journal, how much of it
--- searches see, the fates that its carrier gave and planned, and the operations under way; and what its calls make of that.
+-- What a lane is to its callers: its bucket and its rules, the types of its documents, its journal, the fates that its
+-- carrier gave and planned, and the operations under way; and what its calls make of that.
 use Rattle.std.specs.Prelude.{◌≡◌, ◌⊎◌, ℕ, ◌+◌, ◌<◌, Bool, true, false, IsSome, IfSome, List, [], ◌∷◌, ◌++◌, Option, None, Some, refl, slice_get, slice_set, if◌then◌else◌}
 use Rattle.std.specs.List.{remove}
 use Rattle.std.specs.Coded.{Coded, code_by, coded×, coded_ℕ, coded_bool, coded_list}
@@ -44,8 +44,6 @@ pub record LaneValue : Type 0 where
   pub types : Types
   -- the newest event at its head
   pub journal : List LaneEvent
-  -- how many of the changes that it gives are shown
-  pub shown : ℕ
   -- the fates that the carrier gave, in order, and those that were planned
   pub given : List Fate
   pub planned : List Fate
@@ -56,20 +54,20 @@ pub record LaneValue : Type 0 where
   pub under_way : List UnderWay
 
 abbrev pub Parts : Type 0
-Parts = (Low × (Rules × Types)) × (((List LaneEvent × ℕ) × (List Fate × List Fate)) × ((Bool × Bool) × List UnderWay))
+Parts = (Low × (Rules × Types)) × ((List LaneEvent × (List Fate × List Fate)) × ((Bool × Bool) × List UnderWay))
 
 abbrev pub low_code : Coded Low
 low_code = code_by (ℕ × ℕ) (coded× coded_ℕ coded_ℕ) (λ b. (b.bits, b.low)) (λ p. record { bits = p.0; low = p.1 }) (λ _. refl)
 
 abbrev pub parts_code : Coded Parts
 parts_code = coded× (coded× low_code (coded× rules.the_row.coded types_code))
-    (coded× (coded× (coded× (coded_list events.the_row.coded) coded_ℕ) (coded× (coded_list fates.the_row.coded) (coded_list fates.the_row.coded)))
+    (coded× (coded× (coded_list events.the_row.coded) (coded× (coded_list fates.the_row.coded) (coded_list fates.the_row.coded)))
     (coded× (coded× coded_bool coded_bool) (coded_list under.the_row.coded)))
 
 abbrev pub lane_code : Coded LaneValue
 lane_code = code_by Parts parts_code
-    (λ v. ((v.lane, (v.rules, v.types)), (((v.journal, v.shown), (v.given, v.planned)), ((v.takes_plans, v.has_room), v.under_way))))
-    (λ p. record { lane = p.0.0; rules = p.0.1.0; types = p.0.1.1; journal = p.1.0.0.0; shown = p.1.0.0.1; given = p.1.0.1.0; planned = p.1.0.1.1; takes_plans = p.1.1.0.0; has_room = p.1.1.0.1; under_way = p.1.1.1 })
+    (λ v. ((v.lane, (v.rules, v.types)), ((v.journal, (v.given, v.planned)), ((v.takes_plans, v.has_room), v.under_way))))
+    (λ p. record { lane = p.0.0; rules = p.0.1.0; types = p.0.1.1; journal = p.1.0.0; given = p.1.0.1.0; planned = p.1.0.1.1; takes_plans = p.1.1.0.0; has_room = p.1.1.0.1; under_way = p.1.1.1 })
     (λ _. refl)
 
 -- nothing happened in the lane
@@ -79,7 +77,6 @@ new_value lane rules types given planned takes_plans = record {
   rules = rules;
   types = types;
   journal = [];
-  shown = 0;
   given = given;
   planned = planned;
   takes_plans = takes_plans;

@@ -67,7 +67,7 @@ fn is_short(reply: &Option<Reply>) -> bool
 }
 
 /// Exchanges the Ask of a distributor, and tells it the reply that came back, or that none did; answers whether the
-/// node wants memory. The only error is want of memory, and then nothing is sent.
+/// node wants memory.
 fn ask<C: Carrier>(
     lane: &mut LaneState,
     distributor: u8,
@@ -191,8 +191,8 @@ fn ask_next<C: Carrier>(
     }
 }
 
-/// Asks node after node until the state is opened, or nobody is left to ask. The only error is want of memory, of
-/// the lane or where that ends it of a node.
+/// Asks node after node until the state is opened, or nobody is left to ask. `NoMemory` is of the lane or where that
+/// ends it of a node.
 fn ask_all<C: Carrier>(
     lane: &mut LaneState,
     distributor: u8,
@@ -270,8 +270,8 @@ pub fn give_up(lane: &mut LaneState, distributor: u8)
     lane.parts[usize::from(distributor)].give_up();
 }
 
-/// Opens the state of a distributor that owns the lane, or asks all that serve and haven't answered yet. The only
-/// error is want of memory, of the lane or where that ends the opening of a node.
+/// Opens the state of a distributor that owns the lane, or asks all that serve and haven't answered yet. `NoMemory` is
+/// of the lane or where that ends the opening of a node.
 pub fn open_state<C: Carrier>(
     lane: &mut LaneState,
     distributor: u8,

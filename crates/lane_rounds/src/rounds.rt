@@ -224,8 +224,7 @@ fn end_of(run: &RoundRun, row: Row) -> RoundEnd
 
 // ---- one message
 
-/// Exchanges the next message of a round, and tells the round what came back; answers whether there was one. The only
-/// error is want of memory, and then nothing is sent.
+/// Exchanges the next message of a round, and tells the round what came back; answers whether there was one.
 fn step_round<C: Carrier>(
     lane: &mut LaneState,
     carrier: &mut C,
@@ -276,8 +275,8 @@ fn step_round<C: Carrier>(
     Ok(true)
 }
 
-/// Sends the messages of a round one after the other, until none is left. The only error is want of memory, of the
-/// lane or where it ends the round of a node, which cuts the round off.
+/// Sends the messages of a round one after the other, until none is left. `NoMemory` is of the lane or where it ends
+/// the round of a node, which cuts the round off.
 fn send_all<C: Carrier>(
     lane: &mut LaneState,
     carrier: &mut C,
@@ -468,9 +467,9 @@ pub fn end_round(lane: &mut LaneState, run: &RoundRun) -> RoundEnd
     end_of(run, row)
 }
 
-/// Runs a round to its end: its messages one after the other, and then its end is decided. The only error is want
-/// of memory, of the lane or where that ends the round of a node, and it ends the round at once. There is room for
-/// the end. What it was told can be read from it then.
+/// Runs a round to its end: its messages one after the other, and then its end is decided. `NoMemory` is of the lane or
+/// where that ends the round of a node, and it ends the round at once. There is room for the end. What it was told can
+/// be read from it then.
 pub fn run_round<C: Carrier>(
     lane: &mut LaneState,
     carrier: &mut C,

@@ -88,7 +88,7 @@ module _ {lane : Low} {rules : Rules} {J : List LaneEvent} {newest : Option Clus
 
   -- with more places for the changes that are kept
   pub kept-roomier : {kept2 : List (List LaneChange)} {lists2 places2 : ℕ} → kept2 ≡ (t.log).kept → lists2 ≡ (t.log).lists → (t.log).places ≤ places2
-      → IsKeptBy lane rules J newest last nodes parts late stops (record { log = record { told = (t.log).told; kept = kept2; lists = lists2; places = places2; turn_room = (t.log).turn_room }; shelf = t.shelf })
+      → IsKeptBy lane rules J newest last nodes parts late stops (record { log = record { told = (t.log).told; kept = kept2; lists = lists2; places = places2; turn_room = (t.log).turn_room }; handed = t.handed })
   kept-roomier {kept2} {lists2} {places2} same count more = record { small = k.small; keeps = k.keeps; coming = k.coming; counted = k.counted; stops_are = k.stops_are; accepted = k.accepted; told_is = told-roomier J t kept2 lists2 places2 (t.log).turn_room same (λ room. let free = (k.told_is).place room in omega (arith, free, count, more)) k.told_is }
 
   -- a node that isn't among the stopped ones runs

@@ -6,6 +6,7 @@ use Rattle.node_sets.specs.Members.{has_node}
 use Rattle.cluster_states.specs.declared.cluster_state.ClusterState.{ClusterState}
 use Rattle.messages.specs.declared.message.Message.{Message}
 use Rattle.service_layer.specs.Nodes.{Node}
+use Rattle.view_changes.specs.declared.change.LaneChange.{LaneChange}
 use Rattle.distributor_part.specs.declared.rules.Rules.{Rules}
 use Rattle.distributor_part.specs.declared.stage.Stage.TheVariants.{Before}
 use Rattle.distributor_part.specs.Parts.{Part}
@@ -23,7 +24,7 @@ use Rattle.lane_carriage.specs.Carriage.{IsDealt}
 use Rattle.lane_carriage.specs.Waits.{kept_by}
 use Rattle.lane_states.specs.Accepting.{AreAccepted}
 use Rattle.lane_carriage.specs.Carrying.{met_at, DeliversSome, AreCarried}
-use Rattle.lane_states.specs.Told.{Log, Tells, IsTold}
+use Rattle.lane_states.specs.Told.{Log, Tells, IsTold, handed_in}
 use Rattle.lane_states.specs.declared.lane_state.LaneState.{LaneState}
 use Rattle.lane_keeping.specs.LaneKeeping.{node_in, part_in, Keeps}
 use Rattle.lane_keeping.specs.Asking.{IsAsking}
@@ -66,8 +67,12 @@ pub record IsKeptBy (lane : Low) (rules : Rules) (J : List LaneEvent) (newest : 
 abbrev pub log_of : LaneState → Log
 log_of c = record { told = c.journal.told; kept = c.journal.kept.items; lists = deque_len c.journal.kept; places = deque_capacity c.journal.kept; turn_room = c.turn_room }
 
+-- those that it handed over to a shelf
+abbrev pub handed_of : LaneState → List LaneChange
+handed_of c = handed_in (past c.handed.value.events.items) c.handed.value.kept.items
+
 abbrev pub tells_of : LaneState → Tells
-tells_of c = record { log = log_of c; shelf = c.shelf }
+tells_of c = record { log = log_of c; handed = handed_of c }
 
 -- with these parts in the place of its own, and with its own
 abbrev pub IsKeptWith : List Part → LaneState → Type 0

@@ -1,9 +1,6 @@
 -- What a lane keeps of the changes of its view.
-use Rattle.std.specs.Prelude.{◌≡◌, ◌≤◌, ◌+◌, ℕ, min, Bool, true, List, [], ◌∷◌, ◌++◌, length}
-use Rattle.view_changes.specs.Opening.{opening}
+use Rattle.std.specs.Prelude.{◌≡◌, ◌≤◌, ◌+◌, ◌-◌, ℕ, min, Bool, true, List, [], ◌∷◌, ◌++◌, length, take}
 use Rattle.view_changes.specs.declared.change.LaneChange.{LaneChange}
-use Rattle.shelves.specs.Shelves.{Holds}
-use Rattle.shelves.specs.Plain.{Plain, ShowsPlain}
 use Rattle.lane_journals.specs.declared.event.LaneEvent.{LaneEvent}
 use Rattle.lane_changes.specs.Changes.{changes_of}
 
@@ -16,22 +13,13 @@ abbrev pub all_kept : List (List LaneChange) → List LaneChange
 all_kept [] = []
 all_kept (cs ∷ css) = cs ++ all_kept css
 
--- how many changes the shelf shows
-abbrev pub shown_by : Plain → ℕ
-shown_by s = (s.view).generation
+-- those of a journal's changes that no list has any more
+abbrev pub handed_in : List LaneEvent → List (List LaneChange) → List LaneChange
+handed_in J kept = take (length (changes_of J) - length (all_kept kept)) (changes_of J)
 
--- what was appended to a shelf, and then what is kept for it, is this; the shelf counts those that it shows
-pub record HoldsAll (s : Plain) (kept : List (List LaneChange)) (all : List LaneChange) : Type 0 where
-  pub handed : List LaneChange
-  pub holds : Holds (ShowsPlain s) s.pending handed
-  pub counted : shown_by s ≡ length holds.0
-  pub rest : handed ++ all_kept kept ≡ all
-
--- the shelf shows a view of which nothing was heard, and has no change pending
-pub record IsUnused (s : Plain) : Type 0 where
-  pub opens : s.opening ≡ opening (s.opening).types
-  pub shows : s.view ≡ s.opening
-  pub none : s.pending ≡ []
+-- what was shown still is, and perhaps more behind it
+abbrev pub ShowsOn : (List LaneChange → Type 0) → (List LaneChange → Type 0) → Type 0
+ShowsOn shows shows' = (cs : List LaneChange) → shows cs → (more : List LaneChange) × shows' (cs ++ more)
 
 -- how many changes there were, those that no shelf took, in how many lists, for how many there is a place, and whether
 -- one is kept free for a stop or a start
@@ -42,15 +30,14 @@ pub record Log : Type 0 where
   pub places : ℕ
   pub turn_room : Bool
 
--- these, and who is shown the others
+-- these, and those that were handed over to a shelf
 pub record Tells : Type 0 where
   pub log : Log
-  pub shelf : Plain
+  pub handed : List LaneChange
 
--- the changes that a journal gives are counted; what the shelf shows, what is pending there and what is kept are just
--- these changes; and the place that is kept free is there
+-- the changes that a journal gives are counted; those that were handed over, and then those that are kept, are just these
+-- changes; and the place that is kept free is there
 pub record IsTold (J : List LaneEvent) (t : Tells) : Type 0 where
   pub count : (t.log).told ≡ change_count J
-  pub opens : (t.shelf).opening ≡ opening ((t.shelf).opening).types
-  pub holds : HoldsAll t.shelf (t.log).kept (changes_of J)
+  pub whole : t.handed ++ all_kept (t.log).kept ≡ changes_of J
   pub place : (t.log).turn_room ≡ true → (t.log).lists + 1 ≤ (t.log).places

@@ -150,8 +150,7 @@ impl LaneState {
 
     /// Exchanges a message: it is sent with the next number and dealt with by the fate that the carrier gives, and the
     /// late messages that are due then are given out. The key of the document that it names may be known, so that
-    /// nothing is digested. Answers the reply that came back; who sent an Ask is to be told it. The only error is want
-    /// of memory, and then nothing is sent.
+    /// nothing is digested. Answers the reply that came back; who sent an Ask is to be told it.
     pub fn exchange<C: Carrier>(
         &mut self,
         message: Message,

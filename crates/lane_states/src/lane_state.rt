@@ -6,8 +6,8 @@ ghost use Rattle.lane_journals.specs.declared.event.LaneEvent.TheVariants as eve
 ghost use Rattle.lane_keeping.specs.LaneKeeping.{setting_of};
 ghost use Rattle.lane_keeping.specs.Laws.{IsQuietEvent};
 ghost use Rattle.lane_keeping.specs.Tidings.{IsNoStop};
-ghost use Rattle.lane_states.specs.LaneStates.{journal_of, IsKept, HasRoom};
-ghost use Rattle.lane_states.specs.Told.{IsUnused, change_count};
+ghost use Rattle.lane_states.specs.LaneStates.{journal_of, handed_of, IsKept, HasRoom};
+ghost use Rattle.lane_states.specs.Told.{change_count};
 
 use crate::event_log::{EventLog, push_within};
 use bucket_ids::Bucket;
@@ -19,14 +19,14 @@ use lane_keeping::laws::{events_are_kept, lanes_begin, states_are_kept};
 use messages::LateList;
 use node_sets::NodeSet;
 use service_layer::NodePart;
-use shelves::PlainShelf;
 use std::alloc::Global;
 use std::collections::VecDeque;
+use std::snapshot::Snapshot;
 use value_lists::NoMemory;
 
 /// A lane's journal, and what it says: how many changes of its view its events give, the state that was published
-/// last, the number of the last message, the nodes and the distributors' parts, which nodes are stopped, and who is
-/// shown the changes. A node or a part is made when it is first needed.
+/// last, the number of the last message, the nodes and the distributors' parts, which nodes are stopped, and which of the
+/// changes were handed over to a shelf. A node or a part is made when it is first needed.
 #[derive(Drop)]
 pub struct LaneState {
     pub lane: Bucket,
@@ -43,16 +43,15 @@ pub struct LaneState {
     pub late: LateList,
     /// For so many events there is room, whatever else the lane does.
     pub spare: usize,
-    /// Who is shown the changes of its view.
-    pub shelf: PlainShelf,
+    /// The log as changes of its view were last handed over to a shelf: those that it gives and doesn't keep.
+    pub handed: Snapshot<EventLog>,
     pub alloc: Global,
 }
 
 impl LaneState {
     /// A lane in which nothing happened. A lane's bucket has at most 6 bits.
-    pub fn new(alloc: Global, lane: Bucket, rules: Rules, shelf: PlainShelf) -> LaneState
+    pub fn new(alloc: Global, lane: Bucket, rules: Rules) -> LaneState
         requires small { lane.bits ≤ 6 }
-        requires unused { IsUnused shelf }
         ensures keeps { IsKept result }
         ensures journal { journal_of result ≡ [] }
         ensures lane { result.lane ≡ lane }
@@ -62,17 +61,19 @@ impl LaneState {
         ensures parts { result.parts.items ≡ [] }
         ensures late { result.late.late ≡ [] }
         ensures spare { result.spare ≡ 0 }
-        ensures shelf { result.shelf ≡ shelf }
+        ensures handed { handed_of result ≡ [] }
     {
         lanes_begin();
+        let journal = EventLog {
+            events: Vec::new(alloc),
+            told: 0,
+            kept: VecDeque::new(alloc),
+        };
         LaneState {
             lane,
             rules,
-            journal: EventLog {
-                events: Vec::new(alloc),
-                told: 0,
-                kept: VecDeque::new(alloc),
-            },
+            handed: Snapshot::of(&journal),
+            journal,
             newest: None,
             last: 0,
             nodes: Vec::new(alloc),
@@ -81,7 +82,6 @@ impl LaneState {
             parts: Vec::new(alloc),
             late: LateList::new(alloc),
             spare: 0,
-            shelf,
             alloc,
         }
     }

@@ -1,22 +1,22 @@
 //! What a lane keeps: its journal, and what it says; calls append events one by one.
 //!
 //! A `LaneState` has a journal with the changes of its view that no shelf took (`EventLog`), the state that was
-//! published last, the number of its last message, its nodes, its distributors' parts, and its shelf. `IsKept` in
+//! published last, the number of its last message, its nodes, and its distributors' parts. `IsKept` in
 //! `specs/LaneStates.antt` says that they are what the journal says (`lane_keeping`), that late messages are on their way,
 //! that the numbers of messages find room, which nodes are stopped, that the lane's bucket is one, that the active node of
-//! each accepted row took its activation (`specs/Accepting.antt`), and that what the shelf shows, what is pending there
-//! and what is kept are the changes that the journal gives (`specs/Told.antt`). A node or a part that isn't there yet
-//! counts as a new one.
+//! each accepted row took its activation (`specs/Accepting.antt`), and that what was handed over to a shelf, and then what
+//! is kept, are the changes that the journal gives (`specs/Told.antt`). A node or a part that isn't there yet counts as a
+//! new one.
 //!
 //! Each call says by which events the journal grows. A distributor hears the newest state (`parts`). Nodes stop and
 //! start (`stopping`); a message to a stopped node is not delivered. A message is delivered, or kept and delivered
 //! when it falls due (`carriage`). It is sent, dealt with by the fate that the carrier gives, and its reply is handed
 //! back in one place (`exchange`). What an owner does in several messages stands above: openings and rounds in
-//! `lane_rounds`, the operation of a line in `lane_lines`. Changes of the view go to the shelf when it is asked for
+//! `lane_rounds`, the operation of a line in `lane_lines`. Changes of the view go to a shelf when it is asked for
 //! (`settling`).
 //!
 //! ```text
-//! let mut lane = LaneState::new(alloc, bucket, rules, shelf);
+//! let mut lane = LaneState::new(alloc, bucket, rules);
 //! lane.room(1)?;
 //! lane.publish(&state);                   // Published { .. }
 //! lane.hear(distributor)?;                // Heard { .. }

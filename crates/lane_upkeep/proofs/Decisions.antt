@@ -29,7 +29,7 @@ use Rattle.row_keeping.specs.Deciding.{IsDeciding, HasDelete, IsDeleteOver}
 use Rattle.distributor_part.proofs.PartLaws.{row_at}
 use Rattle.round_keeping.proofs.Waiting.{answered-stays}
 use Rattle.lane_states.specs.declared.lane_state.LaneState.{LaneState}
-use Rattle.lane_states.specs.LaneStates.{journal_of, part_of, IsKept, IsKeptBy, HasRoom, IsResting, log_of}
+use Rattle.lane_states.specs.LaneStates.{journal_of, part_of, IsKept, IsKeptBy, HasRoom, IsResting, log_of, handed_of}
 use Rattle.lane_states.specs.Told.{Log}
 use Rattle.lane_carriage.specs.Carrying.{AreCarried}
 use Rattle.round_keeping.specs.RoundRuns.{NoneRuns}
@@ -126,7 +126,7 @@ module _ (c e : LaneState) (o : Owner) (after : e ≡ record c { journal = e.jou
     pub still-passes : log_of e ≡ log_of c → (given : List Fate) → HasRoom 0 e → Keeps c.lane c.rules J c.newest c.last c.nodes.items e.parts.items → AreAccepted c.lane c.rules J e.parts.items → (rows : Rows) → IsOpened (part_of e d) o.state rows
         → IsResting (part_of e d) → IsPassing c o given → IsPassing e o given
     still-passes told given room keeps accepted rows opened resting h = subst (λ (z : LaneState). IsPassing z o given) (sym after) (record {
-      keeps = subst₂ (λ (K : List LaneEvent) (l : Log). IsKeptBy c.lane c.rules K c.newest c.last c.nodes.items e.parts.items c.late.late c.stopped (record { log = l; shelf = c.shelf })) (sym same) (sym (ap (λ (l : Log). record l { turn_room = c.turn_room }) told)) (kept_still h.keeps (omega arith) keeps accepted);
+      keeps = subst₂ (λ (K : List LaneEvent) (l : Log). IsKeptBy c.lane c.rules K c.newest c.last c.nodes.items e.parts.items c.late.late c.stopped (record { log = l; handed = handed_of c })) (sym same) (sym (ap (λ (l : Log). record l { turn_room = c.turn_room }) told)) (kept_still h.keeps (omega arith) keeps accepted);
       spare = of_after (HasRoom 0) room;
       carried = subst (λ (K : List LaneEvent). AreCarried given K c.last c.late.late) (sym same) h.carried;
       there = subst (λ (n : ℕ). d < n) (sym len) h.there;
@@ -154,7 +154,7 @@ module _ (c e : LaneState) (o : Owner) (after : e ≡ record c { journal = e.jou
         → IsKeptNext c.lane c.rules J c.newest c.last c.nodes.items e.parts.items (Decided d v x) → AreAccepted c.lane c.rules J e.parts.items → (rows : Rows) → IsOpened (part_of e d) o.state rows
         → IsResting (part_of e d) → IsPassing c o given → IsPassing e o given
     decided-passes told idles given room next accepted rows opened resting h = subst (λ (z : LaneState). IsPassing z o given) (sym after) (record {
-      keeps = subst₂ (λ (K : List LaneEvent) (l : Log). IsKeptBy c.lane c.rules K c.newest c.last c.nodes.items e.parts.items c.late.late c.stopped (record { log = l; shelf = c.shelf })) (sym grows) (sym (ap (λ (l : Log). record l { turn_room = c.turn_room }) told)) (kept_more h.keeps next.keeps tt accepted);
+      keeps = subst₂ (λ (K : List LaneEvent) (l : Log). IsKeptBy c.lane c.rules K c.newest c.last c.nodes.items e.parts.items c.late.late c.stopped (record { log = l; handed = handed_of c })) (sym grows) (sym (ap (λ (l : Log). record l { turn_room = c.turn_room }) told)) (kept_more h.keeps next.keeps tt accepted);
       spare = of_after (HasRoom 0) room;
       carried = subst (λ (K : List LaneEvent). AreCarried given K c.last c.late.late) (sym grows) (carried-decided given J c.last c.late.late d v x h.carried);
       there = subst (λ (n : ℕ). d < n) (sym len) h.there;

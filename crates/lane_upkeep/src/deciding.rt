@@ -49,7 +49,7 @@ fn decided(owner: &Owner, decision: Decision) -> LaneEvent
     }
 }
 
-/// Splits a row. The only error is want of memory, and then nothing is decided.
+/// Splits a row.
 pub fn split_row(lane: &mut LaneState, owner: &Owner, at: usize) -> Result<(), NoMemory>
     requires passing { Passes lane.old owner.now }
     requires place { at < length (rows_in lane.old owner.now) }
@@ -74,7 +74,7 @@ pub fn split_row(lane: &mut LaneState, owner: &Owner, at: usize) -> Result<(), N
     Ok(())
 }
 
-/// Joins a row with its sibling. The only error is want of memory, and then nothing is decided.
+/// Joins a row with its sibling.
 pub fn join_rows(lane: &mut LaneState, owner: &Owner, at: usize) -> Result<(), NoMemory>
     requires passing { Passes lane.old owner.now }
     requires place { at < length (rows_in lane.old owner.now) }
@@ -100,7 +100,7 @@ pub fn join_rows(lane: &mut LaneState, owner: &Owner, at: usize) -> Result<(), N
     Ok(())
 }
 
-/// Activates a row on a node. The only error is want of memory, and then nothing is decided.
+/// Activates a row on a node.
 pub fn activate(lane: &mut LaneState, owner: &Owner, at: usize, node: u8) -> Result<(), NoMemory>
     requires passing { Passes lane.old owner.now }
     requires place { at < length (rows_in lane.old owner.now) }
@@ -142,8 +142,7 @@ pub fn accept(lane: &mut LaneState, owner: &Owner, at: usize)
     lane.parts[usize::from(owner.distributor)].accept(at);
 }
 
-/// Deletes the copy of a row from a node that is no target. The only error is want of memory, and then nothing is
-/// decided.
+/// Deletes the copy of a row from a node that is no target.
 pub fn delete_from(
     lane: &mut LaneState,
     owner: &Owner,
@@ -183,8 +182,7 @@ pub fn delete_from(
     Ok(())
 }
 
-/// Ends the Delete of a bucket to a node, after a reply that ends it. The only error is want of memory, and then
-/// nothing is decided.
+/// Ends the Delete of a bucket to a node, after a reply that ends it.
 pub fn delete_over(
     lane: &mut LaneState,
     owner: &Owner,

@@ -1,7 +1,7 @@
 //! A pass of upkeep: what the owner of a lane does under the newest state so that the lane comes to rest.
 //!
 //! Every row is to be complete at its targets and nowhere else, active, ready for searches, and neither too large
-//! nor too small. What comes next is said by the machine of `upkeep_steps`, over the owner's rows and what answers and
+//! nor too small. What comes next is said by the machine of `pass_machine`, over the owner's rows and what answers and
 //! rounds told it. Here a lane is driven by it, step by step:
 //!
 //! ```text
@@ -20,7 +20,7 @@
 //! `IsUnderWay` in `specs/UnderWay.antt` that what the machine was told is what the journal says.
 //!
 //! Where nothing is lost or late, each step leaves the pass where it stands in the abstract (`StandsOn` in
-//! `specs/Quiet.antt`, the clauses `quiet`), which is a pass of `lane_rest` at its end, and so `maintain` leaves the lane
+//! `specs/Quiet.antt`, the clauses `quiet`), which is a pass of `pass_model` at its end, and so `maintain` leaves the lane
 //! at rest (`rest_laws`).
 #![tactic(auto)]
 

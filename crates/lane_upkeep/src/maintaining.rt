@@ -28,8 +28,8 @@ fn is_open(end: OpeningEnd) -> bool
     end.missing.is_none()
 }
 
-/// Opens the state of the owner, where it isn't opened; whether it is then. The only error is want of memory, of
-/// the lane or of a node, which ends the opening at once.
+/// Opens the state of the owner, where it isn't opened; whether it is then. `NoMemory` is of the lane or of a node,
+/// which ends the opening at once.
 fn open_owner<C: Carrier>(
     lane: &mut LaneState,
     carrier: &mut C,
@@ -61,9 +61,9 @@ fn open_owner<C: Carrier>(
     }
 }
 
-/// The owner makes a pass of upkeep, for which its state is opened first; where not all nodes answer, that is all.
-/// A pass asks each node that serves, so where all was returned, all of these run.
-/// The only error is want of memory, of the lane or of a node.
+/// The owner makes a pass of upkeep, for which its state is opened first; where not all nodes answer, that is all. A
+/// pass asks each node that serves, so where all was returned, all of these run. `NoMemory` is of the lane or of a
+/// node.
 pub fn maintain<C: Carrier>(
     lane: &mut LaneState,
     carrier: &mut C,

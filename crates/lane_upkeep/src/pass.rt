@@ -15,7 +15,7 @@ use pass_runs::laws::{passes_end, passes_stand};
 use undisturbed_spans::spans::undisturbed_spans_part;
 use value_lists::NoMemory;
 
-/// Takes the next step of a pass; whether there was one. The only error is want of memory, of the lane or of a node.
+/// Takes the next step of a pass; whether there was one. `NoMemory` is of the lane or of a node.
 fn go_on<C: Carrier>(
     lane: &mut LaneState,
     carrier: &mut C,
@@ -49,8 +49,8 @@ fn go_on<C: Carrier>(
     Ok(true)
 }
 
-/// A pass once the owner opened its state: the machine of `upkeep_steps` says what comes next, and this takes each of its
-/// steps. The only error is want of memory, of the lane or of a node.
+/// A pass once the owner opened its state: the machine of `pass_machine` says what comes next, and this takes each of
+/// its steps. `NoMemory` is of the lane or of a node.
 pub fn make_pass<C: Carrier>(
     lane: &mut LaneState,
     carrier: &mut C,

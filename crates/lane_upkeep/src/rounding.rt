@@ -150,8 +150,8 @@ fn note_of(alloc: Global, round: &mut Round) -> Result<RowNote, NoMemory>
     })
 }
 
-/// Runs a round in the row of a place to its end, and gives it. The only error is want of memory, of the lane or of a
-/// node; where the round has begun it ends it at once.
+/// Runs a round in the row of a place to its end, and gives it. `NoMemory` is of the lane or of a node; where the round
+/// has begun it ends it at once.
 fn run_at<C: Carrier>(
     lane: &mut LaneState,
     carrier: &mut C,
@@ -186,8 +186,8 @@ fn run_at<C: Carrier>(
     Ok(run)
 }
 
-/// Runs a round in the row of a place to its end, and notes what it told. The only error is want of memory: before
-/// the round begins, while it runs or at a node, which ends it at once, or for the note.
+/// Runs a round in the row of a place to its end, and notes what it told. `NoMemory` comes before the round begins,
+/// while it runs or at a node, which ends it at once, or for the note.
 pub fn run_round_at<C: Carrier>(
     lane: &mut LaneState,
     carrier: &mut C,

@@ -108,8 +108,8 @@ fn is_delete(body: &Body) -> bool
     }
 }
 
-/// Says something of a row to a node, and tells the pass what came of it. The only error is want of memory, before the
-/// message is sent or at the node.
+/// Says something of a row to a node, and tells the pass what came of it. `NoMemory` comes before the message is sent
+/// or at the node.
 pub fn say<C: Carrier>(
     lane: &mut LaneState,
     carrier: &mut C,
@@ -149,7 +149,7 @@ pub fn say<C: Carrier>(
 
 // ---- a decision
 
-/// Decides this of the row of a place. The only error is want of memory, and then nothing is decided.
+/// Decides this of the row of a place.
 fn decide_row(
     lane: &mut LaneState,
     owner: &Owner,
@@ -176,7 +176,7 @@ fn decide_row(
     }
 }
 
-/// Decides what the pass wants of the row of a place. The only error is want of memory, and then nothing is decided.
+/// Decides what the pass wants of the row of a place.
 pub fn decide(
     lane: &mut LaneState,
     owner: &Owner,
@@ -236,8 +236,8 @@ pub fn note_acceptance(lane: &mut LaneState, owner: &Owner, pass: &mut UpkeepPas
 
 // ---- a round
 
-/// Runs a round of the row of a place, and tells the pass what it showed. The only error is want of memory: before the
-/// round begins, while it runs or at a node, which ends it at once, or for what it showed.
+/// Runs a round of the row of a place, and tells the pass what it showed. `NoMemory` comes before the round begins,
+/// while it runs or at a node, which ends it at once, or for what it showed.
 pub fn round<C: Carrier>(
     lane: &mut LaneState,
     carrier: &mut C,

@@ -48,8 +48,8 @@ fn unless_short(reply: Option<Reply>) -> Result<Option<Reply>, NoMemory>
 }
 
 /// Says something of a row of the owner to a node: the message is dealt with by its fate, and the late messages that
-/// are due then are given out. Answers the reply that came back. The only error is want of memory, before the
-/// message is sent or at the node.
+/// are due then are given out. Answers the reply that came back. `NoMemory` comes before the message is sent or at the
+/// node.
 pub fn tell_node<C: Carrier>(
     lane: &mut LaneState,
     carrier: &mut C,

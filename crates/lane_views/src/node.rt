@@ -98,8 +98,7 @@ impl SeenNode {
         self.stopped = stopped;
     }
 
-    /// The node takes a version: a greater one forgets the regions and their documents. The only error is want of
-    /// memory.
+    /// The node takes a version: a greater one forgets the regions and their documents.
     pub fn adopt(
         &mut self,
         alloc: Global,
@@ -118,8 +117,7 @@ impl SeenNode {
         Ok(())
     }
 
-    /// The node kept an entry: where it lies in a region, its document is seen there, or none. The only error is want
-    /// of memory.
+    /// The node kept an entry: where it lies in a region, its document is seen there, or none.
     pub fn take(&mut self, alloc: Global, entry: &SharedEntry) -> Result<(), NoMemory>
         ensures ok { OnOk result (self.new ≡ step (λ types. taken types entry.now) self.old) }
         ensures err { OnErr result (self.new ≡ self.old) }

@@ -93,8 +93,7 @@ fn is_barred(nodes: &[SeenNode], at: usize, bucket: Bucket) -> bool
         || are_in_the_way(&nodes[at + 1..], version, bucket)
 }
 
-/// A bucket is a region of a node, with these entries, unless it meets a region of another at that version. The only
-/// error is want of memory.
+/// A bucket is a region of a node, with these entries, unless it meets a region of another at that version.
 fn activate_at(
     alloc: Global,
     nodes: &mut [SeenNode],

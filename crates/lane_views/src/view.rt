@@ -12,11 +12,13 @@ use crate::node::SeenNode;
 use crate::nodes::{change_nodes, measure_at, new_nodes, rows_at, serves_at};
 use doc_types::FieldValue;
 use documents::Document;
+use field_indexes::FieldIndex;
 use node_rows::{NodeRows, SharedSchema};
 use std::alloc::Global;
 use std::marker::Model;
 use value_lists::{NoMemory, TryCopy, copy_all};
 use view_changes::{LaneChange, Lists, Shown};
+use view_columns::Columns;
 
 /// What is seen of a lane: its 32 nodes, and how many changes came.
 #[derive(Drop)]
@@ -54,8 +56,7 @@ impl LaneView {
 
     /// A change comes, whatever it is. One of a node above 31, one that takes an entry outside the node's regions and
     /// one that brings a bucket that meets a region of another node at that version raise the generation alone. Costs
-    /// what it changes, and a look at all regions for a new one. The only error is want of memory, which leaves all as
-    /// it was.
+    /// what it changes, and a look at all regions for a new one.
     pub fn change(&mut self, alloc: Global, change: &LaneChange) -> Result<(), NoMemory>
         ensures ok { OnOk result (self.new ≡ changed self.old change.now) }
         ensures err { OnErr result (self.new ≡ self.old) }
@@ -108,8 +109,7 @@ impl LaneView {
         self.rows(node)?.key(local)
     }
 
-    /// A document, where a node has one with this local id: with those values alone that are of their kinds. Takes no
-    /// memory.
+    /// A document, where a node has one with this local id: with those values alone that are of their kinds.
     pub fn document(&self, node: u8, local: u32) -> Option<&Document>
         ensures { option_copied result ≡ row_at (rows_of node self.now) local }
     {
@@ -164,6 +164,12 @@ impl Shown for LaneView {
 
     fn measure(&self, version: u32) -> u64 {
         self.measure(version)
+    }
+}
+
+impl Columns for LaneView {
+    fn column(&self, node: u8, type_name: &str, field: &str) -> Option<&FieldIndex> {
+        self.rows(node)?.column(type_name, field)
     }
 }
 

@@ -72,7 +72,6 @@ pub fn drop_local(list: &mut Vec<u32>, local: u32)
 }
 
 /// Puts an id in the place of another, if that is there: two binary searches, and the ids between them move by one.
-/// Takes no memory.
 pub fn move_local(list: &mut Vec<u32>, from: u32, to: u32)
     requires { IsRising list.old.items }
     ensures { list.new.items ≡ moved_local from to list.old.items }

@@ -1,5 +1,5 @@
 -- Hits of node after node.
-use Rattle.std.proofs.Common.{◌≡◌, ℕ, suc, ◌+◌, ◌++◌, ◌&&◌, Bool, true, false, cond, List, [], ◌∷◌, map, refl, sym, ap, ◌∙◌, arith}
+use Rattle.std.proofs.Common.{◌≡◌, ℕ, suc, ◌+◌, ◌++◌, ◌&&◌, true, false, cond, List, [], ◌∷◌, map, refl, sym, ap, ◌∙◌, arith}
 use Rattle.view_changes.specs.Views.{View}
 use Rattle.view_changes.specs.Serving.{serves_at, rows_of}
 use Rattle.document_rows.specs.Reading.{places_where, is_of_type}

@@ -4,3 +4,4 @@ pub mod RangeLaws
 pub mod HitLaws
 mod FewLaws
 pub mod Steps
+mod MarkLaws

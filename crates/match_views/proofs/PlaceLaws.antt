@@ -1,12 +1,11 @@
 -- Places of documents that pass tests, joined and cut.
-use Rattle.std.proofs.Common.{◌≡◌, ℕ, suc, ◌<◌, ◌≤◌, ◌&&◌, ◌||◌, Bool, true, false, cond, not, nat_lt, ltb, List, [], ◌∷◌, Option, None, Some, refl, sym, ap, ap₂, subst, ◌∙◌, arith}
+use Rattle.std.proofs.Common.{◌≡◌, ℕ, suc, ◌<◌, ◌&&◌, ◌||◌, Bool, true, false, cond, not, nat_lt, List, [], ◌∷◌, None, Some, refl, ap, ap₂, ◌∙◌, arith}
 use Rattle.std.proofs.lemmas.Bool.Decides.{nat_tests}
 use Rattle.std.specs.List.{AllByRecursion}
-use Rattle.local_ids.specs.Rising.{IsRising}
 use Rattle.documents.specs.Fields.{Contents}
 use Rattle.document_rows.specs.Rows.{Rows}
 use Rattle.document_rows.specs.Reading.{places_from}
-use Rattle.match_views.specs.Merging.{joined_from, joined, cut_from, cut, lacking_from, lacking}
+use Rattle.match_views.specs.Merging.{joined, cut, lacking}
 
 -- each number is above x
 abbrev AreAbove : ℕ → List ℕ → Type 0

@@ -1,7 +1,9 @@
 -- Numbers of documents in a range, and lists of them joined.
-use Rattle.std.proofs.Common.{◌≡◌, ℕ, ℤ, pos, negsuc, zero, suc, ◌+◌, ◌-◌, ◌<◌, ◌≤◌, ◌-ℤ◌, ◌+ℤ◌, ◌==◌, ◌&&◌, ◌||◌, ◌⊎◌, inl, inr, Bool, true, false, cond, List, [], ◌∷◌, ◌++◌, map, length, take, drop, Option, Some, None, refl, sym, ap, ap₂, subst, ◌∙◌, arith, length-drop}
+use Rattle.std.proofs.Common.{◌≡◌, ℕ, ℤ, pos, negsuc, zero, suc, ◌-◌, ◌<◌, ◌-ℤ◌, ◌+ℤ◌, ◌==◌, ◌&&◌, ◌||◌, ◌⊎◌, inl, inr, Bool, true, false, cond, List, [], ◌∷◌, ◌++◌, map, length, take, drop, Option, Some, None, refl, sym, ap, ap₂, subst, ◌∙◌, arith, length-drop, bytes_eq}
+use mir.Val.{SFits}
+use mir.Syntax.{w64}
 use Rattle.std.specs.List.{list_any, AllByRecursion}
-use Rattle.std.specs.Ordering.{int_eq, int_cmp, MatchOrdering, is_eq, is_lt, is_le, is_gt, is_ge}
+use Rattle.std.specs.Ordering.{int_eq, int_cmp, MatchOrdering}
 use Rattle.std.specs.declared.cmp.Ordering.{Ordering}
 use Rattle.std.specs.declared.cmp.Ordering.TheVariants.{Less, Equal, Greater}
 use Rattle.std.specs.Cmp.{int_ranks}
@@ -20,9 +22,13 @@ use Rattle.attribute_columns.specs.Columns.{numbers_of, has_number}
 use Rattle.document_rows.specs.Rows.{Rows}
 use Rattle.document_rows.specs.Reading.{row_at, places_from, places_where, is_of_type, value_has_number, has_number_in, IsWide}
 use Rattle.query_text.specs.declared.terms.Rel.{Rel}
-use Rattle.query_text.specs.declared.terms.Rel.TheVariants as rel
 use Rattle.query_text.specs.Truth.{relates, value_relates}
 use Rattle.match_views.specs.Merging.{joined}
+use Rattle.document_ids.specs.Parts.{type_of}
+use Rattle.document_indexes.specs.Entering.{cell_of}
+use Rattle.view_columns.specs.Cells.{is_one, HaveOne}
+use Rattle.match_views.specs.declared.ranges.Bound.{Bound}
+use Rattle.match_views.specs.Bounds.{within}
 use Rattle.match_views.specs.Ranges.{some_number, AreLists, has_some, AreAll}
 use Rattle.match_views.proofs.PlaceLaws.{joined-places, same-places, no-places}
 
@@ -155,17 +161,56 @@ value_same r z (Some (Text t)) = refl
 value_same r z (Some (Ints ys)) = refl
 value_same r z (Some (Texts ts)) = refl
 
--- the documents that have one of the numbers that stand so to a number
-pub all_related : (name field : List ℕ) (rows : Rows) (r : Rel) (z : ℤ) (parts : List (ℤ × List ℕ)) → AreAll name field rows (relates r z) parts
-    → places_where (has_some name field parts) rows ≡ places_where (λ d. is_of_type name d && value_relates r z (fin.get d.fields field)) rows
-all_related name field rows r z parts a = same_there _ _ 0 rows (λ x d e. step x d e ∙ ap (λ t. is_of_type name d && t) (value_same r z (fin.get d.fields field)))
+-- the documents that have one of the numbers that pass a test
+all_passing : (name field : List ℕ) (rows : Rows) (test : ℤ → Bool) (parts : List (ℤ × List ℕ)) → AreAll name field rows test parts
+    → places_where (has_some name field parts) rows ≡ places_where (λ d. is_of_type name d && some_number test (fin.get d.fields field)) rows
+all_passing name field rows test parts a = same_there _ _ 0 rows step
   where
-    step : (x : ℕ) (d : Contents) → row_at rows x ≡ Some d → has_some name field parts d ≡ (is_of_type name d && some_number (relates r z) (fin.get d.fields field))
-    step x d e = same-by _ _ (passes name field (relates r z) parts d a.pass) (λ h.
-        let t = both (is_of_type name d) (some_number (relates r z) (fin.get d.fields field)) h in
-        let y = value_such (relates r z) (fin.get d.fields field) t.1 in
+    step : (x : ℕ) (d : Contents) → row_at rows x ≡ Some d → has_some name field parts d ≡ (is_of_type name d && some_number test (fin.get d.fields field))
+    step x d e = same-by _ _ (passes name field test parts d a.pass) (λ h.
+        let t = both (is_of_type name d) (some_number test (fin.get d.fields field)) h in
+        let y = value_such test (fin.get d.fields field) t.1 in
         let n = and_true (is_of_type name d) (value_has_number y.0 (fin.get d.fields field)) t.0 y.1.0 in
         among name field y.0 parts d (a.all y.0 y.1.1 (some_place (has_number_in name field y.0) 0 rows x d e n)) n)
+
+-- a test that is made twice
+twice : (b : Bool) → (b && b) ≡ b
+twice true = refl
+twice false = refl
+
+some-same : (t u : ℤ → Bool) (zs : List ℤ) → ((z : ℤ) → t z ≡ u z) → list_any t zs ≡ list_any u zs
+some-same t u [] e = refl
+some-same t u (z ∷ zs) e = ap₂ (λ a b. a || b) (e z) (some-same t u zs e)
+
+value_twice : (b : Bound) (v : Option FieldValue) → some_number (within b b) v ≡ value_relates b.rel b.number v
+value_twice b None = refl
+value_twice b (Some v) = some-same (within b b) (relates b.rel b.number) (numbers_of v) (λ z. twice (relates b.rel b.number z)) ∙ value_same b.rel b.number (Some v)
+
+-- those that have one of the numbers that stand so to a number
+pub all_related : (name field : List ℕ) (rows : Rows) (b : Bound) (parts : List (ℤ × List ℕ)) → AreAll name field rows (within b b) parts
+    → places_where (has_some name field parts) rows ≡ places_where (λ d. is_of_type name d && value_relates b.rel b.number (fin.get d.fields field)) rows
+all_related name field rows b parts a = all_passing name field rows (within b b) parts a ∙ same-places _ _ (λ d. ap (λ t. is_of_type name d && t) (value_twice b (fin.get d.fields field))) 0 rows
+
+-- those that have one that stands so to two numbers, where each has one at most
+value_within : (one two : Bound) (v : Option FieldValue) → is_one v ≡ true → some_number (within one two) v ≡ (value_relates one.rel one.number v && value_relates two.rel two.number v)
+value_within one two None h = refl
+value_within one two (Some (Int y)) h = or_false (within one two y)
+value_within one two (Some (Text t)) h = refl
+value_within one two (Some (Ints ys)) h = clash h refl
+value_within one two (Some (Texts ts)) h = refl
+
+pub all_within : (name field : List ℕ) (rows : Rows) (one two : Bound) (parts : List (ℤ × List ℕ)) → AreAll name field rows (within one two) parts → HaveOne name field (row_at rows)
+    → places_where (has_some name field parts) rows ≡ places_where (λ d. is_of_type name d && (value_relates one.rel one.number (fin.get d.fields field) && value_relates two.rel two.number (fin.get d.fields field))) rows
+all_within name field rows one two parts a h = all_passing name field rows (within one two) parts a ∙ same_there _ _ 0 rows step
+  where
+    step : (x : ℕ) (d : Contents) → row_at rows x ≡ Some d → (is_of_type name d && some_number (within one two) (fin.get d.fields field))
+        ≡ (is_of_type name d && (value_relates one.rel one.number (fin.get d.fields field) && value_relates two.rel two.number (fin.get d.fields field)))
+    step x d e = by (bytes_eq (type_of d.id) name) (ap (λ r. is_one (cell_of name field r)) (sym e) ∙ h x)
+      where
+        by : (t : Bool) → is_one (cond t (fin.get d.fields field) None) ≡ true → (t && some_number (within one two) (fin.get d.fields field))
+            ≡ (t && (value_relates one.rel one.number (fin.get d.fields field) && value_relates two.rel two.number (fin.get d.fields field)))
+        by true o = value_within one two (fin.get d.fields field) o
+        by false o = refl
 
 -- the numbers that pass the test, as far as below a number
 pub record AreSoFar (name field : List ℕ) (rows : Rows) (test : ℤ → Bool) (low from : ℤ) (parts : List (ℤ × List ℕ)) : Type 0 where
@@ -320,3 +365,20 @@ second_half f n xs part e = map_drop f n xs ∙ ap (map f) (sym (e ∙ take_all 
 
 pub past_end : {A : Type 0} (q own high : ℤ) → own ≡ high → (own +ℤ pos 1) ≤ℤ q → q ≤ℤ high → A
 past_end q own high e a b = absurd (omega (arith, ints, e, a, b))
+
+-- the number behind one that isn't the last
+wide-of : (z : ℤ) → SFits w64 z → IsWide z
+wide-of (pos n) f = (let l : n < 9223372036854775808 = f.sfits in (omega (arith, ints), omega (arith, ints, l)))
+wide-of (negsuc n) f = (let l : n < 9223372036854775808 = f.sfits in (omega (arith, ints, l), omega (arith, ints)))
+
+of-wide : (z : ℤ) → IsWide z → SFits w64 z
+of-wide (pos n) f = record { sfits = let l : n < 9223372036854775808 = (let h = f.1 in omega (arith, ints, h)) in l }
+of-wide (negsuc n) f = record { sfits = let l : n < 9223372036854775808 = (let h = f.0 in omega (arith, ints, h)) in l }
+
+pub next_fits : (own high : ℤ) → own ≤ℤ high → (own ≡ high → ⊥) → SFits w64 own → SFits w64 high → SFits w64 (own +ℤ pos 1)
+next_fits own high l n f g = by_order (int_cmp own high) (int_ranks own high)
+  where
+    by_order : (o : Ordering) → MatchOrdering o (own <ℤ high) (own ≡ high) (high <ℤ own) → SFits w64 (own +ℤ pos 1)
+    by_order Less m = of-wide (own +ℤ pos 1) (let a = (wide-of own f).0 in let b = (wide-of high g).1 in (omega (arith, ints, a), omega (arith, ints, m, b)))
+    by_order Equal m = absurd (n m)
+    by_order Greater m = absurd (omega (arith, ints, m, l))

@@ -1,7 +1,7 @@
 -- The steps of the loops.
-use Rattle.std.proofs.Common.{◌≡◌, ℕ, suc, ◌+◌, ◌<◌, ◌≤◌, Bool, true, false, cond, nat_lt, List, [], ◌∷◌, ◌++◌, length, get_or, take, drop, ◌-◌, length-drop, inl, inr, ◌⊎◌, zero, refl, sym, ap, subst, ◌∙◌, arith, add-one, drop-cons}
+use Rattle.std.proofs.Common.{◌≡◌, ℕ, suc, ◌+◌, ◌<◌, ◌≤◌, true, false, nat_lt, List, [], ◌∷◌, ◌++◌, length, get_or, take, drop, ◌-◌, length-drop, inl, inr, ◌⊎◌, zero, refl, sym, ap, ◌∙◌, arith, add-one, drop-cons}
 use Rattle.std.proofs.lemmas.Bool.Decides.{nat_tests}
-use Rattle.match_views.specs.Merging.{joined_from, joined, cut_from, cut, lacking_from, lacking}
+use Rattle.match_views.specs.Merging.{joined, cut, lacking}
 
 pub heads : (xs : List ℕ) (i : ℕ) → i < length xs → drop i xs ≡ get_or xs i 0 ∷ drop (i + 1) xs
 heads xs i h = rw (add-one, drop-cons xs i 0) refl

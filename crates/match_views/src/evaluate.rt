@@ -5,14 +5,15 @@ ghost use Rattle.query_text.specs.Truth.{expr_holds};
 
 use crate::ranges::comparing;
 use crate::sets::{cut, join, lack};
+use crate::spans::spanning;
 use crate::terms::containing;
 use query_text::Expr;
 use std::alloc::Global;
 use value_lists::NoMemory;
-use view_changes::Lists;
+use view_columns::Columns;
 
 /// The local ids of a node's documents of a type of which an expression is true.
-pub fn evaluate<L: Lists>(
+pub fn evaluate<L: Columns>(
     alloc: Global,
     lists: &L,
     node: u8,
@@ -30,6 +31,9 @@ pub fn evaluate<L: Lists>(
             lack(alloc, lists.of_type(node, type_name), &found)
         }
         Expr::And(one, two) => {
+            if let Some(found) = spanning(alloc, lists, node, type_name, one, two)? {
+                return Ok(found);
+            }
             let one = evaluate(alloc, lists, node, type_name, one)?;
             let two = evaluate(alloc, lists, node, type_name, two)?;
             cut(alloc, &one, &two)

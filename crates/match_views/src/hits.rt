@@ -10,7 +10,7 @@ use query_text::Query;
 use std::alloc::Global;
 use std::marker::Model;
 use value_lists::NoMemory;
-use view_changes::Lists;
+use view_columns::Columns;
 
 /// A document that a query finds.
 #[derive(Clone, Copy, Debug, PartialEq, Eq, Drop)]
@@ -67,7 +67,7 @@ fn push_all(hits: &mut Vec<Hit>, node: u8, locals: &[u32]) -> Result<(), NoMemor
 /// Of which documents of nodes that serve at a version a query is true, by rising lists: no document and no value is read.
 /// Takes for each such node the lengths of the lists that the query names. They are at most 2^37, since each of 32 nodes has
 /// 2^32 local ids.
-pub fn matches<L: Lists>(
+pub fn matches<L: Columns>(
     alloc: Global,
     query: &Query,
     lists: &L,

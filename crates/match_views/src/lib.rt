@@ -13,8 +13,10 @@
 mod evaluate;
 pub mod hits;
 pub mod laws;
+mod marks;
 mod ranges;
 pub mod sets;
+mod spans;
 mod terms;
 
 pub use hits::{Hit, Hits, matches};

@@ -20,15 +20,18 @@ fn rarest<L: Lists>(
     requires { 0 < length tokens.now }
     ensures { result < length tokens.now }
 {
+    if tokens.len() == 1 {
+        return 0;
+    }
     let mut best = 0;
+    let mut least = usize::MAX;
     for at in 0..tokens.len() {
-        let here = lists.with_token(node, type_name, field, tokens[at].text());
-        if here.len()
-            < lists
-                .with_token(node, type_name, field, tokens[best].text())
-                .len()
-        {
+        let many = lists
+            .with_token(node, type_name, field, tokens[at].text())
+            .len();
+        if many < least {
             best = at;
+            least = many;
         }
     }
     best

@@ -162,7 +162,7 @@ impl Round {
         self.awaited = None;
     }
 
-    /// The same, of a reply that the caller keeps. The only error is want of memory; nothing changes then.
+    /// The same, of a reply that the caller keeps.
     pub fn answer(&mut self, alloc: Global, node: u8, reply: Option<&Reply>) -> Result<(), NoMemory>
         requires asked { self.old.awaited ≡ Some node }
         requires node { node < 32 }
@@ -206,7 +206,7 @@ impl Round {
         shown::have_all(self.readers, &self.shown)
     }
 
-    /// How many documents the union of the answers so far has. The only error is want of memory; nothing changes.
+    /// How many documents the union of the answers so far has.
     pub fn documents(&mut self) -> Result<u64, NoMemory>
         ensures documents { IfOk result (λ documents. documents ≡ documents_of self.old.union) }
         ensures kept { self.new ≡ self.old }

@@ -66,7 +66,7 @@ impl LateList {
         self.items.len()
     }
 
-    /// Makes a place for one more. The only error is want of memory, and then nothing has changed.
+    /// Makes a place for one more.
     pub fn room(&mut self) -> Result<(), NoMemory>
         ensures same { self.new.late ≡ self.old.late }
         ensures room { OnOk result (self.new.room ≡ true) }

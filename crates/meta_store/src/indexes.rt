@@ -52,7 +52,7 @@ pub fn drop_id(by_id: &mut BTreeMap<String, u32>, id: &DocId)
     by_id.remove(id.text());
 }
 
-/// A new document has a local id that was free. The only error is want of memory, which leaves both as they were.
+/// A new document has a local id that was free.
 pub fn enter(
     alloc: Global,
     locals: &mut Vec<u32>,

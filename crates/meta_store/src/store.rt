@@ -39,7 +39,7 @@ impl Model for MetaStore {
     ghost invariant = { λ s. IsStored s.named s.locals.items s.by_id };
 }
 
-/// A new document takes a local id that is free. The only error is want of memory, which leaves all as it was.
+/// A new document takes a local id that is free.
 fn place_in(
     alloc: Global,
     named: &mut LocalMap<Named>,
@@ -70,7 +70,7 @@ fn place_in(
     }
 }
 
-/// A new document takes the least local id that is free. The only error is want of memory, which leaves all as it was.
+/// A new document takes the least local id that is free.
 fn take_in(
     alloc: Global,
     named: &mut LocalMap<Named>,

@@ -1,8 +1,7 @@
 -- Rows changed or copied place by place.
-use Rattle.std.proofs.Common.{◌≡◌, ℕ, zero, suc, ◌+◌, ◌^◌, ◌<◌, ◌≤◌, ◌||◌, Bool, true, false, List, [], ◌∷◌, map, length, take, refl, sym, ap, subst, ◌∙◌, arith, Option, Some, None, option_map, bytes_eq}
+use Rattle.std.proofs.Common.{◌≡◌, ℕ, zero, suc, ◌+◌, ◌<◌, ◌≤◌, ◌||◌, Bool, true, false, List, [], ◌∷◌, map, length, take, refl, sym, ap, subst, ◌∙◌, arith, Option, Some, None, option_map, bytes_eq}
 use Rattle.proof_basics.proofs.Tests.{clash}
 use Rattle.proof_basics.proofs.Options.{none_some, some_same}
-use Rattle.bucket_ids.specs.Buckets.{Low, has_key}
 use Rattle.global_ids.specs.Keys.{key_of}
 use Rattle.documents.specs.Fields.{Contents}
 use Rattle.document_rows.specs.Rows.{Rows, is_of, has_row, AreDistinct}
@@ -15,7 +14,7 @@ use Rattle.field_indexes.specs.Fields.{Fields}
 use Rattle.meta_store.specs.Store.{Store}
 use Rattle.node_rows.proofs.IndexedLaws.{same_board}
 use Rattle.node_rows.proofs.UndoLaws.{cut_same, cut_few}
-use Rattle.node_rows.specs.TypedRows.{TypedRows, with_rows, lies_in}
+use Rattle.node_rows.specs.TypedRows.{TypedRows, with_rows}
 use Rattle.node_rows.specs.Kept.{set_at, changed_below, named_of, IsProper, IsKept}
 use Rattle.node_rows.proofs.PlaceLaws.{lacked}
 

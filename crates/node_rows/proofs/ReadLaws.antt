@@ -87,11 +87,11 @@ word_cell name field w (Some d) = by_test (bytes_eq (type_of d.id) name)
     by_test false = refl
 
 -- what a field that is there has
-cell_there : (types : Types) (g : Board) (lists : Index) (fields : Fields) (name field : List ℕ) (h : Held) → IsIndexed types g lists fields → Some h ≡ fields name field → (k : ℕ) → fin.get h.values k ≡ cell_of name field (g k)
+pub cell_there : (types : Types) (g : Board) (lists : Index) (fields : Fields) (name field : List ℕ) (h : Held) → IsIndexed types g lists fields → Some h ≡ fields name field → (k : ℕ) → fin.get h.values k ≡ cell_of name field (g k)
 cell_there types g lists fields name field h is e k = ap (λ o. option_and_then (λ h. fin.get h.values k) o) e ∙ is.cells name field k
 
 -- and one that isn't
-cell_missing : (types : Types) (g : Board) (lists : Index) (fields : Fields) (name field : List ℕ) → IsIndexed types g lists fields → fields name field ≡ None → (k : ℕ) → cell_of name field (g k) ≡ None
+pub cell_missing : (types : Types) (g : Board) (lists : Index) (fields : Fields) (name field : List ℕ) → IsIndexed types g lists fields → fields name field ≡ None → (k : ℕ) → cell_of name field (g k) ≡ None
 cell_missing types g lists fields name field is e k = sym (is.cells name field k) ∙ ap (λ o. option_and_then (λ h. fin.get h.values k) o) e
 
 pub words_are : (types : Types) (rows : Rows) (lists : Index) (fields : Fields) (name field w : List ℕ) (h : Held) → IsIndexed types (row_at rows) lists fields → Some h ≡ fields name field

@@ -1,5 +1,5 @@
 -- A node's documents by local id, with the types of the schema that their values are of.
-use Rattle.std.specs.Prelude.{◌≡◌, ℕ, Bool, false, List, [], ◌∷◌, map, fold, refl, Option, None, Some, if◌then◌else◌}
+use Rattle.std.specs.Prelude.{◌≡◌, Bool, false, List, [], ◌∷◌, map, fold, refl, Option, None, Some, if◌then◌else◌}
 use Rattle.std.specs.Coded.{Coded, code_by, coded×, coded_list, coded_option}
 use Rattle.bucket_ids.specs.Buckets.{Low, has_key}
 use Rattle.global_ids.specs.Keys.{key_of}

@@ -122,8 +122,7 @@ fn own_document(entry: &Entry) -> Option<&Document>
     }
 }
 
-/// An entry with the document that a row shows of it: the entry itself, where all values are of their kinds. The only
-/// error is want of memory.
+/// An entry with the document that a row shows of it: the entry itself, where all values are of their kinds.
 fn fitted_entry(
     alloc: Global,
     schema: &Schema,

@@ -3,7 +3,7 @@ ghost use Rattle.std.specs.Int.Signed.{◌≤ℤ◌, ◌<ℤ◌};
 ghost use Rattle.std.specs.Option.{option_copied};
 ghost use Rattle.local_ids.specs.Rising.{IsRising};
 ghost use Rattle.global_ids.specs.Keys.{key_of};
-ghost use Rattle.document_indexes.specs.Entering.{cell_of};
+ghost use Rattle.document_indexes.specs.Entering.{cell_of, IsLent};
 ghost use Rattle.document_rows.specs.Rows.{AreDistinct, has_row, without, with_document, taken_into};
 ghost use Rattle.document_rows.specs.Reading.{row_at, value_at, places_where, is_any, is_of_type, has_token, has_number_in, IsWide};
 ghost use Rattle.node_rows.specs.Kept.{document_in, documents_in, IsProper, set_at, put_new, by_body, kept_in};
@@ -16,6 +16,7 @@ use doc_types::FieldValue;
 use document_ids::DocId;
 use document_indexes::Indexes;
 use documents::{Document, SharedEntry};
+use field_indexes::FieldIndex;
 use global_ids::key_of;
 use global_ids::laws::keys_locate;
 use meta_store::MetaStore;
@@ -363,6 +364,13 @@ impl NodeRows {
             Some(row) => document_of(row),
             None => None,
         }
+    }
+
+    /// What the documents of a type have in a field, by place: nothing where none ever had a value there.
+    pub fn column(&self, type_name: &str, field: &str) -> Option<&FieldIndex>
+        ensures { IsLent type_name.now field.now (row_at self.now.rows) (option_copied result) }
+    {
+        self.indexes.index(type_name, field)
     }
 
     /// What a column has at a place.

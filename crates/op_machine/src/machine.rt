@@ -106,8 +106,7 @@ impl OpMachine {
         }
     }
 
-    /// The outcome, once there is no message to be sent or answered. The only error is want of memory;
-    /// nothing changes.
+    /// The outcome, once there is no message to be sent or answered.
     pub fn outcome(&mut self, alloc: Global) -> Result<Option<Outcome>, NoMemory>
         ensures outcome { IfOk result (λ outcome. outcome ≡ outcome_in (next_at self.old)) }
         ensures kept { self.new ≡ self.old }
@@ -144,8 +143,7 @@ impl OpMachine {
         self.stores.answered
     }
 
-    /// The next message, or none where none is left. The only error is want of memory; nothing changes. The
-    /// reply takes none.
+    /// The next message, or none where none is left. The reply takes none.
     pub fn send(&mut self, alloc: Global) -> Result<Option<Message>, NoMemory>
         ensures message { IfOk result (λ m. m ≡ message_in (next_at self.old)) }
         ensures asked { IfOk result (MayAnswer self.new) }
@@ -196,7 +194,7 @@ impl OpMachine {
         }
     }
 
-    /// The same, of a reply that the caller keeps. The only error is want of memory; nothing changes then.
+    /// The same, of a reply that the caller keeps.
     pub fn answer(&mut self, alloc: Global, node: u8, reply: Option<&Reply>) -> Result<(), NoMemory>
         requires { IsAsked self.old node }
         ensures ok { OnOk result (IsAnswered node (option_copied reply.entry) self.old self.new) }

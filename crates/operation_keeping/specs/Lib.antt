@@ -1,4 +1,4 @@
--- `OperationKeeping` says what is known of the operation that is under way, `Laws` what the laws say, `Left` how many
+-- `OperationKeeping` says what is known of an operation that is under way, `Laws` what the laws say, `Left` how many
 -- messages are left. `Others` says which events are others'.
 pub mod OperationKeeping
 pub mod Laws

@@ -1,4 +1,4 @@
--- What is known of the operation that is under way: what it began, whom it asked and what was answered, as the journal
+-- What is known of an operation that is under way: what it began, whom it asked and what was answered, as the journal
 -- says. What an event can't touch is a record over what readers read.
 use Rattle.std.specs.Prelude.{◌≡◌, ◌≢◌, ◌↔◌, ◌<◌, ◌^◌, ℕ, Bool, true, false, List, Option, None, Some}
 use Rattle.bucket_ids.specs.Buckets.{Low}

@@ -1,4 +1,4 @@
-//! Laws of the operation that is under way in a lane; no function here does anything.
+//! Laws of an operation that is under way in a lane; no function here does anything.
 
 ghost use Rattle.std.specs.Prelude.{◌≡◌, ◌≢◌, ◌⊎◌, ◌≤◌, ◌+◌, ℕ, true, false, List, ◌∷◌, Option, None, Some};
 ghost use Rattle.bucket_ids.specs.Buckets.{Low};

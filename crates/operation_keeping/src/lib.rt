@@ -1,6 +1,6 @@
-//! What is known of the operation that is under way in a lane, over each event, and what its line wants next; a crate of laws.
+//! What is known of an operation that is under way in a lane, over each event, and what its line wants next; a crate of laws.
 //!
-//! One operation is under way in a lane at a time. From its Begun on it isn't prepared yet (`KnowsPreparing` in
+//! Several may be under way, each of another document. From its Begun on one isn't prepared yet (`KnowsPreparing` in
 //! `specs/OperationKeeping.antt`); once it is, `KnowsOperation` says that what its machine was told (`op_machine`) is what the
 //! journal shows: which nodes were sent a Read and a Store, who answered, which entry was seen newest, and whether its entry is
 //! written. So each message, the entry and the outcome that the machine gives next may come next in the journal. While a message is

@@ -1,4 +1,4 @@
--- The machine and the rows as `upkeep_turns` and `lane_rest` have them in the abstract.
+-- The machine and the rows as `pass_turns` and `pass_model` have them in the abstract.
 use Rattle.std.specs.Prelude.{◌≡◌, ◌==◌, ◌⊎◌, ◌&&◌, not, ◌<◌, ◌≤◌, ℕ, Bool, true, false, List, [], ◌∷◌, Option, Some, None, is_some, Contains, map, slice_get}
 use Rattle.std.specs.List.{find, list_any, remove}
 use Rattle.std.specs.Ordering.{nat_cmp}

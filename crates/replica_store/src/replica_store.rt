@@ -1,9 +1,9 @@
-ghost use Rattle.std.specs.Prelude.{◌≡◌, ◌^◌, ◌<◌, ◌-◌, ℕ, true, filter, IfOk, IfErr, OnOk, OnErr, Err};
+ghost use Rattle.std.specs.Prelude.{◌≡◌, ◌^◌, ◌<◌, ◌-◌, ℕ, true, false, filter, IfOk, IfErr, OnOk, OnErr, Err};
 ghost use Rattle.std.specs.List.{list_any};
 ghost use Rattle.std.specs.Option.{option_copied};
 ghost use Rattle.std.specs.FinMap as fin;
 ghost use Rattle.global_ids.specs.Keys.{key_of};
-ghost use Rattle.entry_maps.specs.Entries.{in_bucket};
+ghost use Rattle.entry_maps.specs.Entries.{in_bucket, HasNoneNewer, HasOneNewer};
 ghost use Rattle.pieces.specs.Pieces.{holds, does_meet, is_exactly};
 ghost use Rattle.pieces.specs.Told.{IsAnsweredAs, IsSurelyTold, Accepted, key_told, split_told, join_told, ready_told, activate_told, delete_told};
 ghost use Rattle.pieces.specs.declared.fault.StoreFault.TheVariants as fault;
@@ -148,6 +148,14 @@ impl ReplicaStore {
         };
         self.pieces.renew(key);
         Ok(())
+    }
+
+    /// Whether one of some entries is newer than what is there of its document.
+    pub fn is_behind(&self, entries: &EntryMap) -> bool
+        ensures none { result ≡ false → HasNoneNewer entries.now self.now.entries }
+        ensures some { result ≡ true → HasOneNewer entries.now self.now.entries }
+    {
+        entries.has_newer(&self.entries)
     }
 
     /// Makes a bucket a piece, and takes entries of documents whose keys lie in it.

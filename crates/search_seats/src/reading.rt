@@ -20,8 +20,8 @@ pub struct Searched {
     pub fronts: Fronts,
 }
 
-/// The view of a seat is added to a sum; nothing is read where there is no seat, or it isn't let in. The seat is back after
-/// every answer. The only error is want of memory.
+/// The view of a seat is added to a sum; nothing is read where there is no seat, or it isn't let in. The seat is back
+/// after every answer.
 fn read(
     alloc: Global,
     seat: &mut Option<Seat>,
@@ -67,8 +67,7 @@ fn read_at(
     read(alloc, &mut seats[lane], sum)
 }
 
-/// What all seats show of a query under a version; nothing where one of them can't be read. The only error is want of
-/// memory.
+/// What all seats show of a query under a version; nothing where one of them can't be read.
 pub fn read_all(
     alloc: Global,
     seats: &mut Vec<Option<Seat>>,

@@ -53,9 +53,8 @@ impl Seats {
         Seats { seats }
     }
 
-    /// What the lanes show of a query under a version; nothing where one of them has no seat or its seat isn't let in: no
-    /// clause ties that. After every answer each seat is back and keeps what it saw. The only error is want of memory. Waits
-    /// for nobody.
+    /// What the lanes show of a query under a version; nothing where one of them has no seat or its seat isn't let in:
+    /// no clause ties that. After every answer each seat is back and keeps what it saw. Waits for nobody.
     pub fn search(
         &mut self,
         alloc: Global,
@@ -68,7 +67,7 @@ impl Seats {
         read_all(alloc, &mut self.seats, query, version)
     }
 
-    /// The seat of a lane, where it has one, learns what a note of its shelf tells. Takes no memory.
+    /// The seat of a lane, where it has one, learns what a note of its shelf tells.
     pub fn learn(&mut self, lane: u8, note: Note)
         requires { ForSome (seat_at self.old lane) (λ s. IsOfShelf s.shelf note) }
         ensures keeps { KeepSeats self.old self.new }

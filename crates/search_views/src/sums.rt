@@ -6,7 +6,7 @@ use query_groups::SearchAnswer;
 use query_text::Query;
 use std::alloc::Global;
 use value_lists::NoMemory;
-use view_changes::Shown;
+use view_columns::Columns;
 
 /// How many keys there are, of 58 bits.
 const ALL_KEYS: u64 = 288_230_376_151_711_744;
@@ -44,9 +44,9 @@ impl<'a> SearchSum<'a> {
         }
     }
 
-    /// The view of a lane more. Takes what `matches` takes, and for each document that it finds the logarithm of the groups.
-    /// The only error is want of memory; then the sum is as it was.
-    pub fn add<V: Shown>(&mut self, alloc: Global, view: &V) -> Result<(), NoMemory>
+    /// The view of a lane more. Takes what `matches` takes, and for each document that it finds the logarithm of the
+    /// groups.
+    pub fn add<V: Columns>(&mut self, alloc: Global, view: &V) -> Result<(), NoMemory>
         requires { self.old.groups.views < 64 }
         ensures ok { OnOk result ((q : Query) (w : ℕ) (vs : List View) → IsSummed q w vs self.old
             → IsSummed q w (vs ++ V.seen view.now ∷ []) self.new) }

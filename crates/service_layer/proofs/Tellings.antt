@@ -5,7 +5,7 @@ use Rattle.bucket_ids.specs.Buckets.{Low}
 use Rattle.documents.specs.declared.entry.Entry.{Entry}
 use Rattle.global_ids.specs.Keys.{key_of}
 use Rattle.entry_maps.specs.EntryCodes.{Entries}
-use Rattle.entry_maps.specs.Entries.{is_newer}
+use Rattle.entry_maps.specs.Entries.{is_newer, HasNoneNewer}
 use Rattle.std.specs.FinMap as fin
 use Rattle.messages.specs.declared.body.Body.{Body}
 use Rattle.messages.specs.declared.message.Message.{Message}
@@ -18,6 +18,7 @@ use Rattle.view_changes.specs.Shown.{Keeping}
 use Rattle.view_changes.specs.Deeds.{Unites, is_seen, takes, changes_of as changes_told}
 use Rattle.view_changes.specs.declared.change.LaneChange.{LaneChange}
 use Rattle.view_changes.specs.declared.change.LaneChange.TheVariants.{Adopt}
+use Rattle.view_changes.proofs.OrderLaws.{no-value-passes}
 use Rattle.service_layer.specs.Nodes.{Node, adopt}
 use Rattle.service_layer.specs.Takes.{done_reply}
 use Rattle.service_layer.specs.Telling.{kept_of, deed_in, deed_replied, changes_taken, after_first, adoption_of, told_in}
@@ -92,6 +93,10 @@ adopted_told x y m r first cs first_is adopted e =
 
 pub none_told : (n : ℕ) (k : Keeping) (m : Entries) → k.regions ≡ [] → [] ≡ changes_told n k (Unites m)
 none_told n k m h = sym (ap (takes n) (none_seen k (listed m) h))
+
+-- nor is one where no entry is newer
+pub none_newer_told : (n : ℕ) (k : Keeping) (m : Entries) → HasNoneNewer m k.entries → [] ≡ changes_told n k (Unites m)
+none_newer_told n k m old = sym (ap (takes n) (no-value-passes (is_seen k) m (λ id e h. ap (λ t. t && in_regions k.regions (key_of e.id)) (old id e h))))
 
 pub taken_told : {E : Type 0} (n : ℕ) (k : Keeping) (m : Entries) (kept : List Entry) (r : Result (List LaneChange) E) → kept ≡ filter (is_seen k) (listed m) → IfOk r (λ l. l ≡ takes n kept)
     → IfOk r (λ l. l ≡ changes_told n k (Unites m))

@@ -288,11 +288,15 @@ impl NodePart {
         LaterChanges::one(self.alloc, LaneChange::Take { node, entry })
     }
 
-    /// What entries tell that come to the node of a number, by their ids. Each costs a digest, if there is a region.
+    /// What entries tell that come to the node of a number, by their ids. Where there is a region and one of them is newer
+    /// than what is there, each costs a digest.
     fn takes_of(&self, node: u8, entries: &EntryMap) -> Result<LaterChanges, NoMemory>
         ensures { IfOk result (λ list. list ≡ changes_told node (kept_of self.now) (Unites entries.now)) }
     {
         if self.regions.is_empty() {
+            return Ok(LaterChanges::none(self.alloc));
+        }
+        if !self.store.is_behind(entries) {
             return Ok(LaterChanges::none(self.alloc));
         }
         let mut list = entries_in_order(entries)?;

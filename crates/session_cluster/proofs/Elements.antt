@@ -61,12 +61,12 @@ pub below_all : {X : Type 0} (P : X → Type 0) (n : ℕ) (xs : List X) → Belo
 below_all P n xs are all k v at = let within = slice_get_within xs k v at in are k v (omega (arith, within, all)) at
 
 -- an element of a list in which each is what f makes of another
-pub element_map : {X : Type 0} (f : X → X) (xs : List X) (k : ℕ) (v : X) → slice_get (map f xs) k ≡ Some v → (x : X) × ((slice_get xs k ≡ Some x) × (v ≡ f x))
+pub element_map : {X Y : Type 0} (f : X → Y) (xs : List X) (k : ℕ) (v : Y) → slice_get (map f xs) k ≡ Some v → (x : X) × ((slice_get xs k ≡ Some x) × (v ≡ f x))
 element_map f [] k v h = cc h
 element_map f (x ∷ xs) zero v h = (x, (refl, sym (some_is h)))
 element_map f (x ∷ xs) (suc k) v h = element_map f xs k v h
 
-pub map_there : {X : Type 0} (f : X → X) (xs : List X) (k : ℕ) (x : X) → slice_get xs k ≡ Some x → slice_get (map f xs) k ≡ Some (f x)
+pub map_there : {X Y : Type 0} (f : X → Y) (xs : List X) (k : ℕ) (x : X) → slice_get xs k ≡ Some x → slice_get (map f xs) k ≡ Some (f x)
 map_there f [] k x h = cc h
 map_there f (y ∷ xs) zero x h = ap (λ z. Some (f z)) (some_is h)
 map_there f (y ∷ xs) (suc k) x h = map_there f xs k x h

@@ -27,7 +27,8 @@ use Rattle.lane_lives.specs.Lives.{Deed, lines_of, last_line, newest_in}
 use Rattle.lane_core.specs.Runs.{IsLineRun}
 use Rattle.lane_lives.specs.Serving.{bucket_in, IsServing}
 use Rattle.lane_core.proofs.Served.{serving_fresh, serving_heard, serving_newest, serving_told}
-use Rattle.session_cluster.specs.Cells.{Cell}
+use Rattle.lane_core.specs.Shelved.{with_lane, OfLane}
+use Rattle.session_cluster.specs.Cells.{Cell, ShownLane, own_lane, lanes_in, shelves_in}
 use Rattle.session_cluster.specs.Deeds.{told_with, deeds_of_lane}
 use Rattle.session_cluster.specs.Keeping.{IsReady}
 use Rattle.session_cluster.specs.Lanes.{lane_of_id}
@@ -39,6 +40,7 @@ use Rattle.session_cluster.proofs.DeedLists.{deeds_told, lines_low}
 use Rattle.session_cluster.proofs.Elements.{element_map, set_there, seen_map}
 use Rattle.session_cluster.proofs.KeptLanes.{lane_there}
 use Rattle.session_cluster.proofs.LaneLists.{lane_small}
+use Rattle.session_cluster.proofs.ShelvedLanes.{lanes_did, shelves_did, each_of, cell-in, lane_index, lanes_set, shelves_set}
 
 -- ---- which lane it is
 
@@ -49,40 +51,60 @@ pub in_bounds : (s : Setting) (line at : ℕ) (op : Operation) (c : Cell) → Is
 in_bounds s line at op c ready is = within s line at c ready (subst (λ n. n < 2 ^ s.bits) (sym is) (lane_small s.bits op.id))
 
 -- the lane that is looked up is that of the number
-pub found : (at n : ℕ) (c : Cell) (vs : List LaneValue) (v : LaneValue) → at < length c.lanes → vs ≡ c.lanes → n ≡ at → v ≡ slice_index_or vs n v → slice_get c.lanes at ≡ Some v
-found at n c vs v below same from value =
+found-lane : (at n : ℕ) (c : Cell) (vs : List LaneValue) (v : LaneValue) → at < length c.lanes → vs ≡ c.lanes → n ≡ at → v ≡ slice_index_or vs n v → slice_get c.lanes at ≡ Some v
+found-lane at n c vs v below same from value =
     let there = lane_there c.lanes at below in
     let one : v ≡ there.0 = value ∙ ap (λ m. slice_index_or vs m v) from ∙ ap (λ ws. slice_index_or ws at v) same ∙ get_or_from_slice_get c.lanes at there.0 v there.1 in
     there.1 ∙ ap Some (sym one)
 
-pub look_up : (at n : ℕ) (c : Cell) (vs : List LaneValue) → at < length c.lanes → vs ≡ c.lanes → n ≡ at → n < length vs
-look_up at n c vs below same from = subst (λ m. m < length vs) (sym from) (subst (λ ws. at < length ws) (sym same) below)
+look-up-lane : (at n : ℕ) (c : Cell) (vs : List LaneValue) → at < length c.lanes → vs ≡ c.lanes → n ≡ at → n < length vs
+look-up-lane at n c vs below same from = subst (λ m. m < length vs) (sym from) (subst (λ ws. at < length ws) (sym same) below)
 
-pub operated_in : (line at n : ℕ) (op : Operation) (via : Option ℕ) (old new : Cell) (vs : List LaneValue) (v w : LaneValue) (x : Outcome) → at < length old.lanes → vs ≡ old.lanes → n ≡ at → v ≡ slice_index_or vs n v
-    → IsLineRun (record { number = line; operation = op; via = via }) v w x → new ≡ record old { lanes = set vs n w; dealt = line } → IsOperatedIn at line op via old new x
-operated_in line at n op via old new vs v w x below same from value ran now = record {
-  before = v;
-  after = w;
-  there = found at n old vs v below same from value;
+pub found : (at n : ℕ) (c : Cell) (xs : List ShownLane) (s : ShownLane) → at < length c.lanes → lanes_in xs ≡ c.lanes → n ≡ at → s ≡ slice_index_or xs n s → slice_get c.lanes at ≡ Some s.lane
+found at n c xs s below same from value = found-lane at n c (lanes_in xs) s.lane below same from (lane_index xs n s value)
+
+pub look_up : (at n : ℕ) (c : Cell) (xs : List ShownLane) → at < length c.lanes → lanes_in xs ≡ c.lanes → n ≡ at → n < length xs
+look_up at n c xs below same from = let small = look-up-lane at n c (lanes_in xs) below same from in omega (arith, small, length-map xs own_lane)
+
+-- one lane of a cluster is another, and its shelf is the same
+one-lane : (old inside : Cell) (xs : List ShownLane) (n at line : ℕ) (s t : ShownLane) → inside ≡ old → inside.lanes ≡ lanes_in xs → inside.shelves ≡ shelves_in xs → n ≡ at → t.shelf ≡ (slice_index_or xs n s).shelf
+    → ◌≡◌ {A = Cell} (record inside { lanes = lanes_in (set xs n t); shelves = shelves_in (set xs n t); dealt = line }) (record old { lanes = set old.lanes at t.lane; dealt = line })
+one-lane old inside xs n at line s t is lanes shelves from shelf =
+    cell-in old inside (lanes_in (set xs n t)) (set old.lanes at t.lane) (shelves_in (set xs n t)) line is
+    (lanes_set xs n t ∙ (ap (λ (vs : List LaneValue). set vs n t.lane) (sym lanes ∙ ap (λ (x : Cell). x.lanes) is) ∙ ap (λ m. set old.lanes m t.lane) from))
+    (shelves_set xs n t s shelf ∙ sym shelves)
+
+pub operated_in : (line at n : ℕ) (op : Operation) (via : Option ℕ) (old inside : Cell) (xs : List ShownLane) (s t : ShownLane) (x : Outcome) → at < length old.lanes → inside ≡ old → inside.lanes ≡ lanes_in xs → inside.shelves ≡ shelves_in xs → n ≡ at → s ≡ slice_index_or xs n s
+    → IsLineRun (record { number = line; operation = op; via = via }) s.lane t.lane x → t.shelf ≡ s.shelf
+    → IsOperatedIn at line op via old (record inside { lanes = lanes_in (set xs n t); shelves = shelves_in (set xs n t); dealt = line }) x
+operated_in line at n op via old inside xs s t x below is lanes shelves from value ran shelf = record {
+  before = s.lane;
+  after = t.lane;
+  there = found at n old xs s below (sym lanes ∙ ap (λ (c : Cell). c.lanes) is) from value;
   ran = ran;
-  now = now ∙ ap (λ us. record old { lanes = set us n w; dealt = line }) same ∙ ap (λ m. record old { lanes = set old.lanes m w; dealt = line }) from;
+  now = one-lane old inside xs n at line s t is lanes shelves from (shelf ∙ ap (λ (z : ShownLane). z.shelf) value);
 }
 
-pub planned_in : (line at n : ℕ) (given fates : List Fate) (old new : Cell) (vs : List LaneValue) (v w : LaneValue) (taken : Bool) → at < length old.lanes → vs ≡ old.lanes → n ≡ at → v ≡ slice_index_or vs n v
-    → given ≡ fates → taken ≡ v.takes_plans → w ≡ record v { planned = planned_with taken v.planned given } → new ≡ record old { lanes = set vs n w; dealt = line } → IsPlannedIn line at fates old new
-planned_in line at n given fates old new vs v w taken below same from value are took after now = record {
-  before = v;
-  there = found at n old vs v below same from value;
-  now = now ∙ ap (λ us. record old { lanes = set us n w; dealt = line }) same ∙ ap (λ m. record old { lanes = set old.lanes m w; dealt = line }) from
-      ∙ ap (λ (x : LaneValue). record old { lanes = set old.lanes at x; dealt = line }) (after ∙ ap (λ t. record v { planned = planned_with t v.planned given }) took ∙ ap (λ fs. record v { planned = planned_with v.takes_plans v.planned fs }) are);
-}
+pub planned_in : (line at n : ℕ) (given fates : List Fate) (old inside : Cell) (xs : List ShownLane) (s t : ShownLane) (taken : Bool) → at < length old.lanes → inside ≡ old → inside.lanes ≡ lanes_in xs → inside.shelves ≡ shelves_in xs → n ≡ at → s ≡ slice_index_or xs n s
+    → given ≡ fates → taken ≡ s.lane.takes_plans → t ≡ record s { lane = record s.lane { planned = planned_with taken s.lane.planned given } }
+    → IsPlannedIn line at fates old (record inside { lanes = lanes_in (set xs n t); shelves = shelves_in (set xs n t); dealt = line })
+planned_in line at n given fates old inside xs s t taken below is lanes shelves from value are took after =
+    let v : LaneValue = s.lane in
+    let lane : t.lane ≡ record v { planned = planned_with v.takes_plans v.planned fates }
+    = ap (λ (z : ShownLane). z.lane) after ∙ ap (λ b. record v { planned = planned_with b v.planned given }) took ∙ ap (λ fs. record v { planned = planned_with v.takes_plans v.planned fs }) are in
+    record {
+      before = v;
+      there = found at n old xs s below (sym lanes ∙ ap (λ (c : Cell). c.lanes) is) from value;
+      now = one-lane old inside xs n at line s t is lanes shelves from (ap (λ (z : ShownLane). z.shelf) after ∙ ap (λ (z : ShownLane). z.shelf) value)
+          ∙ ap (λ (x : LaneValue). record old { lanes = set old.lanes at x; dealt = line }) lane;
+    }
 
 -- what the plan is answered
-pub plan_told : (at n : ℕ) (fates : List Fate) (c : Cell) (vs : List LaneValue) (v w : LaneValue) (taken : Bool) → at < length c.lanes → vs ≡ c.lanes → n ≡ at → taken ≡ v.takes_plans
-    → w ≡ record v { planned = planned_with taken v.planned fates } → Some (answer.Planned taken) ≡ plan_answer (slice_get (set vs n w) at)
-plan_told at n fates c vs v w taken below same from took after =
-    ap (λ t. Some (answer.Planned t)) (took ∙ sym (ap (λ (x : LaneValue). x.takes_plans) after))
-    ∙ ap plan_answer (sym (ap (λ m. slice_get (set vs n w) m) (sym from) ∙ set_there vs n w (look_up at n c vs below same from)))
+pub plan_told : (at n : ℕ) (fates : List Fate) (c : Cell) (xs : List ShownLane) (s t : ShownLane) (taken : Bool) → at < length c.lanes → lanes_in xs ≡ c.lanes → n ≡ at → taken ≡ s.lane.takes_plans
+    → t ≡ record s { lane = record s.lane { planned = planned_with taken s.lane.planned fates } } → Some (answer.Planned taken) ≡ plan_answer (slice_get (lanes_in (set xs n t)) at)
+plan_told at n fates c xs s t taken below same from took after =
+    ap (λ b. Some (answer.Planned b)) (took ∙ sym (ap (λ (z : ShownLane). z.lane.takes_plans) after))
+    ∙ ap plan_answer (sym (ap (λ (vs : List LaneValue). slice_get vs at) (lanes_set xs n t) ∙ (ap (λ m. slice_get (set (lanes_in xs) n t.lane) m) (sym from) ∙ set_there (lanes_in xs) n t.lane (look-up-lane at n c (lanes_in xs) below same from))))
 
 -- ---- what may be asked of it
 
@@ -199,28 +221,30 @@ roomy_after old mid room telling = all_roomy old.told old.lanes mid.lanes tellin
 pub may_announce_after : (state : ClusterState) (old mid : Cell) → mid ≡ record old { lanes = map with_room old.lanes } → EachLane (IsTelling old.told) old.lanes → publish_fault mid.told state ≡ None → EachLane (MayAnnounce state) mid.lanes
 may_announce_after state old mid room telling none = all_may_announce old.told state old.lanes mid.lanes (sym (ap (fault_in state) room) ∙ none) telling (ap (λ (x : Cell). x.lanes) room)
 
--- every lane of a cluster did it
-pub all_did : (line : ℕ) (f : LaneValue → LaneValue) (old inside : Cell) (vs ws shown : List LaneValue) → inside ≡ old → vs ≡ inside.lanes → ws ≡ map f vs → EachLane IsLaneValue ws → shown ≡ ws
-    → IsDoneInEach line f old (record inside { lanes = shown; dealt = line })
-all_did line f old inside vs ws shown is same after holds shows = record {
-  now = ap (λ (x : Cell). record x { lanes = shown; dealt = line }) is ∙ ap (λ us. record old { lanes = us; dealt = line }) (shows ∙ after ∙ ap (map f) (same ∙ ap (λ (x : Cell). x.lanes) is));
-  holds = subst (EachLane IsLaneValue) (sym shows) holds;
+-- every lane of a cluster did it, whose lanes with their shelves were these
+pub all_did : (line : ℕ) (f : LaneValue → LaneValue) (old inside : Cell) (items vs ws shown : List ShownLane) → inside ≡ old → inside.lanes ≡ lanes_in items → inside.shelves ≡ shelves_in items → vs ≡ items → ws ≡ map (with_lane f) vs → EachLane (OfLane IsLaneValue) ws → shown ≡ ws
+    → IsDoneInEach line f old (record inside { lanes = lanes_in shown; shelves = shelves_in shown; dealt = line })
+all_did line f old inside items vs ws shown is lanes shelves same after holds shows = record {
+  now = cell-in old inside (lanes_in shown) (map f old.lanes) (shelves_in shown) line is
+      (lanes_did f vs shown (shows ∙ after) ∙ ap (map f) (ap lanes_in same ∙ (sym lanes ∙ ap (λ (x : Cell). x.lanes) is)))
+      (shelves_did f vs shown (shows ∙ after) ∙ (ap shelves_in same ∙ sym shelves));
+  holds = subst (λ (xs : List ShownLane). EachLane IsLaneValue (lanes_in xs)) (sym shows) (each_of IsLaneValue ws holds);
 }
 
 -- nothing stands against the state
 pub no_fault : (state : ClusterState) (old inside : Cell) → inside ≡ old → publish_fault inside.told state ≡ None → publish_fault old.told state ≡ None
 no_fault state old inside is none = sym (ap (fault_in state) is) ∙ none
 
-pub all_announced : (line : ℕ) (state : ClusterState) (deaf : ℕ) (old inside : Cell) (vs ws shown : List LaneValue) (now : Told) → inside ≡ old → vs ≡ inside.lanes → now ≡ told_with None state inside.told → ws ≡ map (after_state state deaf) vs
-    → EachLane IsLaneValue ws → publish_fault inside.told state ≡ None → shown ≡ ws → IsToldRoomy line (publish_fault old.told state) state deaf old (record inside { told = now; lanes = shown; dealt = line })
-all_announced line state deaf old inside vs ws shown now is same told after holds none shows =
-    subst (λ o. IsToldRoomy line o state deaf old (record inside { told = now; lanes = shown; dealt = line })) (sym (no_fault state old inside is none)) (record {
-      now = ap (λ (x : Cell). record x { told = now; lanes = shown; dealt = line }) is
-          ∙ ap (λ t. record old { told = t; lanes = shown; dealt = line }) (told ∙ ap (λ (x : Cell). told_with None state x.told) is)
-          ∙ ap (λ us. record old { told = told_with None state old.told; lanes = us; dealt = line }) (shows ∙ after ∙ ap (map (after_state state deaf)) (same ∙ ap (λ (x : Cell). x.lanes) is));
-      holds = subst (EachLane IsLaneValue) (sym shows) holds;
+pub all_announced : (line : ℕ) (state : ClusterState) (deaf : ℕ) (old inside : Cell) (items vs ws shown : List ShownLane) (now : Told) → inside ≡ old → inside.lanes ≡ lanes_in items → inside.shelves ≡ shelves_in items → vs ≡ items → now ≡ told_with None state inside.told
+    → ws ≡ map (with_lane (after_state state deaf)) vs → EachLane (OfLane IsLaneValue) ws → publish_fault inside.told state ≡ None → shown ≡ ws
+    → IsToldRoomy line (publish_fault old.told state) state deaf old (record inside { told = now; lanes = lanes_in shown; shelves = shelves_in shown; dealt = line })
+all_announced line state deaf old inside items vs ws shown now is lanes shelves same told after holds none shows =
+    let d : IsDoneInEach line (after_state state deaf) old (record inside { lanes = lanes_in shown; shelves = shelves_in shown; dealt = line }) = all_did line (after_state state deaf) old inside items vs ws shown is lanes shelves same after holds shows in
+    subst (λ o. IsToldRoomy line o state deaf old (record inside { told = now; lanes = lanes_in shown; shelves = shelves_in shown; dealt = line })) (sym (no_fault state old inside is none)) (record {
+      now = ap (λ (x : Cell). record x { told = now }) d.now ∙ ap (λ t. record old { told = t; lanes = map (after_state state deaf) old.lanes; dealt = line }) (told ∙ ap (λ (x : Cell). told_with None state x.told) is);
+      holds = d.holds;
     })
 
 -- as many lanes as before
-pub same_many : (f : LaneValue → LaneValue) (inside vs ws : List LaneValue) (n : ℕ) → n ≡ length inside → vs ≡ inside → ws ≡ map f vs → length ws ≡ n
-same_many f inside vs ws n count same after = ap length after ∙ length-map vs f ∙ ap length same ∙ sym count
+pub same_many : (f : LaneValue → LaneValue) (inside vs ws : List ShownLane) (n : ℕ) → n ≡ length inside → vs ≡ inside → ws ≡ map (with_lane f) vs → length ws ≡ n
+same_many f inside vs ws n count same after = ap length after ∙ length-map vs (with_lane f) ∙ ap length same ∙ sym count

@@ -9,6 +9,7 @@ pub mod SearchLaws
 pub mod SessionSteps
 pub mod Moving
 pub mod Nearly
+pub mod ShelvedLanes
 -- Of this crate alone.
 mod NotedLists
 mod Reborrowed

@@ -7,7 +7,9 @@ use Rattle.lane_lives.specs.LaneValues.{LaneValue}
 use Rattle.lane_keeping.specs.Shown.{HasEntries}
 use Rattle.session_cluster.specs.Lanes.{Journal}
 use Rattle.session_cluster.specs.Sizes.{AreSizes, HasSize}
+use Rattle.session_cluster.specs.Cells.{ShownLane, lanes_in}
 use Rattle.session_cluster.proofs.LaneLists.{journal_is}
+use Rattle.session_cluster.proofs.ShelvedLanes.{past_lanes}
 
 sizes_more : (node n : ℕ) (J : Journal) (Js : List Journal) (ns : List ℕ) → AreSizes node Js ns → HasEntries J node n → AreSizes node (Js ++ J ∷ []) (ns ++ n ∷ [])
 sizes_more node n J [] [] are h = (h, tt)
@@ -47,3 +49,7 @@ whole_size node size k vs ws has past same = subst (λ us. HasSize node (map jou
   where
     all_taken : (vs : List LaneValue) (k : ℕ) → length vs ≤ k → take k vs ≡ vs
     all_taken vs k h = take_all k vs h
+
+-- of lanes with their shelves
+pub size_of_lanes : (node size k : ℕ) (xs : List ShownLane) (ws : List LaneValue) → HasSize node (map journal_is (take k (lanes_in xs))) size → length xs ≤ k → lanes_in xs ≡ ws → HasSize node (map journal_is ws) size
+size_of_lanes node size k xs ws has past same = whole_size node size k (lanes_in xs) ws has (past_lanes xs k past) same

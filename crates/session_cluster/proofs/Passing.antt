@@ -4,11 +4,13 @@ use Rattle.value_lists.specs.declared.no_memory.NoMemory.{NoMemory}
 use Rattle.lane_lives.specs.LaneValues.{LaneValue, IsLaneValue}
 use Rattle.lane_lives.specs.Upkeep.{MayBeUpkept, IsSpan}
 use Rattle.lane_lives.specs.declared.spans.UpkeepSpan.{UpkeepSpan}
-use Rattle.session_cluster.specs.Cells.{Cell}
+use Rattle.std.proofs.lemmas.List.{length-map}
+use Rattle.session_cluster.specs.Cells.{Cell, ShownLane, own_lane, lanes_in}
 use Rattle.session_cluster.specs.Output.{upkeep_answer}
 use Rattle.session_cluster.specs.Spans.{spans_of}
 use Rattle.session_cluster.specs.Steps.{MayHavePassed, MayHaveAllPassed, AreSpans, HasSpans, IsMaintained}
 use Rattle.session_cluster.proofs.Elements.{element_set}
+use Rattle.session_cluster.proofs.ShelvedLanes.{lanes_set}
 use Rattle.session_cluster.proofs.SpanLists.{spans_own}
 
 -- so many lanes made their passes, and the others are as they were
@@ -100,6 +102,12 @@ module _ (i : ℕ) (vs ws : List LaneValue) (spans : List UpkeepSpan) (x y : Lan
     rest = rest_with;
   })
 
+-- of lanes with their shelves
+pub passed-more-in : (i : ℕ) (vs : List LaneValue) (xs : List ShownLane) (spans : List UpkeepSpan) (x : LaneValue) (y : ShownLane) → PassedSoFar i vs (lanes_in xs) spans → slice_get vs i ≡ Some x
+    → (span : UpkeepSpan) (noted : List UpkeepSpan) → IsSpan span x y.lane → IsLaneValue y.lane → noted ≡ spans ++ span ∷ [] → PassedSoFar (i + 1) vs (lanes_in (set xs i y)) noted
+passed-more-in i vs xs spans x y so was span noted made holds now =
+    subst (λ (ws : List LaneValue). PassedSoFar (i + 1) vs ws noted) (sym (lanes_set xs i y)) (passed_more i vs (lanes_in xs) spans x y.lane so was span noted made holds now)
+
 -- ---- all lanes
 
 pub all_passed : (i : ℕ) (vs ws : List LaneValue) (spans : List UpkeepSpan) → PassedSoFar i vs ws spans → MayHaveAllPassed vs ws
@@ -107,6 +115,9 @@ all_passed i vs ws spans so = record { count = so.lanes_count; each = so.each }
 
 pub all_spans : (i : ℕ) (vs ws : List LaneValue) (spans : List UpkeepSpan) → PassedSoFar i vs ws spans → i ≡ length vs → AreSpans vs ws spans
 all_spans i vs ws spans so is = record { count = so.spans_count ∙ is; each = so.done }
+
+pub all_spans_in : (i : ℕ) (xs ys : List ShownLane) (spans : List UpkeepSpan) → PassedSoFar i (lanes_in xs) (lanes_in ys) spans → i ≡ length xs → AreSpans (lanes_in xs) (lanes_in ys) spans
+all_spans_in i xs ys spans so is = all_spans i (lanes_in xs) (lanes_in ys) spans so (is ∙ sym (length-map xs own_lane))
 
 -- ---- the cluster
 
@@ -145,12 +156,8 @@ module _ (line : ℕ) (old mid new : Cell) (spans : List UpkeepSpan) (now : mid 
   noted_answer none = ap upkeep_answer (sym (ap (spans_of line) upkeeps_are ∙ spans_own line old.upkeeps (record { line = line; spans = spans }) refl none))
 
 -- as many lanes as before
-pub passed_many : (inside vs ws : List LaneValue) (n : ℕ) → n ≡ length inside → vs ≡ inside → MayHaveAllPassed vs ws → length ws ≡ n
-passed_many inside vs ws n count same passed = passed.count ∙ ap length same ∙ sym count
-
--- by what the lanes are in it
-pub lanes_made : (line : ℕ) (old inside : Cell) (shown : List LaneValue) → inside ≡ old → ◌≡◌ {A = Cell} (record inside { lanes = shown; dealt = line }) (record old { lanes = shown; dealt = line })
-lanes_made line old inside shown is = ap (λ (x : Cell). record x { lanes = shown; dealt = line }) is
+pub passed_many : (inside vs ws : List ShownLane) (n : ℕ) → n ≡ length inside → vs ≡ inside → MayHaveAllPassed (lanes_in vs) (lanes_in ws) → length ws ≡ n
+passed_many inside vs ws n count same passed = sym (length-map ws own_lane) ∙ passed.count ∙ length-map vs own_lane ∙ ap length same ∙ sym count
 
 pub lanes_passed : (old inside : Cell) (vs ws shown : List LaneValue) → inside ≡ old → vs ≡ inside.lanes → MayHaveAllPassed vs ws → shown ≡ ws → MayHaveAllPassed old.lanes shown
 lanes_passed old inside vs ws shown is same passed shows =

@@ -1,10 +1,10 @@
 -- What a search finds in the lanes as they stand, and what it notes.
-use Rattle.std.proofs.Common.{◌≡◌, ◌<◌, ◌≤◌, ◌+◌, ℕ, suc, zero, List, [], ◌∷◌, ◌++◌, None, Some, refl, sym, ap, ap₂, ◌∙◌, subst, arith, length, map, take, set, slice_index_or}
+use Rattle.std.proofs.Common.{◌≡◌, ◌<◌, ◌≤◌, ◌+◌, ℕ, suc, zero, List, [], ◌∷◌, ◌++◌, None, Some, refl, sym, ap, ap₂, ◌∙◌, subst, arith, length, map, min, take, set, slice_index_or}
 use Rattle.std.proofs.Math.Seq.{take-suc, take-length}
 use Rattle.std.proofs.lemmas.List.{map-append, take_all}
 use Rattle.doc_types.specs.SchemaCodes.{Types}
 use Rattle.lane_changes.specs.Changes.{changes_of}
-use Rattle.lane_core.specs.Showing.{view_in, shown_view, IsSettled}
+use Rattle.lane_core.specs.Showing.{view_in}
 use Rattle.lane_lives.specs.LaneValues.{LaneValue}
 use Rattle.query_groups.specs.declared.answers.SearchAnswer.{SearchAnswer}
 use Rattle.query_text.specs.Grammar.{Said}
@@ -13,13 +13,15 @@ use Rattle.reports.specs.declared.answer.Answer.TheVariants as answer
 use Rattle.search_views.specs.Answers.{search_answer}
 use Rattle.search_views.specs.Summed.{IsSummed}
 use Rattle.search_views.specs.declared.sums.SearchSum.{SearchSum}
-use Rattle.session_cluster.specs.Cells.{Cell, journals, journals_of}
+use Rattle.session_cluster.specs.Cells.{Cell, ShownLane, lanes_in, journals, journals_of}
 use Rattle.session_cluster.specs.Output.{found_answer_of}
 use Rattle.session_cluster.specs.Searches.{fronts_of, fronts_now, front_now, view_to, views_to, version_now}
-use Rattle.session_cluster.specs.Steps.{EachLane, HasTypes, IsSearched}
+use Rattle.session_cluster.specs.Steps.{EachLane, HasTypes, HasFew, IsSettledLane, IsSearched}
 use Rattle.session_cluster.proofs.FrontLists.{fronts_own}
+use Rattle.session_cluster.proofs.ShelvedLanes.{below_lanes, past_lanes}
 use Rattle.view_changes.specs.Opening.{opening}
-use Rattle.view_changes.specs.Views.{View, view_after}
+use Rattle.view_changes.specs.Views.{View, changed, view_after}
+use Rattle.view_changes.specs.declared.change.LaneChange.{LaneChange}
 
 -- ---- in which views
 
@@ -62,22 +64,36 @@ pub record ReadSoFar (q : Query) (w k : ℕ) (vs : List LaneValue) (fronts : Lis
 pub none_read : (q : Query) (w : ℕ) (vs : List LaneValue) (fronts : List ℕ) (sum : SearchSum) → fronts ≡ [] → IsSummed q w [] sum → ReadSoFar q w 0 vs fronts sum
 none_read q w vs fronts sum none new = record { fronts_are = none; summed = new }
 
+-- how many changes a view took in
+generation-after : (v : View) (cs : List LaneChange) → v.generation ≤ 18446744073709551615 → (view_after v cs).generation ≡ min (v.generation + length cs) 18446744073709551615
+generation-after v [] few = omega (arith, few)
+generation-after v (c ∷ cs) few = generation-after (changed v c) cs (omega arith) ∙ one-more v.generation (length cs) (changed v c).generation refl
+  where
+    one-more : (g n h : ℕ) → h ≡ min (g + 1) 18446744073709551615 → min (h + n) 18446744073709551615 ≡ min (g + suc n) 18446744073709551615
+    one-more g n h is = omega (arith, is)
+
+-- fewer than it can count are counted
+counted-all : (v : LaneValue) → HasFew v → (view_in v).generation ≡ front_now v
+counted-all v few =
+    let counts : (view_in v).generation ≡ min (0 + length (changes_of v.journal)) 18446744073709551615 = generation-after (opening v.types) (changes_of v.journal) (omega arith) in
+    omega (arith, counts, few)
+
 pub read_more : (q : Query) (w k : ℕ) (vs : List LaneValue) (v : LaneValue) (fronts more : List ℕ) (front : ℕ) (view : View) (sum added : SearchSum) → ReadSoFar q w k vs fronts sum → k < length vs → v ≡ slice_index_or vs k v
-    → view ≡ shown_view v → front ≡ view.generation → view.generation ≡ v.shown → IsSettled v → more ≡ fronts ++ front ∷ []
+    → view ≡ view_in v → front ≡ view.generation → HasFew v → more ≡ fronts ++ front ∷ []
     → ((us : List View) → IsSummed q w us sum → IsSummed q w (us ++ view ∷ []) added) → ReadSoFar q w (k + 1) vs more added
-read_more q w k vs v fronts more front view sum added so below is shown front_is counted settled now adds =
-    let seen : view ≡ view_in v = shown ∙ (ap (λ n. view_after (opening v.types) (take n (changes_of v.journal))) settled ∙ ap (view_after (opening v.types)) (take-length (changes_of v.journal))) in
+read_more q w k vs v fronts more front view sum added so below is seen front_is few now adds =
     let taken = last_taken vs k v below is in
+    let counted : front ≡ front_now v = front_is ∙ (ap (λ (x : View). x.generation) seen ∙ counted-all v few) in
     record {
-      fronts_are = now ∙ ap₂ (λ a n. a ++ n ∷ []) so.fronts_are (front_is ∙ counted ∙ settled) ∙ sym (map-append front_now (take k vs) (v ∷ [])) ∙ ap fronts_now (sym taken);
+      fronts_are = now ∙ ap₂ (λ a n. a ++ n ∷ []) so.fronts_are counted ∙ sym (map-append front_now (take k vs) (v ∷ [])) ∙ ap fronts_now (sym taken);
       summed = subst (λ us. IsSummed q w us added) (ap (λ x. map view_in (take k vs) ++ x ∷ []) seen ∙ sym (map-append view_in (take k vs) (v ∷ [])) ∙ ap (map view_in) (sym taken)) (adds (map view_in (take k vs)) so.summed);
     }
 
 -- each of them shows all of its changes
-pub settled_at : (vs : List LaneValue) (k : ℕ) (v : LaneValue) → EachLane IsSettled vs → k < length vs → v ≡ slice_index_or vs k v → IsSettled v
-settled_at [] k v settled below is = absurd (omega (arith, below))
-settled_at (w ∷ vs) zero v settled below is = settled zero v (ap Some (sym is))
-settled_at (w ∷ vs) (suc k) v settled below is = settled_at vs k v (λ lane u at. settled (suc lane) u at) (omega (arith, below)) is
+pub settled_at : (xs : List ShownLane) (k : ℕ) (s : ShownLane) → EachLane IsSettledLane xs → k < length xs → s ≡ slice_index_or xs k s → IsSettledLane s
+settled_at [] k s settled below is = absurd (omega (arith, below))
+settled_at (x ∷ xs) zero s settled below is = settled zero s (ap Some (sym is))
+settled_at (x ∷ xs) (suc k) s settled below is = settled_at xs k s (λ lane u at. settled (suc lane) u at) (omega (arith, below)) is
 
 pub room_for : (q : Query) (w k : ℕ) (vs : List LaneValue) (fronts : List ℕ) (sum : SearchSum) → ReadSoFar q w k vs fronts sum → k < length vs → length vs ≤ 64 → sum.groups.views < 64
 room_for q w k vs fronts sum so below few = omega (arith, so.summed.views, few_taken, below, few)
@@ -95,6 +111,17 @@ all_summed q w k vs fronts sum so past = subst (λ us. IsSummed q w (map view_in
 
 pub all_fronts : (q : Query) (w k : ℕ) (vs : List LaneValue) (fronts : List ℕ) (sum : SearchSum) → ReadSoFar q w k vs fronts sum → length vs ≤ k → fronts ≡ fronts_now vs
 all_fronts q w k vs fronts sum so past = so.fronts_are ∙ ap fronts_now (take_all k vs past)
+
+-- ---- of lanes with their shelves
+
+pub room_for_one : (q : Query) (w k : ℕ) (xs : List ShownLane) (fronts : List ℕ) (sum : SearchSum) → ReadSoFar q w k (lanes_in xs) fronts sum → k < length xs → length xs ≤ 64 → sum.groups.views < 64
+room_for_one q w k xs fronts sum so below few = room_for q w k (lanes_in xs) fronts sum so (below_lanes xs k below) (past_lanes xs 64 few)
+
+pub lanes_summed : (q : Query) (w k : ℕ) (xs : List ShownLane) (fronts : List ℕ) (sum : SearchSum) → ReadSoFar q w k (lanes_in xs) fronts sum → length xs ≤ k → IsSummed q w (map view_in (lanes_in xs)) sum
+lanes_summed q w k xs fronts sum so past = all_summed q w k (lanes_in xs) fronts sum so (past_lanes xs k past)
+
+pub lanes_fronts : (q : Query) (w k : ℕ) (xs : List ShownLane) (fronts : List ℕ) (sum : SearchSum) → ReadSoFar q w k (lanes_in xs) fronts sum → length xs ≤ k → fronts ≡ fronts_now (lanes_in xs)
+lanes_fronts q w k xs fronts sum so past = all_fronts q w k (lanes_in xs) fronts sum so (past_lanes xs k past)
 
 -- ---- the line
 

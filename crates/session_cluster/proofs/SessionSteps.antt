@@ -1,5 +1,5 @@
 -- One line more keeps what a session keeps.
-use Rattle.std.proofs.Common.{◌≡◌, ◌≢◌, ◌⊎◌, ◌<◌, ◌≤◌, ◌+◌, ℕ, zero, suc, List, [], ◌∷◌, ◌++◌, Option, None, Some, option_and_then, inl, inr, refl, sym, ap, ◌∙◌, subst, arith, length, length-append, length-set, map, slice_get, set}
+use Rattle.std.proofs.Common.{◌≡◌, ◌≢◌, ◌⊎◌, ◌<◌, ◌≤◌, ◌+◌, ℕ, zero, suc, List, [], ◌∷◌, ◌++◌, Option, None, Some, option_and_then, inl, inr, refl, sym, ap, ◌∙◌, subst, arith, length, length-append, length-set, map, slice_get, set, true}
 use Rattle.std.proofs.lemmas.List.{length-map}
 use Rattle.std.proofs.lemmas.Option.{slice_get_within}
 use Rattle.carriers.specs.Fates.{planned_with}
@@ -13,16 +13,16 @@ use Rattle.lane_lives.specs.LaneValues.{LaneValue, IsLaneValue}
 use Rattle.lane_lives.specs.declared.setting.Setting.{Setting}
 use Rattle.lane_lives.specs.Lives.{Deed, Announces, Stops, Starts, Runs, Maintains, lines_of, last_line}
 use Rattle.lane_lives.specs.Serving.{IsServing}
-use Rattle.lane_core.proofs.Served.{serves_run, serves_announced, serves_stopped, serves_started, serves_room, serves_seen, serves_planned, serves_upkept, serves_spanned}
+use Rattle.lane_core.proofs.Served.{serves_run, serves_announced, serves_stopped, serves_started, serves_room, serves_planned, serves_upkept, serves_spanned}
 use Rattle.session_cluster.specs.Cells.{Cell}
 use Rattle.session_cluster.specs.Deeds.{first_told, told_with, told_next, told_of, with_state, with_line, deeds_of_lane, planned_next, planned_for}
-use Rattle.session_cluster.specs.Keeping.{IsKept}
+use Rattle.session_cluster.specs.Keeping.{IsKept, IsReady}
 use Rattle.session_cluster.specs.Lanes.{lane_of_id}
 use Rattle.lane_lives.specs.Upkeep.{MayBeUpkept}
 use Rattle.query_text.specs.Grammar.{Said}
 use Rattle.session_cluster.specs.Searches.{fronts_of, fronts_now}
 use Rattle.session_cluster.specs.Spans.{spans_of, span_in}
-use Rattle.session_cluster.specs.Steps.{with_room, after_state, after_stop, after_start, IsOperatedIn, IsDoneInEach, IsPublished, IsStateTold, IsPlannedIn, MayHavePassed, HasSpans, IsMaintained, IsSearched, IsAfter}
+use Rattle.session_cluster.specs.Steps.{with_room, after_state, after_stop, after_start, IsOperatedIn, IsDoneInEach, IsPublished, IsStateTold, IsPlannedIn, MayHavePassed, HasSpans, IsMaintained, IsSearched, IsAfter, EachLane, HasTypes, HasOpening, AreSettled}
 use Rattle.session_cluster.specs.declared.asked.Asked.{Asked}
 use Rattle.session_cluster.specs.declared.asked.Asked.TheVariants as command
 use Rattle.session_cluster.specs.declared.cluster.LineSpans.{LineSpans}
@@ -31,6 +31,7 @@ use Rattle.session_cluster.proofs.DeedLists.{told_push, deeds_push, deeds_same, 
 use Rattle.session_cluster.proofs.Elements.{element_set, element_map, element_seen}
 use Rattle.session_cluster.proofs.FrontLists.{fronts_other}
 use Rattle.session_cluster.proofs.Nearly.{bare, IsNearly}
+use Rattle.session_cluster.proofs.ShelvedLanes.{opens_settled}
 use Rattle.session_cluster.proofs.SpanLists.{spans_other, spans_own}
 
 count_next : (cs : List Asked) (c : Asked) (k : ℕ) → k ≡ length cs + 1 → k ≡ length (cs ++ c ∷ [])
@@ -145,7 +146,7 @@ serves_state s plans cs state deaf old new k kept d =
 serves_roomy : (s : Setting) (plans : ℕ → List Fate) (cs : List Asked) (old new : Cell) → IsKept s plans cs old → new.lanes ≡ map with_room old.lanes
     → (lane : ℕ) (v : LaneValue) → slice_get new.lanes lane ≡ Some v → IsServing s (planned_for lane v.takes_plans (plans lane) cs) lane (deeds_of_lane s old.upkeeps lane cs) v
 serves_roomy s plans cs old new kept now =
-    serves_each s plans cs old new with_room (λ lane. deeds_of_lane s old.upkeeps lane cs) kept now (λ v. refl) (λ lane v p at is. serves_room s p lane (deeds_of_lane s old.upkeeps lane cs) v (with_room v) is refl)
+    serves_each s plans cs old new with_room (λ lane. deeds_of_lane s old.upkeeps lane cs) kept now (λ v. refl) (λ lane v p at is. serves_room s p lane (deeds_of_lane s old.upkeeps lane cs) v (with_room v) true is refl)
 
 serves_told : (s : Setting) (plans : ℕ → List Fate) (cs : List Asked) (o : Option PublishFault) (state : ClusterState) (deaf : ℕ) (old new : Cell) (k : ℕ) → IsKept s plans cs old → IsStateTold k o state deaf old new
     → (lane : ℕ) (v : LaneValue) → slice_get new.lanes lane ≡ Some v → IsServing s (planned_for lane v.takes_plans (plans lane) cs) lane (with_state o state deaf (deeds_of_lane s old.upkeeps lane cs)) v
@@ -393,11 +394,38 @@ leaves_fronts s c old new k after = elim (read_after s c old new k after) [
   | inr same ↦ same_fronts k old new same
 ]
 
+-- ---- whose shelves a line leaves, and which types its lanes have
+
+shelves_told : (k : ℕ) (o : Option PublishFault) (state : ClusterState) (deaf : ℕ) (old new : Cell) → IsStateTold k o state deaf old new → new.shelves ≡ old.shelves
+shelves_told k None state deaf old new d = ap (λ (x : Cell). x.shelves) d.now
+shelves_told k (Some why) state deaf old new d = ap (λ (x : Cell). x.shelves) d
+
+pub leaves_shelves : (s : Setting) (c : Asked) (old new : Cell) (k : ℕ) → IsAfter s k c old new → new.shelves ≡ old.shelves
+leaves_shelves s command.Blank old new k now = ap (λ (x : Cell). x.shelves) now
+leaves_shelves s command.TooLong old new k now = ap (λ (x : Cell). x.shelves) now
+leaves_shelves s (command.Bad why) old new k now = ap (λ (x : Cell). x.shelves) now
+leaves_shelves s (command.Feed op via) old new k now = ap (λ (x : Cell). x.shelves) (now.1).now
+leaves_shelves s (command.State state deaf) old new k now = shelves_told k (publish_fault old.told state) state deaf old new now
+leaves_shelves s (command.BadState offset) old new k now = ap (λ (x : Cell). x.shelves) now
+leaves_shelves s (command.Stop node) old new k now = ap (λ (x : Cell). x.shelves) now.now
+leaves_shelves s (command.Start node) old new k now = ap (λ (x : Cell). x.shelves) now.now
+leaves_shelves s (command.Net at fates) old new k now = ap (λ (x : Cell). x.shelves) now.now
+leaves_shelves s command.Maintain old new k now = ap (λ (x : Cell). x.shelves) now.now
+leaves_shelves s (command.Search query) old new k now = ap (λ (x : Cell). x.shelves) now
+leaves_shelves s (command.BadQuery offset) old new k now = ap (λ (x : Cell). x.shelves) now
+
+pub typed_after : (s : Setting) (line : ℕ) (c : Asked) (old new : Cell) → IsReady s line old → IsAfter s line c old new → EachLane (HasTypes s.schema) new.lanes
+typed_after s line c old new ready after lane v at = ((kept_more s ready.plans ready.commands c old new line ready.kept ready.next after).serving lane v at).types_are
+
+pub opened_after : (s : Setting) (line : ℕ) (c : Asked) (old new : Cell) → IsReady s line old → AreSettled old → IsAfter s line c old new → EachLane (HasOpening s.schema) new.shelves
+opened_after s line c old new ready settled after =
+    subst (EachLane (HasOpening s.schema)) (sym (leaves_shelves s c old new line after)) (opens_settled s.schema old.lanes old.shelves settled.shelves (λ lane v at. (ready.kept.serving lane v at).types_are))
+
 -- ---- room and what is shown
 
 -- a lane of which all else is the same
-but_bare : (v w : LaneValue) → bare v ≡ bare w → v ≡ record w { has_room = v.has_room; shown = v.shown }
-but_bare v w same = ap (λ (x : LaneValue). record x { has_room = v.has_room; shown = v.shown }) same
+but_bare : (v w : LaneValue) → bare v ≡ bare w → v ≡ record w { has_room = v.has_room }
+but_bare v w same = ap (λ (x : LaneValue). record x { has_room = v.has_room }) same
 
 serves_nearly : (s : Setting) (plans : ℕ → List Fate) (cs : List Asked) (old new : Cell) → IsKept s plans cs old → map bare new.lanes ≡ map bare old.lanes
     → (lane : ℕ) (v : LaneValue) → slice_get new.lanes lane ≡ Some v → IsServing s (planned_for lane v.takes_plans (plans lane) cs) lane (deeds_of_lane s old.upkeeps lane cs) v
@@ -406,7 +434,7 @@ serves_nearly s plans cs old new kept same lane v at =
     let w = found.0 in
     let is = but_bare v w found.1.1 in
     subst (λ t. IsServing s (planned_for lane t (plans lane) cs) lane (deeds_of_lane s old.upkeeps lane cs) v) (sym (ap (λ (x : LaneValue). x.takes_plans) is))
-    (serves_seen s (planned_for lane w.takes_plans (plans lane) cs) lane (deeds_of_lane s old.upkeeps lane cs) w v v.has_room v.shown (kept.serving lane w found.1.0) is)
+    (serves_room s (planned_for lane w.takes_plans (plans lane) cs) lane (deeds_of_lane s old.upkeeps lane cs) w v v.has_room (kept.serving lane w found.1.0) is)
 
 pub kept_nearly : (s : Setting) (plans : ℕ → List Fate) (cs : List Asked) (old new : Cell) → IsNearly old new → IsKept s plans cs old → IsKept s plans cs new
 kept_nearly s plans cs old new r kept = record {

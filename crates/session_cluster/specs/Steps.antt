@@ -1,5 +1,5 @@
 -- The cluster after one line.
-use Rattle.std.specs.Prelude.{◌≡◌, ◌⊎◌, ℕ, true, false, List, [], ◌∷◌, ◌++◌, length, map, Option, None, Some, IfSome, IsSome, slice_get, slice_set}
+use Rattle.std.specs.Prelude.{◌≡◌, ◌<◌, ◌⊎◌, ℕ, true, false, List, [], ◌∷◌, ◌++◌, length, map, Option, None, Some, IfSome, IsSome, slice_get, slice_set}
 use Rattle.bucket_ids.specs.Buckets.{IsIn}
 use Rattle.carriers.specs.Fates.{planned_with}
 use Rattle.carriers.specs.declared.fate.Fate.{Fate}
@@ -20,10 +20,12 @@ use Rattle.lane_lives.specs.Upkept.{Maintains}
 use Rattle.lane_keeping.specs.Lines.{IsFresh}
 use Rattle.lane_lives.specs.declared.setting.Setting.{Setting}
 use Rattle.lane_core.specs.Runs.{IsLineRun}
-use Rattle.lane_core.specs.Showing.{IsSettled}
+use Rattle.lane_core.specs.Showing.{all_changes, view_in}
+use Rattle.shelves.specs.Plain.{Plain}
+use Rattle.view_changes.specs.Opening.{opening}
 use Rattle.lane_lives.specs.Upkeep.{IsSpan}
 use Rattle.lane_lives.specs.declared.spans.UpkeepSpan.{UpkeepSpan}
-use Rattle.session_cluster.specs.Cells.{Cell}
+use Rattle.session_cluster.specs.Cells.{Cell, ShownLane}
 use Rattle.session_cluster.specs.Deeds.{told_with}
 use Rattle.session_cluster.specs.Lanes.{lane_of_id}
 use Rattle.session_cluster.specs.Searches.{fronts_now}
@@ -56,8 +58,8 @@ abbrev pub after_start : ℕ → LaneValue → LaneValue
 after_start node v = record v { journal = started_next node v.journal; has_room = false }
 
 -- each lane is such a one
-abbrev pub EachLane : (LaneValue → Type 0) → List LaneValue → Type 0
-EachLane P vs = (lane : ℕ) (v : LaneValue) → slice_get vs lane ≡ Some v → P v
+abbrev pub EachLane : {X : Type 0} → (X → Type 0) → List X → Type 0
+EachLane {X} P vs = (lane : ℕ) (v : X) → slice_get vs lane ≡ Some v → P v
 
 -- no operation is under way there, and these states are told
 pub record IsTelling (t : Told) (v : LaneValue) : Type 0 where
@@ -169,18 +171,29 @@ IsSearched line old new = new ≡ record old { dealt = line; fronts = old.fronts
 
 -- ---- what is shown
 
--- a lane but for what is shown of it
-abbrev pub without_shown : LaneValue → LaneValue
-without_shown v = record v { shown = 0 }
+-- what the shelf of a lane has where all changes of its journal are shown
+abbrev pub settled_shelf : LaneValue → Plain
+settled_shelf v = record { opening = opening v.types; view = view_in v; pending = [] }
+
+-- and a view counts them all
+abbrev pub HasFew : LaneValue → Type 0
+HasFew v = all_changes v < 18446744073709551615
+
+-- a shelf showed at first a view of these types of which nothing was heard
+abbrev pub HasOpening : Types → Plain → Type 0
+HasOpening types p = p.opening ≡ opening types
+
+abbrev pub IsSettledLane : ShownLane → Type 0
+IsSettledLane s = (s.shelf ≡ settled_shelf s.lane) × HasFew s.lane
 
 -- all changes of the lanes' journals are shown
-abbrev pub AreSettled : Cell → Type 0
-AreSettled c = EachLane IsSettled c.lanes
+pub record AreSettled (c : Cell) : Type 0 where
+  pub shelves : c.shelves ≡ map settled_shelf c.lanes
+  pub few : EachLane HasFew c.lanes
 
 -- the same, but that more is shown of some lanes
-pub record IsShownOn (old new : Cell) : Type 0 where
-  pub rest : new ≡ record old { lanes = new.lanes }
-  pub lanes : map without_shown new.lanes ≡ map without_shown old.lanes
+abbrev pub IsShownOn : Cell → Cell → Type 0
+IsShownOn old new = new ≡ record old { shelves = new.shelves }
 
 -- something was done, and then more was shown of some lanes
 pub record ThenShown (Done : Cell → Type 0) (new : Cell) : Type 0 where

@@ -1,14 +1,14 @@
 ghost use Rattle.std.specs.Prelude.{◌≡◌, ◌==◌, ◌<◌, ◌≤◌, ◌^◌, [], Some, length, option_map, IsTrue, slice_get, IfOk, OnOk, OnErr, map, ◌⊎◌, ◌∷◌, ◌++◌, None};
 ghost use Rattle.std.specs.Option.{option_copied};
 ghost use Rattle.cluster_states.specs.Publishing.{newest_of};
-ghost use Rattle.lane_core.specs.Showing.{IsSettled};
+ghost use Rattle.lane_core.specs.Shelved.{with_lane, OfLane};
+ghost use Rattle.view_changes.specs.Opening.{opening};
 ghost use Rattle.lane_journals.specs.KeptJournals.{past};
 ghost use Rattle.lane_journals.specs.Meanings.{entry_at};
 ghost use Rattle.lane_lives.specs.Settings.{IsSetting, lane_count};
-ghost use Rattle.session_cluster.specs.Cells.{is_empty, journals_of};
+ghost use Rattle.session_cluster.specs.Cells.{is_empty, journals_of, lanes_in, shelves_in};
 ghost use Rattle.session_cluster.specs.Deeds.{first_told};
 ghost use Rattle.session_cluster.specs.Lanes.{journal_in};
-ghost use Rattle.lane_states.specs.Told.{IsUnused};
 ghost use Rattle.session_cluster.specs.Noted.{is_for};
 ghost use Rattle.session_cluster.specs.declared.cluster.LineSpans.{LineSpans};
 ghost use Rattle.session_cluster.specs.Rows.{ShowsRows, ShowsRowsUnder, AreRowsAt};
@@ -18,7 +18,7 @@ ghost use Rattle.session_cluster.specs.Spans.{spans_of, is_rested, is_blocked, i
 ghost use Rattle.std.specs.List.{find};
 ghost use Rattle.session_cluster.specs.Keeping.{AreOpen, IsKept};
 ghost use Rattle.lane_lives.specs.LaneValues.{IsLaneValue};
-ghost use Rattle.session_cluster.specs.Steps.{with_room, without_room, after_state, after_stop, after_start, EachLane, AreSettled, IsRoomy, MayAnnounce, MayMaintain, MayHaveAllPassed, AreSpans, HasSpans, IsMaintained};
+ghost use Rattle.session_cluster.specs.Steps.{with_room, without_room, after_state, after_stop, after_start, EachLane, AreSettled, IsSettledLane, IsRoomy, MayAnnounce, MayMaintain, MayHaveAllPassed, AreSpans, HasSpans, IsMaintained};
 ghost use Rattle.session_cluster.specs.Output.{upkeep_answer};
 
 use crate::searching::{LineFronts, fronts_at};
@@ -48,7 +48,7 @@ pub struct Cluster<C: Carrier + Drop> {
     pub(crate) bits: u8,
     /// The states that were published.
     pub(crate) states: States,
-    pub(crate) lanes: Vec<Lane<C>>,
+    pub(crate) lanes: Vec<Lane<C, PlainShelf>>,
     pub(crate) dealt: u32,
     /// How the upkeep went that lines asked for, in line order.
     pub(crate) upkeeps: Vec<LineSpans>,
@@ -58,13 +58,13 @@ pub struct Cluster<C: Carrier + Drop> {
 
 impl<C: Carrier + Drop> Model for Cluster<C> {
     ghost use Rattle.std.specs.Prelude.{length};
-    ghost use Rattle.session_cluster.specs.Cells.{Cell, cell_code, IsCluster};
+    ghost use Rattle.session_cluster.specs.Cells.{Cell, cell_code, IsCluster, lanes_in, shelves_in};
 
     ghost Value = { Cell };
 
     ghost coded = { cell_code };
 
-    ghost view = { λ c. record { bits = c.bits; told = c.states; lanes = c.lanes.items; dealt = c.dealt; upkeeps = c.upkeeps.items; fronts = c.fronts.items } };
+    ghost view = { λ c. record { bits = c.bits; told = c.states; lanes = lanes_in c.lanes.items; shelves = shelves_in c.lanes.items; dealt = c.dealt; upkeeps = c.upkeeps.items; fronts = c.fronts.items } };
 
     ghost invariant = { λ c. IsCluster c.bits (length c.lanes.items) };
 }
@@ -130,9 +130,9 @@ impl<C: Carrier + Drop> Cluster<C> {
     }
 
     /// Those of a lane that is there.
-    fn newest_rows<'a>(&'a self, lane: u8, there: &'a Lane<C>) -> &'a [Row]
+    fn newest_rows<'a>(&'a self, lane: u8, there: &'a Lane<C, PlainShelf>) -> &'a [Row]
         requires within { lane < 2 ^ self.now.bits }
-        ensures { ShowsRowsUnder self.now.bits lane (newest_of self.now.told.states) there.now result.now }
+        ensures { ShowsRowsUnder self.now.bits lane (newest_of self.now.told.states) there.now.lane result.now }
     {
         match self.states.newest() {
             Some(newest) => own_rows(self.bits, lane, &newest, there),
@@ -174,13 +174,14 @@ impl<C: Carrier + Drop> Cluster<C> {
     }
 
     /// Takes these lanes, in which no line was dealt with.
-    pub fn take(&mut self, setting: &Setting, lanes: Vec<Lane<C>>)
+    pub fn take(&mut self, setting: &Setting, lanes: Vec<Lane<C, PlainShelf>>)
         requires setting { IsSetting setting.now }
         requires all { length lanes.items ≡ lane_count setting.now }
         ensures { self.new ≡ record {
           bits = setting.now.bits;
           told = first_told setting.now;
-          lanes = lanes.items;
+          lanes = lanes_in lanes.items;
+          shelves = shelves_in lanes.items;
           dealt = 0;
           upkeeps = [];
           fronts = [];
@@ -199,7 +200,10 @@ impl<C: Carrier + Drop> Cluster<C> {
         ensures { option_copied result
             ≡ entry_at stamp (journal_in at (journals_of self.now)) }
     {
-        self.lanes.get(usize::from(at))?.entry(stamp)
+        match self.lanes.get(usize::from(at)) {
+            Some(lane) => lane.entry(stamp),
+            None => None,
+        }
     }
 }
 
@@ -227,12 +231,12 @@ fn own_rows<'a, C: Carrier + Drop>(
     bits: u8,
     lane: u8,
     newest: &ClusterState,
-    there: &'a Lane<C>,
+    there: &'a Lane<C, PlainShelf>,
 ) -> &'a [Row]
     requires some { 1 ≤ bits }
     requires most { bits ≤ 6 }
     requires within { lane < 2 ^ bits }
-    ensures { ShowsRowsUnder bits lane (Some newest.now) there.now result.now }
+    ensures { ShowsRowsUnder bits lane (Some newest.now) there.now.lane result.now }
 {
     match owner(Bucket::new(bits, u64::from(lane)), newest) {
         Some(owner) => rows_at(newest, owner, there),
@@ -241,8 +245,12 @@ fn own_rows<'a, C: Carrier + Drop>(
 }
 
 /// The rows of a distributor that holds a state; none of another.
-fn rows_at<'a, C: Carrier + Drop>(newest: &ClusterState, owner: u8, there: &'a Lane<C>) -> &'a [Row]
-    ensures { AreRowsAt newest.now there.now owner result.now }
+fn rows_at<'a, C: Carrier + Drop>(
+    newest: &ClusterState,
+    owner: u8,
+    there: &'a Lane<C, PlainShelf>,
+) -> &'a [Row]
+    ensures { AreRowsAt newest.now there.now.lane owner result.now }
 {
     match there.held(owner) {
         Some(version) if version == newest.version() => there.rows(owner),
@@ -250,8 +258,8 @@ fn rows_at<'a, C: Carrier + Drop>(newest: &ClusterState, owner: u8, there: &'a L
     }
 }
 
-/// Makes the lanes of a session, where its first state is published and heard by all distributors. The only
-/// error is want of memory, which leaves none.
+/// Makes the lanes of a session, where its first state is published and heard by all distributors. Want of memory
+/// leaves none.
 pub fn open_cluster<C: Carriers>(
     alloc: Global,
     setting: &Setting,
@@ -275,34 +283,34 @@ fn open_lanes<C: Carriers>(
     alloc: Global,
     setting: &Setting,
     carriers: &mut C,
-) -> Result<Vec<Lane<C::One>>, NoMemory>
+) -> Result<Vec<Lane<C::One, PlainShelf>>, NoMemory>
     requires setting { IsSetting setting.now }
-    ensures open { IfOk result (λ lanes. AreOpen setting.now (C.plans carriers.old) lanes.items) }
-    ensures settled { IfOk result (λ lanes. EachLane IsSettled lanes.items) }
+    ensures open { IfOk result (λ lanes. AreOpen setting.now (C.plans carriers.old) (lanes_in lanes.items)) }
+    ensures settled { IfOk result (λ lanes. EachLane IsSettledLane lanes.items) }
 {
     let count = 1u8 << setting.bits;
     let shared = SharedSchema::new(alloc, setting.schema.copy(alloc)?)?;
     let mut lanes = Vec::with_capacity(alloc, usize::from(count))?;
     for lane in 0..count {
+        let schema = shared.copy(alloc)?;
         let shelf = new_shelf(alloc, &shared)?;
-        lanes.push(open_lane(alloc, lane, setting, shelf, carriers)?)?;
+        lanes.push(open_lane(alloc, lane, setting, schema, shelf, carriers)?)?;
     }
     Ok(lanes)
 }
 
 /// The shelf of a lane of which nothing was heard.
 fn new_shelf(alloc: Global, schema: &SharedSchema) -> Result<PlainShelf, NoMemory>
-    ensures unused { IfOk result (λ shelf. IsUnused shelf) }
-    ensures types { IfOk result (λ shelf. (shelf.opening).types ≡ schema.now) }
+    ensures { IfOk result (λ shelf. shelf
+        ≡ record { opening = opening schema.now; view = opening schema.now; pending = [] }) }
 {
     Ok(PlainShelf::new(alloc, LaneView::new(alloc, schema)?))
 }
 
-/// Makes room in each lane for a state, a stop or a start. The only error is want of memory, and then there is room in
-/// some of them.
-pub fn make_room<C: Carrier + Drop>(lanes: &mut [Lane<C>]) -> Result<(), NoMemory>
-    ensures ok { OnOk result (lanes.new ≡ map with_room lanes.old) }
-    ensures err { OnErr result (map without_room lanes.new ≡ map without_room lanes.old) }
+/// Makes room in each lane for a state, a stop or a start. At want of memory there is room in some of them.
+pub fn make_room<C: Carrier + Drop>(lanes: &mut [Lane<C, PlainShelf>]) -> Result<(), NoMemory>
+    ensures ok { OnOk result (lanes.new ≡ map (with_lane with_room) lanes.old) }
+    ensures err { OnErr result (map (with_lane without_room) lanes.new ≡ map (with_lane without_room) lanes.old) }
 {
     for lane in lanes.iter_mut() {
         lane.room()?;
@@ -311,10 +319,14 @@ pub fn make_room<C: Carrier + Drop>(lanes: &mut [Lane<C>]) -> Result<(), NoMemor
 }
 
 /// Publishes a state in each lane, which all distributors hear but the deaf ones.
-pub fn announce_all<C: Carrier + Drop>(lanes: &mut [Lane<C>], state: &ClusterState, deaf: NodeSet)
-    requires { EachLane (MayAnnounce state.now) lanes.old }
-    ensures after { lanes.new ≡ map (after_state state.now deaf) lanes.old }
-    ensures holds { EachLane IsLaneValue lanes.new }
+pub fn announce_all<C: Carrier + Drop>(
+    lanes: &mut [Lane<C, PlainShelf>],
+    state: &ClusterState,
+    deaf: NodeSet,
+)
+    requires { EachLane (OfLane (MayAnnounce state.now)) lanes.old }
+    ensures after { lanes.new ≡ map (with_lane (after_state state.now deaf)) lanes.old }
+    ensures holds { EachLane (OfLane IsLaneValue) lanes.new }
 {
     for lane in lanes.iter_mut() {
         announce(lane, state, deaf);
@@ -322,11 +334,11 @@ pub fn announce_all<C: Carrier + Drop>(lanes: &mut [Lane<C>], state: &ClusterSta
 }
 
 /// A node stops in each lane.
-pub fn stop_all<C: Carrier + Drop>(lanes: &mut [Lane<C>], node: u8)
-    requires roomy { EachLane IsRoomy lanes.old }
+pub fn stop_all<C: Carrier + Drop>(lanes: &mut [Lane<C, PlainShelf>], node: u8)
+    requires roomy { EachLane (OfLane IsRoomy) lanes.old }
     requires number { node < 32 }
-    ensures after { lanes.new ≡ map (after_stop node) lanes.old }
-    ensures holds { EachLane IsLaneValue lanes.new }
+    ensures after { lanes.new ≡ map (with_lane (after_stop node)) lanes.old }
+    ensures holds { EachLane (OfLane IsLaneValue) lanes.new }
 {
     for lane in lanes.iter_mut() {
         stop(lane, node);
@@ -334,27 +346,28 @@ pub fn stop_all<C: Carrier + Drop>(lanes: &mut [Lane<C>], node: u8)
 }
 
 /// A node starts in each lane.
-pub fn start_all<C: Carrier + Drop>(lanes: &mut [Lane<C>], node: u8)
-    requires roomy { EachLane IsRoomy lanes.old }
+pub fn start_all<C: Carrier + Drop>(lanes: &mut [Lane<C, PlainShelf>], node: u8)
+    requires roomy { EachLane (OfLane IsRoomy) lanes.old }
     requires number { node < 32 }
-    ensures after { lanes.new ≡ map (after_start node) lanes.old }
-    ensures holds { EachLane IsLaneValue lanes.new }
+    ensures after { lanes.new ≡ map (with_lane (after_start node)) lanes.old }
+    ensures holds { EachLane (OfLane IsLaneValue) lanes.new }
 {
     for lane in lanes.iter_mut() {
         start(lane, node);
     }
 }
 
-/// Upkeep is made in each lane, in their order, and how it went is noted. The only error is want of memory; then the
-/// first lanes made theirs, and the next one perhaps a part of it.
+/// Upkeep is made in each lane, in their order, and how it went is noted. At want of memory the first lanes made
+/// theirs, and the next one perhaps a part of it.
 pub fn maintain_all<C: Carrier + Drop>(
-    lanes: &mut [Lane<C>],
+    lanes: &mut [Lane<C, PlainShelf>],
     spans: &mut Vec<UpkeepSpan>,
 ) -> Result<(), NoMemory>
-    requires may { EachLane MayMaintain lanes.old }
+    requires may { EachLane MayMaintain (lanes_in lanes.old) }
     requires none { spans.old.items ≡ [] }
-    ensures passed { MayHaveAllPassed lanes.old lanes.new }
-    ensures spans { OnOk result (AreSpans lanes.old lanes.new spans.new.items) }
+    ensures passed { MayHaveAllPassed (lanes_in lanes.old) (lanes_in lanes.new) }
+    ensures spans { OnOk result (AreSpans (lanes_in lanes.old) (lanes_in lanes.new) spans.new.items) }
+    ensures shelves { shelves_in lanes.new ≡ shelves_in lanes.old }
 {
     for lane in lanes.iter_mut() {
         let span = maintain(lane)?;

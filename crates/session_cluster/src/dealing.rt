@@ -45,7 +45,7 @@ fn lane_at(key: u64, bits: u8) -> u8
 
 impl<C: Carrier + Drop> Cluster<C> {
     /// Deals with a line's command, and gives the line's answer, which a blank line has not; then the lanes show what
-    /// changed in them. The only error is want of memory; the line may be dealt with then.
+    /// changed in them. At want of memory the line may be dealt with.
     pub fn deal(
         &mut self,
         alloc: Global,

@@ -5,14 +5,15 @@ ghost use Rattle.std.specs.List.{find};
 ghost use Rattle.cluster_states.specs.Publishing.{newest_of};
 ghost use Rattle.doc_types.specs.SchemaCodes.{Types};
 ghost use Rattle.lane_core.specs.Showing.{view_in, IsSettled};
+ghost use Rattle.shelves.specs.Plain.{Plain, ShowsPlain};
 ghost use Rattle.query_text.specs.Grammar.{said_of};
 ghost use Rattle.search_views.specs.Answers.{search_answer};
-ghost use Rattle.session_cluster.specs.Cells.{journals_of};
+ghost use Rattle.session_cluster.specs.Cells.{journals_of, lanes_in, shelves_in};
 ghost use Rattle.session_cluster.specs.Output.{found_answer_of};
 ghost use Rattle.session_cluster.specs.Noted.{is_for};
 ghost use Rattle.session_cluster.specs.declared.searching.LineFronts.{LineFronts};
 ghost use Rattle.session_cluster.specs.Searches.{fronts_of, fronts_now, version_of, version_now};
-ghost use Rattle.session_cluster.specs.Steps.{EachLane, HasTypes, IsSearched, without_shown, IsShownOn, AreSettled};
+ghost use Rattle.session_cluster.specs.Steps.{EachLane, HasTypes, HasOpening, IsSearched, IsSettledLane, IsShownOn, AreSettled};
 
 use crate::cluster::Cluster;
 use carriers::Carrier;
@@ -23,6 +24,7 @@ use query_text::Query;
 use query_text::parsed::Parsed;
 use reports::Answer;
 use search_views::SearchSum;
+use shelves::PlainShelf;
 use std::alloc::Global;
 use value_lists::{Listed, NoMemory};
 
@@ -53,11 +55,13 @@ fn version_told(states: &States) -> u32
     }
 }
 
-/// Each lane shows all changes of its events. The only error is want of memory; then the first lanes do, and the next one
-/// perhaps a part of them.
-pub fn settle_all<C: Carrier + Drop>(lanes: &mut [Lane<C>]) -> Result<(), NoMemory>
-    ensures same { map without_shown lanes.new ≡ map without_shown lanes.old }
-    ensures settled { OnOk result (EachLane IsSettled lanes.new) }
+/// Each lane shows all changes of its events. At want of memory the first lanes do, and the next one perhaps a part of
+/// them.
+pub fn settle_all<C: Carrier + Drop>(lanes: &mut [Lane<C, PlainShelf>]) -> Result<(), NoMemory>
+    ensures lanes { lanes_in lanes.new ≡ lanes_in lanes.old }
+    ensures openings { map (λ (p : Plain). p.opening) (shelves_in lanes.new)
+        ≡ map (λ (p : Plain). p.opening) (shelves_in lanes.old) }
+    ensures settled { OnOk result (EachLane (IsSettled ShowsPlain (λ (p : Plain). p.pending)) lanes.new) }
 {
     for lane in lanes.iter_mut() {
         lane.settle()?;
@@ -65,23 +69,24 @@ pub fn settle_all<C: Carrier + Drop>(lanes: &mut [Lane<C>]) -> Result<(), NoMemo
     Ok(())
 }
 
-/// What a query finds in lanes that show all changes, and how many changes each shows. The only error is want of memory.
+/// What a query finds in lanes that show all changes, and how many changes each shows.
 fn search_all<C: Carrier + Drop>(
     alloc: Global,
-    lanes: &[Lane<C>],
+    lanes: &[Lane<C, PlainShelf>],
     query: &Query,
     version: u32,
     fronts: &mut Vec<u64>,
 ) -> Result<SearchAnswer, NoMemory>
     requires few { length lanes.now ≤ 64 }
-    requires settled { EachLane IsSettled lanes.now }
+    requires settled { EachLane IsSettledLane lanes.now }
     requires none { fronts.old.items ≡ [] }
-    ensures answer { IfOk result (λ answer. answer ≡ search_answer (said_of query.now) version (map view_in lanes.now)) }
-    ensures fronts { OnOk result (fronts.new.items ≡ fronts_now lanes.now) }
+    ensures answer { IfOk result (λ answer. answer
+        ≡ search_answer (said_of query.now) version (map view_in (lanes_in lanes.now))) }
+    ensures fronts { OnOk result (fronts.new.items ≡ fronts_now (lanes_in lanes.now)) }
 {
     let mut sum = SearchSum::new(alloc, query, version);
     for lane in lanes {
-        let view = lane.shown();
+        let view = lane.shelf().view();
         fronts.push(view.generation())?;
         sum.add(alloc, view)?;
     }
@@ -89,8 +94,7 @@ fn search_all<C: Carrier + Drop>(
 }
 
 impl<C: Carrier + Drop> Cluster<C> {
-    /// Searches every lane, in their order, and gives the answer; all changes of their journals are shown. The only error
-    /// is want of memory, and then nothing has changed.
+    /// Searches every lane, in their order, and gives the answer; all changes of their journals are shown.
     pub(crate) fn search(
         &mut self,
         alloc: Global,
@@ -111,10 +115,11 @@ impl<C: Carrier + Drop> Cluster<C> {
         Ok(Some(Answer::Search { answer }))
     }
 
-    /// Each lane shows all changes of its events. The only error is want of memory; then some do.
+    /// Each lane shows all changes of its events. At want of memory some do.
     pub(crate) fn settle(&mut self) -> Result<(), NoMemory>
         ensures shown { IsShownOn self.old self.new }
-        ensures settled { OnOk result (AreSettled self.new) }
+        ensures settled { (types : Types) → EachLane (HasTypes types) self.old.lanes
+            → EachLane (HasOpening types) self.old.shelves → OnOk result (AreSettled self.new) }
     {
         settle_all(&mut self.lanes)
     }

@@ -2,7 +2,7 @@ use crate::shelf::Shelf;
 use value_lists::NoMemory;
 use view_changes::LaneChange;
 
-/// Shows nothing to anybody, so every list of changes counts as shown. Its calls take no memory.
+/// Shows nothing to anybody, so every list of changes counts as shown.
 #[derive(Drop)]
 pub struct NoShelf;
 

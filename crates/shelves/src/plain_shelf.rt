@@ -40,8 +40,8 @@ fn drop_first(changes: &mut VecDeque<LaneChange>)
     changes.pop_front();
 }
 
-/// A view takes changes in, first to last, and each that it has leaves the list. The only error is want of memory, at
-/// the change that is then the first of the list.
+/// A view takes changes in, first to last, and each that it has leaves the list. `NoMemory` comes at the change that is
+/// then the first of the list.
 fn show_all(
     alloc: Global,
     view: &mut LaneView,

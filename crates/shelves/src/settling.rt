@@ -6,8 +6,7 @@ use std::collections::VecDeque;
 use value_lists::NoMemory;
 use view_changes::LaneChange;
 
-/// Appends changes to a shelf, first to last. The only error is want of memory: the changes that weren't appended are
-/// left then.
+/// Appends changes to a shelf, first to last. At want of memory the changes that weren't appended are left then.
 pub fn hand_over<H: Shelf>(shelf: &mut H, kept: &mut VecDeque<LaneChange>) -> Result<(), NoMemory>
     ensures taken { TakesFirst (H.shows shelf.old) (H.shows shelf.new) (H.pending shelf.old) (H.pending shelf.new)
         kept.old.items kept.new.items }
@@ -23,9 +22,9 @@ pub fn hand_over<H: Shelf>(shelf: &mut H, kept: &mut VecDeque<LaneChange>) -> Re
     Ok(())
 }
 
-/// Appends changes to a shelf, first to last, and publishes them. The only error is want of memory: some of them are
-/// shown then, others are pending, and those that weren't appended are left; nothing is lost, and the order stays. Takes
-/// what the shelf takes for each change.
+/// Appends changes to a shelf, first to last, and publishes them. At want of memory some of them are shown then, others
+/// are pending, and those that weren't appended are left; nothing is lost, and the order stays. Takes what the shelf
+/// takes for each change.
 pub fn settle<H: Shelf>(shelf: &mut H, kept: &mut VecDeque<LaneChange>) -> Result<(), NoMemory>
     ensures taken { TakesFirst (H.shows shelf.old) (H.shows shelf.new) (H.pending shelf.old) (H.pending shelf.new)
         kept.old.items kept.new.items }

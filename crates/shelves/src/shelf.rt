@@ -27,8 +27,8 @@ pub trait Shelf {
     /// Whether a note of the shelf of a name tells of a list of changes.
     ghost tells: { Self.Name → Self.Note → List LaneChange → Type 0 };
 
-    /// Takes a change in, behind those that are pending, and shows nothing. The only error is want of memory, which hands
-    /// the change back and changes nothing.
+    /// Takes a change in, behind those that are pending, and shows nothing. Want of memory hands the change back and
+    /// changes nothing.
     fn append(&mut self, change: LaneChange) -> Result<(), LaneChange>
         // It is pending, behind the others; where nobody is shown anything, it is shown.
         ensures taken { OnOk result (ShowsFirst (shows self.old) (shows self.new)
@@ -38,8 +38,8 @@ pub trait Shelf {
         ensures unchanged { OnErr result (pending self.new ≡ pending self.old) }
         ensures name { name self.new ≡ name self.old };
 
-    /// Shows the pending changes, in order. The only error is want of memory: then the first of them are shown, perhaps
-    /// none, and the rest is pending still.
+    /// Shows the pending changes, in order. At want of memory the first of them are shown, perhaps none, and the rest
+    /// is pending still.
     fn publish(&mut self) -> Result<(), NoMemory>
         ensures shown { ShowsFirst (shows self.old) (shows self.new) (pending self.old) (pending self.new) }
         ensures all { OnOk result (pending self.new ≡ []) }

@@ -96,9 +96,8 @@ impl SubDatabases {
         self.ready.with_token(type_name, field, token)
     }
 
-    /// Takes an entry with the key of its id, which comes ready or not: the newest of its document is kept, and the mark
-    /// that came with that decides; an entry that isn't newer changes nothing, nor does its mark. The only error is want
-    /// of memory.
+    /// Takes an entry with the key of its id, which comes ready or not: the newest of its document is kept, and the
+    /// mark that came with that decides; an entry that isn't newer changes nothing, nor does its mark.
     pub fn take(
         &mut self,
         alloc: Global,

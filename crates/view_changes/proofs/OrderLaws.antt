@@ -1,5 +1,5 @@
 -- What a stable sort by ids leaves, of each id the first.
-use Rattle.std.proofs.Common.{◌≡◌, ℕ, Bool, true, false, cond, not, T, ◌&&◌, ◌||◌, List, [], ◌∷◌, map, length, arith, refl, sym, ap, subst, ◌∙◌, Option, None, Some}
+use Rattle.std.proofs.Common.{◌≡◌, inl, inr, ℕ, Bool, true, false, cond, not, T, ◌&&◌, ◌||◌, List, [], ◌∷◌, map, length, arith, refl, sym, ap, subst, ◌∙◌, Option, None, Some}
 use mathlib.Core.Bool.{true≢false}
 use Rattle.std.specs.FinMap as fin
 use Rattle.std.specs.FinMap.{IsAntisymmetric, slice_cmp-IsAntisymmetric, nat_cmp-IsAntisymmetric, is_sorted, same_map, get-from_entries, get-from_sorted, entries-from_sorted, entries-insert, entries_sorted, get-entries, len-entries, len-empty}
@@ -20,7 +20,7 @@ use Rattle.documents.specs.declared.entry.Entry.{Entry}
 use Rattle.entry_maps.specs.Entries.{by_id}
 use Rattle.entry_maps.specs.EntryCodes.{Entries}
 use Rattle.view_changes.specs.EntryOrder.{entry_cmp, AreApart}
-use Rattle.view_changes.proofs.Members.{equal}
+use Rattle.view_changes.proofs.Members.{In, equal, value-get}
 
 pub ids_total : IsTotalOrder id_cmp
 ids_total = nat_list_cmp_total
@@ -225,3 +225,11 @@ values-filtered p alike xs =
     let found : (q : List ℕ) → fin.find id_cmp q (by_id (fin.values m)) ≡ fin.find id_cmp q (by_id xs) = λ q. ap (fin.find id_cmp q) pairs ∙ sym (get-entries m q) ∙ get-from_entries ids_total (by_id xs) q in
     values-sorted (filter p xs) (filter p (fin.values m)) (sorted-filtered p (fin.values m) rises)
     (λ q. find-filtered p alike q (fin.values m) ∙ ap (λ o. cond (p (named q)) o None) (found q) ∙ sym (find-filtered p alike q xs))
+
+none-passes : (p : Entry → Bool) (es : List Entry) → ((e : Entry) → In e es → p e ≡ false) → filter p es ≡ []
+none-passes p [] h = refl
+none-passes p (e ∷ es) h = ap (λ t. cond t (e ∷ filter p es) (filter p es)) (h e (inl refl)) ∙ none-passes p es (λ x i. h x (inr i))
+
+-- where the entry of no id passes, none of a map's values does
+pub no-value-passes : (p : Entry → Bool) (m : Entries) → ((id : List ℕ) (e : Entry) → fin.get m id ≡ Some e → p e ≡ false) → filter p (fin.values m) ≡ []
+no-value-passes p m h = none-passes p (fin.values m) (λ e i. let r = value-get ids_total ids_tied m e i in h r.0 e r.1)

@@ -1,7 +1,11 @@
 use Rattle.std.proofs.Common.{take}
+use Rattle.std.specs.Option.{option_copied}
 use Rattle.std.specs.Ordering.{int_cmp}
 use Rattle.std.specs.BTreeMap as tree
 use Rattle.std.specs.BTreeMap.{get_by_text}
+use Rattle.document_indexes.specs.Entering.{IsLent}
+use Rattle.document_rows.specs.Reading.{row_at}
+use Rattle.view_changes.specs.Serving.{rows_of}
 use Rattle.group_counts.specs.Keyed.{number_in, text_in}
 use Rattle.group_counts.specs.Tallies.{ArePlaced, ArePlacesMore}
 use Rattle.group_counts.specs.Gathered.{documents_at}
@@ -13,3 +17,4 @@ invariant-loop-hit g l =
     × ArePlacesMore (l.by).outputs l.initial.texts.entries l.texts.entries (get_by_text l.initial.texts) (get_by_text l.texts)
     × ArePlaced (number_in (l.by).field) (documents_at (g.V.Lists.seen l.view) (take l.hit-index l.hits)) (tree.get int_cmp l.numbers)
     × ArePlaced (text_in (l.by).field) (documents_at (g.V.Lists.seen l.view) (take l.hit-index l.hits)) (get_by_text l.texts)
+    × IsLent l.type_name l.field (row_at (rows_of l.lent.node (g.V.Lists.seen l.view))) (option_copied l.lent.column)

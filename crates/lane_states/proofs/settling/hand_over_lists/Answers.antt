@@ -4,12 +4,12 @@ use Rattle.lane_states.proofs.Shelving.{takes-list}
 use Rattle.lane_states.proofs.settling.hand_over_lists.Goals as goal
 
 pub returns-in-Err-clause-taken : goal.returns-in-Err-clause-taken
-returns-in-Err-clause-taken c = rw c.push_front_reserved.ensures.items (takes-list _ _ _ _ _ _ _ _ _ _ _ (ap all_kept c.in-Some.ensures.items) c.in-Err.ensures.back c.loop-changes.invariant.taken)
+returns-in-Err-clause-taken g c = rw c.push_front_reserved.ensures.items (takes-list _ _ _ _ _ _ _ _ _ _ _ (ap all_kept c.in-Some.ensures.items) c.in-Err.ensures.back c.loop-changes.invariant.taken)
 
 pub loop-changes-preserved : goal.loop-changes-preserved
-loop-changes-preserved c = record {
+loop-changes-preserved g c = record {
   taken = takes-list _ _ _ _ _ _ _ _ _ _ _ (ap all_kept c.in-Some.ensures.items) c.in_default-hand_over_list.ensures.taken c.loop-changes.invariant.taken;
-  opening = c.hand_over_list.ensures.opening ∙ c.loop-changes.invariant.opening;
+  name = c.hand_over_list.ensures.name ∙ c.loop-changes.invariant.name;
   lists = search rules;
   places = search rules;
 }

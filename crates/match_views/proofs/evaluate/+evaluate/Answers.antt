@@ -20,9 +20,9 @@ returns-in_ok-found-in-Not g t c = if_ok c.lack.result (λ ids e.
 
 pub returns-in_ok-two-in-And : goal.returns-in_ok-two-in-And
 returns-in_ok-two-in-And g t c = if_ok c.cut.result (λ ids e.
-    found_both c.args.type_name.now c.args.expr.now c.deref-in-And.result.now c.deref-in-And-2.result.now (rows_of c.args.node (g.L.Lists.seen c.args.lists.now)) c.in_ok-one-in-And.one.items c.in_ok-two-in-And.two.items ids.items
-    (λ d. ap (expr_holds d) c.in-And.is ∙ ap₂ (λ x y. expr_holds d x && expr_holds d y) (sym c.deref-in-And.ensures) (sym c.deref-in-And-2.ensures)) c.in_ok-one-in-And.ensures c.in_ok-two-in-And.ensures
-    (e ∙ ap₂ cut c.deref-in-And-3.ensures.value c.deref-in-And-4.ensures.value)) c.cut.ensures
+    found_both c.args.type_name.now c.args.expr.now c.deref-in-And-3.result.now c.deref-in-And-4.result.now (rows_of c.args.node (g.L.Lists.seen c.args.lists.now)) c.in_ok-one-in-And.one.items c.in_ok-two-in-And.two.items ids.items
+    (λ d. ap (expr_holds d) c.in-And.is ∙ ap₂ (λ x y. expr_holds d x && expr_holds d y) (sym c.deref-in-And-3.ensures) (sym c.deref-in-And-4.ensures)) c.in_ok-one-in-And.ensures c.in_ok-two-in-And.ensures
+    (e ∙ ap₂ cut c.deref-in-And-5.ensures.value c.deref-in-And-6.ensures.value)) c.cut.ensures
 
 pub returns-in_ok-two-in-Or : goal.returns-in_ok-two-in-Or
 returns-in_ok-two-in-Or g t c = if_ok c.join.result (λ ids e.

@@ -1,4 +1,4 @@
-use Rattle.std.proofs.Common.{◌≡◌, ◌/◌, ℕ, ℤ, List, refl, sym, ap, ap₂, ◌∙◌, map, take, drop, length}
+use Rattle.std.proofs.Common.{◌/◌, ℕ, ℤ, List, refl, sym, ap₂, ◌∙◌, map, take, drop, length}
 use Rattle.proof_basics.proofs.Results.{if_ok}
 use Rattle.match_views.specs.Merging.{joined}
 use Rattle.match_views.proofs.RangeLaws.{united_none, united_halves, map_none, half_of, first_half, second_half, lists_take, lists_drop}

@@ -1,5 +1,4 @@
-use Rattle.std.proofs.Common.{◌≡◌, ℕ, ◌+◌, ◌<◌, ◌≤◌, List, [], ◌∷◌, ◌++◌, length, get_or, drop, inl, inr, ◌⊎◌, sym, ap, ◌∙◌, arith, append_assoc}
-use Rattle.match_views.specs.Merging.{cut}
+use Rattle.std.proofs.Common.{◌<◌, ◌≤◌, ◌++◌, get_or, inl, inr, sym, ap, ◌∙◌, arith, append_assoc}
 use Rattle.match_views.proofs.Steps.{cut-first, cut-second, cut-both, cut-end, whole}
 use Rattle.match_views.proofs.sets.cut.Goals.{then-loop-i-test+else-j-ys, else-loop-i-test}
 use Rattle.match_views.proofs.sets.cut.Goals as goal

@@ -1,5 +1,4 @@
-use Rattle.std.proofs.Common.{◌≡◌, ℕ, ◌+◌, ◌<◌, ◌≤◌, List, [], ◌∷◌, ◌++◌, length, get_or, drop, inl, inr, ◌⊎◌, sym, ap, ◌∙◌, arith, append_assoc}
-use Rattle.match_views.specs.Merging.{joined}
+use Rattle.std.proofs.Common.{◌<◌, ◌≤◌, ◌++◌, get_or, drop, inl, inr, sym, ap, ◌∙◌, arith, append_assoc}
 use Rattle.match_views.proofs.Steps.{join-first, join-second, join-both, join-end, tail}
 use Rattle.match_views.proofs.sets.join.Goals.{then-loop-i-test+else-j-ys, else-loop-i-test}
 use Rattle.match_views.proofs.sets.join.Goals as goal

@@ -1,5 +1,4 @@
-use Rattle.std.proofs.Common.{◌≡◌, ℕ, ◌+◌, ◌<◌, ◌≤◌, List, [], ◌∷◌, ◌++◌, length, get_or, drop, inl, inr, ◌⊎◌, sym, ap, ◌∙◌, arith, append_assoc}
-use Rattle.match_views.specs.Merging.{lacking}
+use Rattle.std.proofs.Common.{◌<◌, ◌≤◌, ◌++◌, get_or, inl, inr, sym, ap, ◌∙◌, arith, append_assoc}
 use Rattle.match_views.proofs.Steps.{lack-first, lack-second, lack-both, lack-end, tail}
 use Rattle.match_views.proofs.sets.lack.Goals.{then-loop-i-test+else-j-ys, else-loop-i-test}
 use Rattle.match_views.proofs.sets.lack.Goals as goal

@@ -1,4 +1,4 @@
-use Rattle.std.proofs.Common.{◌≡◌, ◌==◌, ◌<◌, [], true, length, sym, ap, ◌∙◌, arith, refl, rules, get_or}
+use Rattle.std.proofs.Common.{◌≡◌, ◌<◌, [], length, sym, ap, ◌∙◌, arith, refl, rules, get_or}
 use Rattle.std.specs.FinMap as fin
 use Rattle.view_changes.specs.Serving.{rows_of}
 use Rattle.std.proofs.lemmas.List.{take_all, get_or_default}

@@ -1,4 +1,7 @@
+use Rattle.std.proofs.Common.{◌∙◌, ap}
+use Rattle.shelves.specs.Plain.{Plain}
 use Rattle.session_cluster.proofs.SearchLaws.{none_read, settled_at, read_more}
+use Rattle.session_cluster.proofs.ShelvedLanes.{below_lanes, lane_index}
 use Rattle.session_cluster.proofs.searching.search_all.Goals as goal
 
 pub loop-lane-init : goal.loop-lane-init
@@ -6,5 +9,7 @@ loop-lane-init g c = none_read _ _ _ _ _ c.requires.none c.new-sum.ensures
 
 pub loop-lane-preserved : goal.loop-lane-preserved
 loop-lane-preserved g c =
-    read_more _ _ _ _ c.lane-item.result _ _ _ c.shown-view.result.now _ _ c.loop-lane.invariant c.loop-lane-test.true c.lane-item.is c.shown-view.ensures.view c.generation.ensures.value c.shown-view.ensures.counted (settled_at _ _ _ c.requires.settled c.loop-lane-test.true c.lane-item.is) c.in_ok-push.ensures.items
+    let settled = settled_at c.args.lanes.now c.loop-lane.lane-index c.lane-item.result c.requires.settled c.loop-lane-test.true c.lane-item.is in
+    read_more _ _ _ _ c.lane-item.result.lane _ _ _ c.view-view.result.now _ _ c.loop-lane.invariant (below_lanes c.args.lanes.now c.loop-lane.lane-index c.loop-lane-test.true) (lane_index c.args.lanes.now c.loop-lane.lane-index c.lane-item.result c.lane-item.is)
+    (c.view-view.ensures ∙ ap (λ (p : Plain). p.view) (c.shelf.ensures.own ∙ settled.0)) c.generation.ensures.value settled.1 c.in_ok-push.ensures.items
     (λ us so. c.in_ok-add.ensures.ok _ _ us so)

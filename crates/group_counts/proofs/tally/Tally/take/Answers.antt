@@ -6,8 +6,11 @@ use Rattle.group_counts.proofs.tally.Tally.take.Goals as goal
 pub take_values-requires : goal.take_values-requires
 take_values-requires c =
     let count : c.self.inside.count ≡ c.args.self.now.count = ap (λ t. t.count) c.self.view_is in
-    let fits : c.self.inside.count ≤ 9223372036854775807 = omega (arith, count, c.requires) in
-    subst (AreSmall 9223372036854775807) (sym c.deref_mut.ensures.value) (all-wide c.self.inside.count 9223372036854775807 c.self.inside.values.items fits c.self.invariant)
+    let fits : c.self.inside.count ≤ 9223372036854775807 = omega (arith, count, c.requires.few) in
+    record {
+      small = subst (AreSmall 9223372036854775807) (sym c.deref_mut.ensures.value) (all-wide c.self.inside.count 9223372036854775807 c.self.inside.values.items fits c.self.invariant);
+      same = c.requires.same;
+    }
 
 pub invariant_of-self : goal.invariant_of-self
 invariant_of-self c =

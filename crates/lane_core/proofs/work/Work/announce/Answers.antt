@@ -45,7 +45,7 @@ returns-clause-keeps c =
     let newest : y.newest ≡ Some s = ap (λ (z : LaneState). z.newest) c.hear_all.ensures.after ∙ ap (λ (z : LaneState). z.newest) c.publish.ensures.after in
     let spare : y.spare ≡ x.state.spare - 33 = ap (λ (z : LaneState). z.spare) c.hear_all.ensures.after ∙ ap (λ (z : LaneState). z.spare) c.publish.ensures.after in
     let was : x.state.spare ≡ 33 + length x.jobs.items = c.requires.keeps.spare_is ∙ ap (λ (b : Bool). room_for b + length x.jobs.items) c.requires.room in
-    work-grown x (record { state = y; drawn = x.drawn; places = x.places; has_room = false; jobs = x.jobs }) (announced c.args.deaf s J) c.requires.keeps
+    work-grown x (record { state = y; schema = x.schema; drawn = x.drawn; places = x.places; has_room = false; jobs = x.jobs }) (announced c.args.deaf s J) c.requires.keeps
     (ap (λ (z : LaneState). z.lane) c.hear_all.ensures.after ∙ ap (λ (z : LaneState). z.lane) c.publish.ensures.after)
     (ap (λ (z : LaneState). z.rules) c.hear_all.ensures.after ∙ ap (λ (z : LaneState). z.rules) c.publish.ensures.after)
     grows c.hear_all.ensures.keeps (search rules) (search rules) (omega (arith, spare, was)) (λ made. let wrong : false ≡ true = made in cc) (λ made. let wrong : false ≡ true = made in cc)

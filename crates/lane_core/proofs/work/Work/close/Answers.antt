@@ -39,7 +39,7 @@ returns-clause-keeps c =
     let within = get-within x.jobs.items c.place_of-at.result p.0 p.1 in
     let found : slice_get x.jobs.items c.place_of-at.result ≡ Some j = get-index x.jobs.items c.place_of-at.result j within c.remove-job.ensures.value in
     let after = c.note_end.ensures.after in
-    work-closed x (record { state = c.note_end.new.lane; drawn = x.drawn; places = x.places; has_room = x.has_room; jobs = c.remove-job.new.self }) c.place_of-at.result j e.outcome c.requires.keeps found c.remove-job.ensures.items refl refl refl
+    work-closed x (record { state = c.note_end.new.lane; schema = x.schema; drawn = x.drawn; places = x.places; has_room = x.has_room; jobs = c.remove-job.new.self }) c.place_of-at.result j e.outcome c.requires.keeps found c.remove-job.ensures.items refl refl refl
     (ap (λ (z : LaneState). z.lane) after) (ap (λ (z : LaneState). z.rules) after) (ap (λ (z : LaneState). z.newest) after) (ap (λ (z : LaneState). z.spare) after) c.note_end.ensures.parts (ap (λ (z : LaneState). z.turn_room) after)
     c.note_end.ensures.keeps (c.note_end.ensures.resting c.requires.keeps.resting) (c.note_end.ensures.grows ∙ rw c.end_of-line.ensures.line_is refl) c.note_end.ensures.len c.note_end.ensures.capacity
 
@@ -63,8 +63,8 @@ returns-clause-closes c = λ given planned takes.
       operation = under_way_at j;
       place = record { found = get-map under_way_at x.jobs.items at j found; line_is = is };
       ends = (ends-so x.state j k _ _ _ _ _ _ c.end_of-line.ensures).1;
-      after = value-by x (record { state = c.note_end.new.lane; drawn = x.drawn; places = x.places; has_room = x.has_room; jobs = c.remove-job.new.self }) given planned takes (Closed c.args.line e.told ∷ journal_of x.state)
-          (ap (λ (z : LaneState). z.lane) after) (ap (λ (z : LaneState). z.rules) after) (ap (λ (z : LaneState). z.shelf) after) grows refl
+      after = value-by x (record { state = c.note_end.new.lane; schema = x.schema; drawn = x.drawn; places = x.places; has_room = x.has_room; jobs = c.remove-job.new.self }) given planned takes (Closed c.args.line e.told ∷ journal_of x.state)
+          (ap (λ (z : LaneState). z.lane) after) (ap (λ (z : LaneState). z.rules) after) refl grows refl
           ∙ ap (λ (us : List UnderWay). record (value_of x given planned takes) { journal = Closed c.args.line e.told ∷ journal_of x.state; under_way = us })
           (ap (λ (js : List Job). under_way_in js) c.remove-job.ensures.items ∙ map-remove under_way_at x.jobs.items at);
     }

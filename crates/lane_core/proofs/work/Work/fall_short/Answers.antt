@@ -12,12 +12,12 @@ pub returns-clause-keeps : goal.returns-clause-keeps
 returns-clause-keeps c =
     let x = c.args.self.now in
     let h = c.requires.short in
-    work-over x (record { state = x.state; drawn = x.drawn; places = x.places; has_room = x.has_room; jobs = c.set_phase.new.jobs }) c.args.at c.args.outcome c.args.told c.none.result c.requires.keeps h.0 h.1 h.2 refl refl refl refl
+    work-over x (record { state = x.state; schema = x.schema; drawn = x.drawn; places = x.places; has_room = x.has_room; jobs = c.set_phase.new.jobs }) c.args.at c.args.outcome c.args.told c.none.result c.requires.keeps h.0 h.1 h.2 refl refl refl refl refl
     (of-place (λ (z : Job). c.set_phase.new.jobs.items ≡ slice_set x.jobs.items c.args.at (record z { phase = Over c.args.outcome c.args.told c.none.result })) x.jobs.items c.args.at h.0 h.1 c.set_phase.ensures)
 
 pub returns-clause-over : goal.returns-clause-over
 returns-clause-over c = λ given planned takes.
     let x = c.args.self.now in
     let h = c.requires.short in
-    over-value x (record { state = x.state; drawn = x.drawn; places = x.places; has_room = x.has_room; jobs = c.set_phase.new.jobs }) c.args.at c.args.outcome c.args.told c.none.result c.requires.keeps h.0 h.1 h.2 refl refl refl refl
+    over-value x (record { state = x.state; schema = x.schema; drawn = x.drawn; places = x.places; has_room = x.has_room; jobs = c.set_phase.new.jobs }) c.args.at c.args.outcome c.args.told c.none.result c.requires.keeps h.0 h.1 h.2 refl refl refl refl refl
     (of-place (λ (z : Job). c.set_phase.new.jobs.items ≡ slice_set x.jobs.items c.args.at (record z { phase = Over c.args.outcome c.args.told c.none.result })) x.jobs.items c.args.at h.0 h.1 c.set_phase.ensures) given planned takes

@@ -37,7 +37,7 @@ returns-then-is_behind-clause-keeps c =
     let K : List LaneEvent = heard_next d (Some s) J in
     let S : Setting = setting_of x.state.lane x.state.rules in
     let legal : IsLegal S K = rw (c.hear_within.ensures.grows, ap (λ (z : LaneState). z.lane) after, ap (λ (z : LaneState). z.rules) after) at c.hear_within.ensures.keeps.keeps.legal in
-    work-grown x (record { state = y; drawn = x.drawn; places = x.places; has_room = x.has_room; jobs = x.jobs }) K c.requires.keeps (ap (λ (z : LaneState). z.lane) after) (ap (λ (z : LaneState). z.rules) after) c.hear_within.ensures.grows c.hear_within.ensures.keeps
+    work-grown x (record { state = y; schema = x.schema; drawn = x.drawn; places = x.places; has_room = x.has_room; jobs = x.jobs }) K c.requires.keeps (ap (λ (z : LaneState). z.lane) after) (ap (λ (z : LaneState). z.rules) after) c.hear_within.ensures.grows c.hear_within.ensures.keeps
     (e.resting k.resting) (search rules) (spare ∙ k.spare_is) (λ made. rw e.parts (k.parted made)) (λ made. ap (λ (z : LaneState). z.turn_room) after ∙ k.placed made)
     (rw (ap (λ (z : LaneState). z.newest) after) (lines-heard x.state.lane x.state.rules J x.state.newest (count_of x.drawn) x.jobs.items d s legal (lines-of x c.requires.keeps)))
     (finds-heard (place_of x.places) x.state.journal.events.items (past K) d (Some s) (past-past K) c.requires.keeps.finds)

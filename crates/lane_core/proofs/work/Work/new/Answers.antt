@@ -1,6 +1,4 @@
-use Rattle.std.proofs.Common.{rules, ◌≡◌, ◌∙◌, refl, ap}
-use Rattle.view_changes.specs.Views.{View}
-use Rattle.lane_states.specs.Told.{shown_by}
+use Rattle.std.proofs.Common.{rules, refl}
 use Rattle.lane_lines.proofs.Carrying.{carried-none}
 use Rattle.lane_core.proofs.Working.{work-new}
 use Rattle.lane_core.proofs.work.Work.new.Goals as goal
@@ -10,8 +8,7 @@ returns-clause-keeps c = work-new _ (rw (c.new.ensures.lane, c.new.ensures.rules
 
 pub returns-clause-value : goal.returns-clause-value
 returns-clause-value c = λ given planned takes.
-    let none : shown_by c.args.shelf ≡ 0 = ap (λ (v : View). v.generation) (c.requires.unused.shows ∙ c.requires.unused.opens) in
-    rw (c.new.ensures.lane, c.new.ensures.rules, c.new.ensures.shelf, c.new.ensures.journal, c.new-3.ensures.items, none) refl
+    rw (c.new.ensures.lane, c.new.ensures.rules, c.new.ensures.journal, c.new-3.ensures.items) refl
 
 pub returns-clause-carried : goal.returns-clause-carried
 returns-clause-carried c = carried-none c.new.result c.new.ensures.journal c.new.ensures.last c.new.ensures.late c.late_messages_wait.ensures.none

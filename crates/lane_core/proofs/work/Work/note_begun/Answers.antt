@@ -47,7 +47,7 @@ returns-clause-keeps c =
     let many : length c.push_job.new.jobs.items ≡ length x.jobs.items + 1 = ap length items ∙ push-length x.jobs.items (new_job c.args.line o c.args.via (drawn o.kind s.version J)) in
     let room : vec_len x.state.journal.events + 2 + x.state.spare ≤ vec_capacity x.state.journal.events = c.requires.room in
     let legal : IsLegal (setting_of x.state.lane x.state.rules) (Begun c.args.line c.args.via s.version o.id (drawn o.kind s.version J) ∷ J) = rw (lane, rules_are, grows) at c.note.ensures.keeps.keeps.legal in
-    work-grown x (record { state = record c.note.new.self { spare = c.note.new.self.spare + 1 }; drawn = c.count_stamp.new.counts; places = x.places; has_room = x.has_room; jobs = c.push_job.new.jobs })
+    work-grown x (record { state = record c.note.new.self { spare = c.note.new.self.spare + 1 }; schema = x.schema; drawn = c.count_stamp.new.counts; places = x.places; has_room = x.has_room; jobs = c.push_job.new.jobs })
     (Begun c.args.line c.args.via s.version o.id (drawn o.kind s.version J) ∷ J) c.requires.keeps lane rules_are grows c.note.ensures.keeps (λ d. rw (lane, rules_are, parts) (c.requires.keeps.resting d))
     (omega (arith, room, spare, c.note.ensures.len, c.note.ensures.capacity)) (omega (arith, spare, was, many)) (λ made. rw parts (c.requires.keeps.parted made)) (λ made. ap (λ (z : LaneState). z.turn_room) after ∙ c.requires.keeps.placed made)
     (rw (newest, items) (record {
@@ -70,8 +70,8 @@ returns-clause-begun c = λ given planned takes.
     = c.note.ensures.grows ∙ rw (stamp, c.version-version.ensures.value, c.requires.id) refl in
     let items : c.push_job.new.jobs.items ≡ x.jobs.items ++ new_job c.args.line o c.args.via (drawn o.kind s.version J) ∷ [] = c.push_job.ensures ∙ rw (stamp, c.requires.key) refl in
     let after = c.note.ensures.after in
-    value-by x (record { state = record c.note.new.self { spare = c.note.new.self.spare + 1 }; drawn = c.count_stamp.new.counts; places = x.places; has_room = x.has_room; jobs = c.push_job.new.jobs }) given planned takes
-    (Begun c.args.line c.args.via s.version o.id (drawn o.kind s.version J) ∷ J) (ap (λ (z : LaneState). z.lane) after) (ap (λ (z : LaneState). z.rules) after) (ap (λ (z : LaneState). z.shelf) after) grows refl
+    value-by x (record { state = record c.note.new.self { spare = c.note.new.self.spare + 1 }; schema = x.schema; drawn = c.count_stamp.new.counts; places = x.places; has_room = x.has_room; jobs = c.push_job.new.jobs }) given planned takes
+    (Begun c.args.line c.args.via s.version o.id (drawn o.kind s.version J) ∷ J) (ap (λ (z : LaneState). z.lane) after) (ap (λ (z : LaneState). z.rules) after) refl grows refl
     ∙ ap (λ us. record (value_of x given planned takes) { journal = Begun c.args.line c.args.via s.version o.id (drawn o.kind s.version J) ∷ J; under_way = us })
     (ap under_way_in items ∙ map-push under_way_at x.jobs.items (new_job c.args.line o c.args.via (drawn o.kind s.version J)))
 

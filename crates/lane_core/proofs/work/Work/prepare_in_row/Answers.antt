@@ -87,7 +87,7 @@ returns-clause-keeps c =
     let operation = c.operations_prepare.ensures.known _ _ _ _ _ _ _ keep _ _ _ _ _ (preparing x at j c.requires.keeps found r) row c.in_ok-machine.machine r.acting fit.0 fit.1 (job-of x at j c.requires.keeps found r).plain
     (fit-plan x at j c.requires.keeps found r row fit.0 fit.1 origin all) begun in
     fit-work x at j c.requires.keeps found r row fit.0 fit.1 c.operations_shorten.ensures.few c.in_ok-machine.machine origin begun operation
-    (record { state = c.note.new.self; drawn = x.drawn; places = x.places; has_room = x.has_room; jobs = c.set_prepared.new.jobs })
+    (record { state = c.note.new.self; schema = x.schema; drawn = x.drawn; places = x.places; has_room = x.has_room; jobs = c.set_prepared.new.jobs })
     (of-place (λ (z : Job). c.set_prepared.new.jobs.items ≡ slice_set x.jobs.items at (record z { row = Some row.bucket; phase = phase.Prepared c.in_ok-machine.machine row.bucket false })) x.jobs.items at j found c.set_prepared.ensures)
     refl refl refl c.note.ensures.after c.note.ensures.keeps (c.note.ensures.grows ∙ rw c.reserve.ensures.items refl) (search rules)
 
@@ -116,8 +116,8 @@ returns-clause-ok c = λ given planned takes.
         row = row;
         wanted = fit-wanted x at j c.requires.keeps found r row fit.0 fit.1;
         there = subst (λ (K : List LaneEvent). IsSome (prepared j.line (history K))) (sym grows) (there-now x at j c.requires.keeps found r row fit.0 fit.1);
-        after = value-set x (record { state = c.note.new.self; drawn = x.drawn; places = x.places; has_room = x.has_room; jobs = c.set_prepared.new.jobs }) given given planned takes at now
-            (ap (λ (z : LaneState). z.lane) after) (ap (λ (z : LaneState). z.rules) after) (ap (λ (z : LaneState). z.shelf) after) refl put
+        after = value-set x (record { state = c.note.new.self; schema = x.schema; drawn = x.drawn; places = x.places; has_room = x.has_room; jobs = c.set_prepared.new.jobs }) given given planned takes at now
+            (ap (λ (z : LaneState). z.lane) after) (ap (λ (z : LaneState). z.rules) after) refl refl put
             ∙ ap (λ (K : List LaneEvent). with_run (value_of x given planned takes) K given at (under_way_at now)) grows;
       },
     )

@@ -26,7 +26,7 @@ returns-clause-keeps c =
     let spare : y.spare ≡ x.state.spare - 33 = ap (λ (z : LaneState). z.spare) after in
     let was : x.state.spare ≡ 33 + length x.jobs.items = k.spare_is ∙ ap (λ (b : Bool). room_for b + length x.jobs.items) c.requires.room in
     let legal : IsLegal (setting_of x.state.lane x.state.rules) (Published s ∷ J) = rw (lane, rules_are, c.publish.ensures.grows) at c.publish.ensures.keeps.keeps.legal in
-    work-grown x (record { state = y; drawn = x.drawn; places = x.places; has_room = false; jobs = x.jobs }) (Published s ∷ J) k lane rules_are c.publish.ensures.grows c.publish.ensures.keeps
+    work-grown x (record { state = y; schema = x.schema; drawn = x.drawn; places = x.places; has_room = false; jobs = x.jobs }) (Published s ∷ J) k lane rules_are c.publish.ensures.grows c.publish.ensures.keeps
     (search rules) (search rules) (omega (arith, spare, was)) (λ made. let wrong : false ≡ true = made in cc) (λ made. let wrong : false ≡ true = made in cc)
     (rw newest (record { newest_is = refl; counts_are = k.counts_are; no_round = k.no_round; jobs_are = jobs-quiet x.state.lane x.state.rules J x.jobs.items (Published s) legal (λ line id. tt) (λ i. refl) (λ i. refl) k.jobs_are }))
     (finds-noted (place_of x.places) x.state.journal.events.items (Published s) refl k.finds)

@@ -27,7 +27,7 @@ returns-clause-keeps c =
     let spare : y.spare ≡ x.state.spare = ap (λ (z : LaneState). z.spare) after in
     let grows : journal_of y ≡ e ∷ J = c.note.ensures.grows ∙ rw c.reserve.ensures.items refl in
     let legal : IsLegal (setting_of x.state.lane x.state.rules) (e ∷ J) = rw (lane, rules_are, grows) at c.note.ensures.keeps.keeps.legal in
-    work-grown x (record { state = y; drawn = x.drawn; places = x.places; has_room = x.has_room; jobs = x.jobs }) (e ∷ J) k lane rules_are grows c.note.ensures.keeps
+    work-grown x (record { state = y; schema = x.schema; drawn = x.drawn; places = x.places; has_room = x.has_room; jobs = x.jobs }) (e ∷ J) k lane rules_are grows c.note.ensures.keeps
     (search rules) (search rules) (spare ∙ k.spare_is) (search rules) (λ made. ap (λ (z : LaneState). z.turn_room) after ∙ k.placed made)
     (rw newest (record {
       newest_is = k.newest_is;

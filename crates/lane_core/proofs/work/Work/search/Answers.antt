@@ -61,9 +61,9 @@ returns-clause-keeps g c =
     let begun = of-place (λ (z : Job). is_begun z.phase ≡ true) x.jobs.items c.args.at j found c.requires.begun in
     let items = of-place (λ (z : Job). c.spend.new.jobs.items ≡ slice_set x.jobs.items c.args.at (spent z)) x.jobs.items c.args.at j found c.spend.ensures in
     let f = c.find_row in
-    let m : Work = record { state = f.new.lane; drawn = x.drawn; places = x.places; has_room = x.has_room; jobs = c.spend.new.jobs } in
+    let m : Work = record { state = f.new.lane; schema = x.schema; drawn = x.drawn; places = x.places; has_room = x.has_room; jobs = c.spend.new.jobs } in
     let on = onward-rested x.state f.new.lane j.distributor f.ensures.after f.ensures.quiet f.ensures.resting f.ensures.others f.ensures.parts in
-    keeps-searched x c.args.at j c.requires.keeps found begun f.new.lane f.result f.ensures.goes_on f.ensures.cut on f.ensures.keeps m refl refl refl refl items f.ensures.spare f.ensures.entries
+    keeps-searched x c.args.at j c.requires.keeps found begun f.new.lane f.result f.ensures.goes_on f.ensures.cut on f.ensures.keeps m refl refl refl refl refl items f.ensures.spare f.ensures.entries
 
 pub returns-clause-searches : goal.returns-clause-searches
 returns-clause-searches g c =
@@ -75,9 +75,9 @@ returns-clause-searches g c =
     let items = of-place (λ (z : Job). c.spend.new.jobs.items ≡ slice_set x.jobs.items c.args.at (spent z)) x.jobs.items c.args.at j found c.spend.ensures in
     let free = of-place (IsFreeFor x) x.jobs.items c.args.at j found c.requires.free in
     let f = c.find_row in
-    let m : Work = record { state = f.new.lane; drawn = x.drawn; places = x.places; has_room = x.has_room; jobs = c.spend.new.jobs } in
+    let m : Work = record { state = f.new.lane; schema = x.schema; drawn = x.drawn; places = x.places; has_room = x.has_room; jobs = c.spend.new.jobs } in
     let on = onward-rested x.state f.new.lane j.distributor f.ensures.after f.ensures.quiet f.ensures.resting f.ensures.others f.ensures.parts in
-    if_ok f.result (λ end h. λ planned takes. went-searched x c.args.at j c.requires.keeps found begun f.new.lane f.result f.ensures.goes_on f.ensures.cut on f.ensures.keeps m refl refl refl refl items _ _ planned takes (free.free _ planned takes) h) f.ensures.goes_on
+    if_ok f.result (λ end h. λ planned takes. went-searched x c.args.at j c.requires.keeps found begun f.new.lane f.result f.ensures.goes_on f.ensures.cut on f.ensures.keeps m refl refl refl refl refl items _ _ planned takes (free.free _ planned takes) h) f.ensures.goes_on
 
 pub returns-clause-comes : goal.returns-clause-comes
 returns-clause-comes g c =
@@ -88,9 +88,9 @@ returns-clause-comes g c =
     let begun = of-place (λ (z : Job). is_begun z.phase ≡ true) x.jobs.items c.args.at j found c.requires.begun in
     let items = of-place (λ (z : Job). c.spend.new.jobs.items ≡ slice_set x.jobs.items c.args.at (spent z)) x.jobs.items c.args.at j found c.spend.ensures in
     let f = c.find_row in
-    let m : Work = record { state = f.new.lane; drawn = x.drawn; places = x.places; has_room = x.has_room; jobs = c.spend.new.jobs } in
+    let m : Work = record { state = f.new.lane; schema = x.schema; drawn = x.drawn; places = x.places; has_room = x.has_room; jobs = c.spend.new.jobs } in
     let on = onward-rested x.state f.new.lane j.distributor f.ensures.after f.ensures.quiet f.ensures.resting f.ensures.others f.ensures.parts in
-    if_ok f.result (λ end h. comes-searched x c.args.at j c.requires.keeps found begun f.new.lane f.result f.ensures.goes_on f.ensures.cut on f.ensures.keeps m refl refl refl refl items end h) f.ensures.finds
+    if_ok f.result (λ end h. comes-searched x c.args.at j c.requires.keeps found begun f.new.lane f.result f.ensures.goes_on f.ensures.cut on f.ensures.keeps m refl refl refl refl refl items end h) f.ensures.finds
 
 pub returns-clause-cut : goal.returns-clause-cut
 returns-clause-cut g c =
@@ -101,6 +101,6 @@ returns-clause-cut g c =
     let begun = of-place (λ (z : Job). is_begun z.phase ≡ true) x.jobs.items c.args.at j found c.requires.begun in
     let items = of-place (λ (z : Job). c.spend.new.jobs.items ≡ slice_set x.jobs.items c.args.at (spent z)) x.jobs.items c.args.at j found c.spend.ensures in
     let f = c.find_row in
-    let m : Work = record { state = f.new.lane; drawn = x.drawn; places = x.places; has_room = x.has_room; jobs = c.spend.new.jobs } in
+    let m : Work = record { state = f.new.lane; schema = x.schema; drawn = x.drawn; places = x.places; has_room = x.has_room; jobs = c.spend.new.jobs } in
     let on = onward-rested x.state f.new.lane j.distributor f.ensures.after f.ensures.quiet f.ensures.resting f.ensures.others f.ensures.parts in
-    on_err f.result (λ h. λ planned takes. cut-searched x c.args.at j c.requires.keeps found begun f.new.lane f.result f.ensures.goes_on f.ensures.cut on f.ensures.keeps m refl refl refl refl items _ _ planned takes h) f.ensures.cut
+    on_err f.result (λ h. λ planned takes. cut-searched x c.args.at j c.requires.keeps found begun f.new.lane f.result f.ensures.goes_on f.ensures.cut on f.ensures.keeps m refl refl refl refl refl items _ _ planned takes h) f.ensures.cut

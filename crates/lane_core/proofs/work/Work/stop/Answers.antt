@@ -24,7 +24,7 @@ returns-clause-keeps c =
     let spare : y.spare ≡ x.state.spare - 33 = ap (λ (z : LaneState). z.spare) after in
     let was : x.state.spare ≡ 33 + length x.jobs.items = k.spare_is ∙ ap (λ (b : Bool). room_for b + length x.jobs.items) c.requires.room in
     let legal : IsLegal (setting_of x.state.lane x.state.rules) (stopped_next c.args.node J) = rw (lane, rules_are, c.stop.ensures.grows) at c.stop.ensures.keeps.keeps.legal in
-    work-grown x (record { state = y; drawn = x.drawn; places = x.places; has_room = false; jobs = x.jobs }) (stopped_next c.args.node J) k lane rules_are c.stop.ensures.grows c.stop.ensures.keeps
+    work-grown x (record { state = y; schema = x.schema; drawn = x.drawn; places = x.places; has_room = false; jobs = x.jobs }) (stopped_next c.args.node J) k lane rules_are c.stop.ensures.grows c.stop.ensures.keeps
     (search rules) (search rules) (omega (arith, spare, was)) (λ made. let wrong : false ≡ true = made in cc) (λ made. let wrong : false ≡ true = made in cc)
     (rw (ap (λ (z : LaneState). z.newest) after) (lines-stopped c.args.node J x.state.lane x.state.rules x.state.newest (count_of x.drawn) x.jobs.items legal (lines-of x k)))
     (finds-stopped c.args.node J (place_of x.places) (finds-still (place_of x.places) x.state.journal.events.items k.finds))

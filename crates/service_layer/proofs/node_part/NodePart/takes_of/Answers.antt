@@ -5,11 +5,14 @@ use Rattle.documents.specs.declared.entry.Entry.{Entry}
 use Rattle.view_changes.specs.Deeds.{is_seen}
 use Rattle.service_layer.specs.Telling.{kept_of}
 use Rattle.service_layer.proofs.Treating.{no_items}
-use Rattle.service_layer.proofs.Tellings.{none_told, taken_told}
+use Rattle.service_layer.proofs.Tellings.{none_told, none_newer_told, taken_told}
 use Rattle.service_layer.proofs.node_part.NodePart.takes_of.Goals as goal
 
 pub returns-then-is_empty : goal.returns-then-is_empty
 returns-then-is_empty c = c.none.ensures ∙ none_told c.args.node (kept_of c.args.self.now) c.args.entries.now (no_items _ (search rules))
+
+pub returns-then-not-is_behind : goal.returns-then-not-is_behind
+returns-then-not-is_behind c = c.none-then-not-is_behind.ensures ∙ none_newer_told c.args.node (kept_of c.args.self.now) c.args.entries.now (search rules)
 
 pub returns : goal.returns
 returns c =

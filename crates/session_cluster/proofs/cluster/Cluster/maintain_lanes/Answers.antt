@@ -1,23 +1,24 @@
-use Rattle.std.proofs.Common.{sym, ap, ◌∙◌, subst}
+use Rattle.std.proofs.Common.{refl, sym, ap, ◌∙◌, subst}
 use Rattle.std.proofs.lemmas.List.{with_items_is}
-use Rattle.session_cluster.specs.Cells.{Cell}
+use Rattle.session_cluster.specs.Cells.{Cell, lanes_in, shelves_in}
 use Rattle.session_cluster.specs.Steps.{EachLane, MayMaintain}
-use Rattle.session_cluster.proofs.Passing.{passed_many, lanes_made, lanes_passed, lanes_spans}
+use Rattle.session_cluster.proofs.Passing.{passed_many, lanes_passed, lanes_spans}
 use Rattle.session_cluster.proofs.Reborrowed.{still_cluster}
+use Rattle.session_cluster.proofs.ShelvedLanes.{cell-in}
 use Rattle.session_cluster.proofs.cluster.Cluster.maintain_lanes.Goals as goal
 
 pub maintain_all-made-requires-clause-may : goal.maintain_all-made-requires-clause-may
-maintain_all-made-requires-clause-may g c = subst (EachLane MayMaintain) (sym (c.deref_mut.ensures.value ∙ ap (λ (x : Cell). x.lanes) c.self.view_is)) c.requires.may
+maintain_all-made-requires-clause-may g c = subst (EachLane MayMaintain) (sym (ap lanes_in c.deref_mut.ensures.value ∙ ap (λ (x : Cell). x.lanes) c.self.view_is)) c.requires.may
 
 pub returns-clause-passed : goal.returns-clause-passed
 returns-clause-passed g c =
-    lanes_passed c.args.self.now _ _ c.maintain_all-made.new.lanes _ c.self.view_is c.deref_mut.ensures.value c.maintain_all-made.ensures.passed
-    (with_items_is c.self.inside.lanes c.maintain_all-made.new.lanes (passed_many c.self.inside.lanes.items _ c.maintain_all-made.new.lanes _ c.self.inside.lanes.ok.0 c.deref_mut.ensures.value c.maintain_all-made.ensures.passed))
+    lanes_passed c.args.self.now _ _ (lanes_in c.maintain_all-made.new.lanes) _ c.self.view_is (ap lanes_in c.deref_mut.ensures.value) c.maintain_all-made.ensures.passed
+    (ap lanes_in (with_items_is c.self.inside.lanes c.maintain_all-made.new.lanes (passed_many c.self.inside.lanes.items _ c.maintain_all-made.new.lanes _ c.self.inside.lanes.ok.0 c.deref_mut.ensures.value c.maintain_all-made.ensures.passed)))
 
 pub returns-clause-spans : goal.returns-clause-spans
 returns-clause-spans g c =
-    lanes_spans _ c.args.self.now _ _ c.maintain_all-made.new.lanes _ _ c.self.view_is c.deref_mut.ensures.value c.maintain_all-made.ensures.spans
-    (with_items_is c.self.inside.lanes c.maintain_all-made.new.lanes (passed_many c.self.inside.lanes.items _ c.maintain_all-made.new.lanes _ c.self.inside.lanes.ok.0 c.deref_mut.ensures.value c.maintain_all-made.ensures.passed))
+    lanes_spans _ c.args.self.now _ _ (lanes_in c.maintain_all-made.new.lanes) _ _ c.self.view_is (ap lanes_in c.deref_mut.ensures.value) c.maintain_all-made.ensures.spans
+    (ap lanes_in (with_items_is c.self.inside.lanes c.maintain_all-made.new.lanes (passed_many c.self.inside.lanes.items _ c.maintain_all-made.new.lanes _ c.self.inside.lanes.ok.0 c.deref_mut.ensures.value c.maintain_all-made.ensures.passed)))
 
 pub invariant_of-self : goal.invariant_of-self
 invariant_of-self g c =
@@ -25,4 +26,7 @@ invariant_of-self g c =
     still_cluster _ _ c.self.inside.lanes.items c.maintain_all-made.new.lanes _ c.self.invariant c.self.inside.lanes.ok.0 many (with_items_is c.self.inside.lanes c.maintain_all-made.new.lanes many)
 
 pub returns-clause-now : goal.returns-clause-now
-returns-clause-now g c = lanes_made c.args.line c.args.self.now _ _ c.self.view_is
+returns-clause-now g c =
+    let many = passed_many c.self.inside.lanes.items _ c.maintain_all-made.new.lanes _ c.self.inside.lanes.ok.0 c.deref_mut.ensures.value c.maintain_all-made.ensures.passed in
+    cell-in c.args.self.now _ _ _ _ c.args.line c.self.view_is refl
+    (ap shelves_in (with_items_is c.self.inside.lanes c.maintain_all-made.new.lanes many) ∙ (c.maintain_all-made.ensures.shelves ∙ ap shelves_in c.deref_mut.ensures.value))

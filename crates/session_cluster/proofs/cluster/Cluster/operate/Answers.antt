@@ -1,4 +1,4 @@
-use Rattle.std.proofs.Common.{ap, arith, set}
+use Rattle.std.proofs.Common.{ap, refl, arith}
 use Rattle.session_cluster.specs.Cells.{Cell}
 use Rattle.session_cluster.proofs.InLane.{look_up, found, operated_in}
 use Rattle.session_cluster.proofs.cluster.Cluster.operate.Goals as goal
@@ -30,5 +30,5 @@ run_line-requires-clause-in_lane g c =
 
 pub returns-clause-ok : goal.returns-clause-ok
 returns-clause-ok g c =
-    operated_in _ _ _ c.args.operation.now _ _ _ c.self.inside.lanes.items _ _ _ c.requires.there (ap (λ (x : Cell). x.lanes) c.self.view_is) c.from.ensures c.index_mut-lane.ensures.value
-    c.in_ok-outcome.ensures.ok (ap (λ (x : Cell). record x { lanes = set c.self.inside.lanes.items c.from.result c.run_line.new.lane; dealt = c.args.line }) c.self.view_is)
+    operated_in c.args.line _ c.from.result c.args.operation.now _ c.args.self.now _ c.self.inside.lanes.items _ c.run_line.new.lane _ c.requires.there c.self.view_is refl refl c.from.ensures c.index_mut-lane.ensures.value
+    c.in_ok-outcome.ensures.ok c.run_line.ensures.shelf

@@ -1,14 +1,24 @@
-use Rattle.std.proofs.Common.{ap, ap₂, ◌∙◌, map}
+use Rattle.std.proofs.Common.{◌≡◌, OnOk, ap, ap₂, ◌∙◌, map, refl, subst}
 use Rattle.std.proofs.lemmas.Result.{IfOk-weaker}
 use Rattle.lane_core.specs.Showing.{view_in}
-use Rattle.session_cluster.specs.Cells.{Cell}
+use Rattle.session_cluster.specs.Cells.{Cell, lanes_in}
 use Rattle.search_views.specs.Answers.{search_answer}
-use Rattle.session_cluster.specs.Searches.{version_now}
+use Rattle.session_cluster.specs.Searches.{version_now, fronts_now}
+use Rattle.session_cluster.proofs.ShelvedLanes.{settled_in, few_lanes_in}
 use Rattle.session_cluster.proofs.cluster.Cluster.read.Goals as goal
+
+pub search_all-requires-clause-settled : goal.search_all-requires-clause-settled
+search_all-requires-clause-settled g c = settled_in c.args.self.now _ c.self.inside.lanes.items _ c.self.view_is refl refl c.deref.ensures.value c.requires.settled
+
+pub search_all-requires-clause-few : goal.search_all-requires-clause-few
+search_all-requires-clause-few g c = few_lanes_in c.args.self.now _ c.self.inside.lanes.items _ c.self.view_is refl c.deref.ensures.value c.requires.few
+
+pub returns-clause-fronts : goal.returns-clause-fronts
+returns-clause-fronts g c = subst (λ vs. OnOk c.search_all.result (c.search_all.new.fronts.items ≡ fronts_now vs)) (ap lanes_in c.deref.ensures.value ∙ ap (λ (x : Cell). x.lanes) c.self.view_is) c.search_all.ensures.fronts
 
 pub returns-clause-answer : goal.returns-clause-answer
 returns-clause-answer g c =
     IfOk-weaker c.search_all.result _ _ (λ answer told.
-    told ∙ ap (λ q. search_answer q c.version_told-version.result (map view_in c.deref.result.now)) c.query-query.ensures
-    ∙ ap₂ (λ w vs. search_answer c.args.query w (map view_in vs)) (c.version_told-version.ensures ∙ ap (λ (x : Cell). version_now x.told) c.self.view_is) (c.deref.ensures.value ∙ ap (λ (x : Cell). x.lanes) c.self.view_is))
+    told ∙ ap (λ q. search_answer q c.version_told-version.result (map view_in (lanes_in c.deref.result.now))) c.query-query.ensures
+    ∙ ap₂ (λ w vs. search_answer c.args.query w (map view_in vs)) (c.version_told-version.ensures ∙ ap (λ (x : Cell). version_now x.told) c.self.view_is) (ap lanes_in c.deref.ensures.value ∙ ap (λ (x : Cell). x.lanes) c.self.view_is))
     c.search_all.ensures.answer

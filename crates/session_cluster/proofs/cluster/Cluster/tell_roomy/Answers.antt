@@ -1,16 +1,17 @@
-use Rattle.std.proofs.Common.{sym, ap, ◌∙◌, subst}
+use Rattle.std.proofs.Common.{refl, sym, ap, ◌∙◌, subst}
 use Rattle.std.proofs.lemmas.List.{with_items_is}
-use Rattle.session_cluster.specs.Cells.{Cell}
+use Rattle.session_cluster.specs.Cells.{Cell, lanes_in}
 use Rattle.session_cluster.specs.Steps.{after_state, EachLane, MayAnnounce}
 use Rattle.session_cluster.proofs.InLane.{no_fault, all_announced, same_many}
+use Rattle.session_cluster.proofs.ShelvedLanes.{each_with}
 use Rattle.session_cluster.proofs.cluster.Cluster.tell_roomy.Goals as goal
 
 pub announce_all-requires : goal.announce_all-requires
 announce_all-requires g c =
-    subst (EachLane (MayAnnounce c.args.state.now)) (sym (c.deref_mut.ensures.value ∙ ap (λ (x : Cell). x.lanes) c.self.view_is))
-    (c.requires (no_fault c.args.state.now c.args.self.now _ c.self.view_is c.in-Ok.ensures.none))
+    each_with (MayAnnounce c.args.state.now) _ (subst (EachLane (MayAnnounce c.args.state.now)) (sym (ap lanes_in c.deref_mut.ensures.value ∙ ap (λ (x : Cell). x.lanes) c.self.view_is))
+    (c.requires (no_fault c.args.state.now c.args.self.now _ c.self.view_is c.in-Ok.ensures.none)))
 
 pub returns-in-Ok-clause-told : goal.returns-in-Ok-clause-told
 returns-in-Ok-clause-told g c =
-    all_announced c.args.line c.args.state.now c.args.deaf c.args.self.now _ _ c.announce_all.new.lanes _ _ c.self.view_is c.deref_mut.ensures.value c.in-Ok.ensures.ok c.announce_all.ensures.after c.announce_all.ensures.holds c.in-Ok.ensures.none
+    all_announced c.args.line c.args.state.now c.args.deaf c.args.self.now _ c.self.inside.lanes.items _ c.announce_all.new.lanes _ _ c.self.view_is refl refl c.deref_mut.ensures.value c.in-Ok.ensures.ok c.announce_all.ensures.after c.announce_all.ensures.holds c.in-Ok.ensures.none
     (with_items_is c.self.inside.lanes c.announce_all.new.lanes (same_many (after_state c.args.state.now c.args.deaf) c.self.inside.lanes.items _ c.announce_all.new.lanes _ c.self.inside.lanes.ok.0 c.deref_mut.ensures.value c.announce_all.ensures.after))

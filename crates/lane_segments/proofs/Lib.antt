@@ -1,0 +1,7 @@
+mod Lists
+mod Growing
+mod Alone
+mod Calling
+mod Wanted
+mod Ordering
+mod Answering
