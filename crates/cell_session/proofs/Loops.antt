@@ -20,7 +20,6 @@ use Rattle.cell_session.specs.declared.counts.Counts.{Counts}
 use Rattle.session_cluster.specs.declared.asked.Asked.{Asked}
 use Rattle.session_cluster.specs.declared.asked.Asked.TheVariants as command
 use Rattle.cell_session.specs.Answering.{StopsAs}
-use Rattle.session_cluster.specs.Steps.{IsAllOrNothing}
 use Rattle.session_cluster.specs.Cells.{Cell}
 use Rattle.session_cluster.specs.Keeping.{IsKept, IsReady}
 use Rattle.cell_session.specs.Dealing.{EndsAs}
@@ -34,17 +33,16 @@ use Rattle.cell_session.specs.Operations.{IsCommandAt}
 use Rattle.cell_session.specs.Searches.{AreRead}
 use Rattle.cell_session.specs.SoFar.{IsBehind, IsSoFar}
 use Rattle.cell_session.specs.Upkeep.{AreUpkept}
-use Rattle.session_cluster.specs.Steps.{IsAfter, IsDealt}
+use Rattle.session_cluster.specs.Steps.{IsRoomier, without_room, IsAfter, IsDealt, IsAllOrNothing}
 use Rattle.cell_session.specs.declared.answering.Stop.{Stop}
 use Rattle.cell_session.specs.declared.answering.Stop.TheVariants as stop
 use Rattle.cell_session.specs.Limits.{most_lines, most_bytes, most_states, most_maintains}
 use Rattle.cell_session.specs.declared.next_command.Step.TheVariants as step
 use Rattle.cell_session.specs.declared.status.Status.{Status}
 use Rattle.cell_session.specs.declared.status.Status.TheVariants as status
-use Rattle.cell_session.proofs.OutputLaws.{output_kept, output_more, nearly_output, report_seen}
+use Rattle.cell_session.proofs.OutputLaws.{output_kept, output_more, roomier_output}
 use Rattle.session_cluster.proofs.Elements.{element_seen}
-use Rattle.session_cluster.proofs.SessionSteps.{kept_more, kept_nearly}
-use Rattle.session_cluster.proofs.Nearly.{bare, IsNearly, roomier_nearly, shown_nearly}
+use Rattle.session_cluster.proofs.SessionSteps.{kept_more, kept_roomier}
 use Rattle.cell_session.proofs.ReadLaws.{read_more, none_read, read_roomier}
 use Rattle.cell_session.proofs.UpkeepLaws.{upkept_more, noted_last, cut_last, none_upkept, upkept_at, upkept_roomier}
 
@@ -304,31 +302,18 @@ line_more s types plans text left left' reader reader' counts counted old new be
       read = read_more s plans cs c old new number so.kept k after so.read;
     }
 
--- the same where more was shown then
-module _ (s : Setting) (mid new : Cell) (near : IsNearly mid new) where
-  nearly_seen : (lane : ℕ) (w : LaneValue) → slice_get new.lanes lane ≡ Some w → (v : LaneValue) × ((slice_get mid.lanes lane ≡ Some v) × (w.journal ≡ v.journal))
-  nearly_seen lane w at =
-      let found = element_seen bare mid.lanes new.lanes lane w near.lanes at in
+-- the same where room was made
+module _ (s : Setting) (old new : Cell) (room : IsRoomier old new) where
+  roomier_seen : (lane : ℕ) (w : LaneValue) → slice_get new.lanes lane ≡ Some w → (v : LaneValue) × ((slice_get old.lanes lane ≡ Some v) × (w.journal ≡ v.journal))
+  roomier_seen lane w at =
+      let found = element_seen without_room old.lanes new.lanes lane w room.lanes at in
       (found.0, (found.1.0, ap (λ (x : LaneValue). x.journal) found.1.1))
 
-  read_nearly : (cs : List Asked) → AreRead s cs mid → AreRead s cs new
-  read_nearly cs so = read_roomier s cs mid new (ap (λ (x : Cell). x.fronts) near.rest) (ap (λ (x : Cell). x.upkeeps) near.rest) nearly_seen so
+  read_then : (cs : List Asked) → AreRead s cs old → AreRead s cs new
+  read_then cs so = read_roomier s cs old new (ap (λ (x : Cell). x.fronts) room.rest) (ap (λ (x : Cell). x.upkeeps) room.rest) roomier_seen so
 
-  upkept_nearly : (end : Status) (cs : List Asked) → AreUpkept end s cs mid → AreUpkept end s cs new
-  upkept_nearly end cs so = upkept_roomier end s cs mid new (ap (λ (x : Cell). x.upkeeps) near.rest) nearly_seen so
-
-  more_nearly : (types : Types) (plans : ℕ → List Fate) (text left' : Option (List ℕ)) (reader reader' : Reading) (counted : Counts) (cs : List Asked) (old : Cell) (number : ℕ) (c : Asked)
-      → IsMore s types plans text left' reader reader' counted cs old mid number c → IsMore s types plans text left' reader reader' counted cs old new number c
-  more_nearly types plans text left' reader reader' counted cs old number c m = record {
-    count = m.count;
-    counts_are = m.counts_are;
-    few = m.few;
-    kept = kept_nearly s plans (cs ++ c ∷ []) mid new near m.kept;
-    told = m.told;
-    earlier = nearly_output s cs mid new near ∙ m.earlier;
-    output = nearly_output s (cs ++ c ∷ []) mid new near ∙ m.output ∙ ap (λ r. output_of s cs old ++ r) (sym (report_seen s old.told number c mid new near));
-    read = read_nearly (cs ++ c ∷ []) m.read;
-  }
+  upkept_then : (end : Status) (cs : List Asked) → AreUpkept end s cs old → AreUpkept end s cs new
+  upkept_then end cs so = upkept_roomier end s cs old new (ap (λ (x : Cell). x.upkeeps) room.rest) roomier_seen so
 
 pub so_far_more : (s : Setting) (types : Types) (plans : ℕ → List Fate) (text left left' : Option (List ℕ)) (reader reader' : Reading) (counts counted : Counts) (old new : Cell) (before now now' : Option (List ℕ)) (number : ℕ) (c : Asked)
     → IsSoFar s types plans text reader left counts old before now → reader.max_lines ≡ most_lines → reader.max_bytes ≡ most_bytes
@@ -339,9 +324,7 @@ pub so_far_more : (s : Setting) (types : Types) (plans : ℕ → List Fate) (tex
     → IsSoFar s types plans text reader' left' counted new before now'
 so_far_more s types plans text left left' reader reader' counts counted old new before now now' number c so lines bytes shows stands with is small grows dealt wrote =
     let cs = so.commands in
-    let near = shown_nearly dealt.mid new dealt.shown in
-    let more = more_nearly s dealt.mid new near types plans text left' reader reader' counted cs old number c
-    (line_more s types plans text left left' reader reader' counts counted old dealt.mid before now number c so lines bytes shows stands with is small dealt.done.0) in
+    let more = line_more s types plans text left left' reader reader' counts counted old new before now number c so lines bytes shows stands with is small dealt.0 in
     record {
       setting = so.setting;
       commands = cs ++ c ∷ [];
@@ -354,8 +337,7 @@ so_far_more s types plans text left left' reader reader' counts counted old new 
       kept = more.kept;
       output = subst (Appends before now') (sym more.output) (Appends-trans before now now' (output_of s cs old) (report_in s old.told number c new) so.output wrote);
       told = more.told;
-      upkept = upkept_nearly s dealt.mid new near status.Done (cs ++ c ∷ [])
-          (upkept_more s plans cs c old dealt.mid number so.kept (omega (arith, is, so.count)) dealt.done.0 status.Done so.upkept (noted_last s c old dealt.mid number status.Done dealt.done.1));
+      upkept = upkept_more s plans cs c old new number so.kept (omega (arith, is, so.count)) dealt.0 status.Done so.upkept (noted_last s c old new number status.Done dealt.1);
       read = more.read;
     }
 
@@ -529,9 +511,7 @@ fault_ends why s types plans text left left' reader reader' counts counted old n
     ended : IsDealt s number c old new × AppendsFront now now' (report_in s old.told number c new) → EndsAs status.WriteFault s types plans text left' new before now'
     ended (dealt, (front, (rest, (whole, (some, wrote))))) =
         let cs = so.commands in
-        let near = shown_nearly dealt.mid new dealt.shown in
-        let more = more_nearly s dealt.mid new near types plans text left' reader reader' counted cs old number c
-        (line_more s types plans text left left' reader reader' counts counted old dealt.mid before now number c so lines bytes shows stands with is small dealt.done.0) in
+        let more = line_more s types plans text left left' reader reader' counts counted old new before now number c so lines bytes shows stands with is small dealt.0 in
         inr (record {
           commands = cs ++ c ∷ [];
           kept = more.kept;
@@ -547,8 +527,7 @@ fault_ends why s types plans text left left' reader reader' counts counted old n
             report = ap₂ (λ told k. report_in s told k c new) (sym so.kept.told) more.count ∙ whole;
             output = subst (λ x. Appends before now' (x ++ front)) (sym more.earlier) (Appends-trans before now now' (output_of s cs old) front so.output wrote);
           };
-          upkept = upkept_nearly s dealt.mid new near status.WriteFault (cs ++ c ∷ [])
-              (upkept_more s plans cs c old dealt.mid number so.kept (omega (arith, is, so.count)) dealt.done.0 status.WriteFault so.upkept (noted_last s c old dealt.mid number status.WriteFault dealt.done.1));
+          upkept = upkept_more s plans cs c old new number so.kept (omega (arith, is, so.count)) dealt.0 status.WriteFault so.upkept (noted_last s c old new number status.WriteFault dealt.1);
           read = more.read;
           few = more.few;
           reached = tt;
@@ -576,30 +555,27 @@ memory_ends why s types plans text left left' reader reader' counts counted old 
     ended told.0 (appends_kept before now now' (output_of s so.commands old) so.output told.1)
   where
     ended : IsAllOrNothing s number c old new → Appends before now' (output_of s so.commands old) → EndsAs status.NoMemory s types plans text left' new before now'
-    ended (inl roomier) wrote = let near = roomier_nearly old new roomier in inr (record {
+    ended (inl room) wrote = inr (record {
       commands = so.commands;
-      kept = kept_nearly s plans so.commands old new near so.kept;
+      kept = kept_roomier s plans so.commands old new room so.kept;
       first = first_of types s.bits text so.commands reader left so.told;
       stops = no_claim types s.bits text left' so.commands;
-      output = inl (subst (Appends before now') (sym (nearly_output s so.commands old new near)) wrote);
-      upkept = upkept_at status.NoMemory s so.commands new (upkept_nearly s old new near status.Done so.commands so.upkept);
-      read = read_nearly s old new near so.commands so.read;
+      output = inl (subst (Appends before now') (sym (roomier_output s so.commands old new room)) wrote);
+      upkept = upkept_at status.NoMemory s so.commands new (upkept_then s old new room status.Done so.commands so.upkept);
+      read = read_then s old new room so.commands so.read;
       few = so_few s types plans text reader left counts old before now so;
       reached = tt;
     })
     ended (inr dealt) wrote =
         let cs = so.commands in
-        let near = shown_nearly dealt.mid new dealt.shown in
-        let more = more_nearly s dealt.mid new near types plans text left' reader reader' counted cs old number c
-        (line_more s types plans text left left' reader reader' counts counted old dealt.mid before now number c so lines bytes shows stands with is small dealt.done) in
+        let more = line_more s types plans text left left' reader reader' counts counted old new before now number c so lines bytes shows stands with is small dealt in
         inr (record {
           commands = cs ++ c ∷ [];
           kept = more.kept;
           first = first_of types s.bits text (cs ++ c ∷ []) reader' left' more.told;
           stops = no_claim types s.bits text left' (cs ++ c ∷ []);
           output = inr (record { earlier = cs; last = c; all = refl; output = subst (Appends before now') (sym more.earlier) wrote });
-          upkept = upkept_nearly s dealt.mid new near status.NoMemory (cs ++ c ∷ [])
-              (upkept_more s plans cs c old dealt.mid number so.kept (omega (arith, is, so.count)) dealt.done status.NoMemory so.upkept (cut_last s c old dealt.mid number dealt.done));
+          upkept = upkept_more s plans cs c old new number so.kept (omega (arith, is, so.count)) dealt status.NoMemory so.upkept (cut_last s c old new number dealt);
           read = more.read;
           few = more.few;
           reached = tt;

@@ -19,12 +19,11 @@ use Rattle.session_cluster.specs.Lanes.{Journal, lane_of_id, journal_in, AreLega
 use Rattle.session_cluster.specs.Output.{outcome_answer, closed_answer, operation_answer, upkeep_answer, found_answer_of, bytes_of, report_in, output_from, output_of}
 use Rattle.session_cluster.specs.Searches.{fronts_of, version_now}
 use Rattle.search_views.specs.Answers.{search_answer}
-use Rattle.session_cluster.specs.Steps.{IsAfter}
+use Rattle.session_cluster.specs.Steps.{IsRoomier, IsAfter}
 use Rattle.session_cluster.specs.declared.asked.Asked.{Asked}
 use Rattle.session_cluster.specs.declared.asked.Asked.TheVariants as command
 use Rattle.session_cluster.proofs.KeptLanes.{kept_legal}
 use Rattle.session_cluster.proofs.Moving.{Moves, moves, answer_seen}
-use Rattle.session_cluster.proofs.Nearly.{IsNearly}
 use Rattle.session_cluster.proofs.SessionSteps.{LeavesSpans, LeavesFronts, leaves_spans, leaves_fronts}
 use Rattle.cell_session.specs.Searches.{AreRead}
 use Rattle.cell_session.proofs.ReadLaws.{ViewsStay, views_stay}
@@ -108,13 +107,13 @@ output_more s plans cs c old new k kept is after so =
     output-push s (first_told s) 1 cs c new ∙ ap₂ (λ a n. a ++ report_in s (told_of s cs) n c new) (output_kept s plans cs c old new k kept is after so) (omega (arith, is))
     ∙ ap (λ t. output_of s cs old ++ report_in s t k c new) (sym kept.told)
 
--- room and what is shown change no report
-pub report_seen : (s : Setting) (told : Told) (j : ℕ) (c : Asked) (vs ws : Cell) → IsNearly vs ws → report_in s told j c ws ≡ report_in s told j c vs
-report_seen s told j c vs ws near = ap (bytes_of j) (answer_seen s told j c vs ws near.lanes (ap (λ (x : Cell). x.upkeeps) near.rest) (ap (λ (x : Cell). x.fronts) near.rest))
+-- room changes no report
+report_seen : (s : Setting) (told : Told) (j : ℕ) (c : Asked) (vs ws : Cell) → IsRoomier vs ws → report_in s told j c ws ≡ report_in s told j c vs
+report_seen s told j c vs ws room = ap (bytes_of j) (answer_seen s told j c vs ws room.lanes (ap (λ (x : Cell). x.upkeeps) room.rest) (ap (λ (x : Cell). x.fronts) room.rest))
 
-output_seen : (s : Setting) (told : Told) (start : ℕ) (cs : List Asked) (vs ws : Cell) → IsNearly vs ws → output_from s told start cs ws ≡ output_from s told start cs vs
-output_seen s told start [] vs ws near = refl
-output_seen s told start (c ∷ cs) vs ws near = ap₂ (λ a b. a ++ b) (report_seen s told start c vs ws near) (output_seen s (told_next c told) (suc start) cs vs ws near)
+output_seen : (s : Setting) (told : Told) (start : ℕ) (cs : List Asked) (vs ws : Cell) → IsRoomier vs ws → output_from s told start cs ws ≡ output_from s told start cs vs
+output_seen s told start [] vs ws room = refl
+output_seen s told start (c ∷ cs) vs ws room = ap₂ (λ a b. a ++ b) (report_seen s told start c vs ws room) (output_seen s (told_next c told) (suc start) cs vs ws room)
 
-pub nearly_output : (s : Setting) (cs : List Asked) (old new : Cell) → IsNearly old new → output_of s cs new ≡ output_of s cs old
-nearly_output s cs old new near = output_seen s (first_told s) 1 cs old new near
+pub roomier_output : (s : Setting) (cs : List Asked) (old new : Cell) → IsRoomier old new → output_of s cs new ≡ output_of s cs old
+roomier_output s cs old new room = output_seen s (first_told s) 1 cs old new room

@@ -1,5 +1,5 @@
 -- What holds between two lines of a session.
-use Rattle.std.specs.Prelude.{◌≡◌, ◌≤◌, ℕ, List, length, Option}
+use Rattle.std.specs.Prelude.{◌≡◌, ◌≤◌, ℕ, List, [], length, Option}
 use Rattle.std.specs.Io.KnownBytes.{Appends}
 use Rattle.carriers.specs.declared.fate.Fate.{Fate}
 use Rattle.io_ends.specs.Reading.{Reading, StandsIn}
@@ -21,6 +21,14 @@ use Rattle.cell_session.specs.Upkeep.{AreUpkept}
 -- the lines are the first ones of the text, and the reader stands behind them
 abbrev pub IsBehind : Types → ℕ → Reading → Option (List ℕ) → List Asked → List ℕ → Type 0
 IsBehind types bits reader left commands text = AreFirst types bits text commands × StandsIn text reader left
+
+-- no line was dealt with yet, and the carriers have some plans
+pub record IsUnserved (s : Setting) (c : Cell) : Type 0 where
+  pub setting : IsSetting s
+  pub plans : ℕ → List Fate
+  pub kept : IsKept s plans [] c
+  pub unkept : c.upkeeps ≡ []
+  pub unread : c.fronts ≡ []
 
 pub record IsSoFar (s : Setting) (types : Types) (plans : ℕ → List Fate) (text : Option (List ℕ)) (reader : Reading) (left : Option (List ℕ))
     (counts : Counts) (c : Cell) (before now : Option (List ℕ)) : Type 0 where

@@ -13,7 +13,7 @@ use io_ends::{Sink, WriteFault, write_all};
 use lane_lives::Setting;
 use reports::{Answer, report};
 use session_cluster::asked::Asked;
-use session_cluster::cluster::Cluster;
+use session_cluster::session::Session;
 use std::alloc::Global;
 use thiserror::Error;
 use value_lists::NoMemory;
@@ -50,22 +50,22 @@ pub fn answer_line<K: Sink, C: Carrier + Drop>(
     line: u32,
     command: Asked,
     sink: &mut K,
-    cluster: &mut Cluster<C>,
+    session: &mut Session<C>,
 ) -> Result<(), Stop>
-    requires ready { IsReady setting.now line cluster.old }
+    requires ready { IsReady setting.now line session.old.cell }
     requires own { IsOwnAsked setting.now.bits command }
-    requires settled { AreSettled cluster.old }
-    ensures dealt { OnOk result (IsDealt setting.now line command cluster.old cluster.new) }
-    ensures settled { OnOk result (AreSettled cluster.new) }
+    requires settled { AreSettled session.old }
+    ensures dealt { OnOk result (IsDealt setting.now line command session.old.cell session.new.cell) }
+    ensures settled { OnOk result (AreSettled session.new) }
     ensures written { OnOk result (Appends (K.written sink.old) (K.written sink.new)
-        (report_in setting.now cluster.old.told line command cluster.new)) }
-    ensures stopped { IfErr result (λ why.
-        StopsAs why setting.now line command cluster.old cluster.new (K.written sink.old) (K.written sink.new)) }
+        (report_in setting.now session.old.cell.told line command session.new.cell)) }
+    ensures stopped { IfErr result (λ why. StopsAs why setting.now line command session.old.cell session.new.cell
+        (K.written sink.old) (K.written sink.new)) }
     ensures count { K.faults sink.old ≤ K.faults sink.new }
     ensures fault { IfErr result (λ why. why ≡ stop.Fault
         → HasRisen K.last (K.faults sink.old) (K.faults sink.new)) }
 {
-    let answer = cluster.deal(alloc, setting, line, command)?;
+    let answer = session.deal(alloc, setting, line, command)?;
     let bytes = bytes_of(alloc, line, &answer)?;
     write_all(sink, &bytes)?;
     Ok(())

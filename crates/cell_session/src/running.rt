@@ -1,4 +1,4 @@
-ghost use Rattle.std.specs.Prelude.{◌≡◌, ◌≤◌, IsTrue, map};
+ghost use Rattle.std.specs.Prelude.{◌≡◌, ◌≤◌, ℕ, List, [], IsTrue, map};
 ghost use Rattle.std.specs.String.{string_bytes};
 ghost use Rattle.std.specs.Io.KnownBytes.{Appends};
 ghost use Rattle.io_ends.specs.Causes.{HasRisen};
@@ -10,6 +10,10 @@ ghost use Rattle.session_cluster.specs.Cells.{is_empty, journals_of};
 ghost use Rattle.cell_session.specs.Dealing.{EndsAs};
 ghost use Rattle.cell_session.specs.Ends.{IfTold, OfFirst, HasLanes, DealsWith, PassesLimit, Writes, UsageEnd};
 ghost use Rattle.cell_session.specs.Lines.{HaveLines};
+ghost use Rattle.session_cluster.specs.Keeping.{IsKept};
+ghost use Rattle.cell_session.specs.SoFar.{IsUnserved};
+ghost use Rattle.session_cluster.specs.Steps.{AreSettled};
+ghost use Rattle.carriers.specs.declared.fate.Fate.{Fate};
 ghost use Rattle.session_cluster.specs.Lanes.{AreLegal, AreInOrder, AreTogether};
 ghost use Rattle.cell_session.specs.LanePromises.{AreDurable, AreComplete, AreShownRight};
 ghost use Rattle.cell_session.specs.Searches.{CountOnce};
@@ -19,7 +23,7 @@ use crate::counts::{Counts, counts_with};
 use crate::limits::{MOST_BYTES, MOST_LINES};
 use crate::next_command::{Step, next_command};
 use crate::status::Status;
-use carriers::Carriers;
+use carriers::{Carrier, Carriers};
 use io_ends::{LimitKind, LineReader, Sink, Source, write_all};
 use journal_views::laws::{
     answers_are_of_what_is_read, fronts_count_once, journals_are_read, journals_are_shown,
@@ -31,7 +35,8 @@ use lane_promises::laws::{
 };
 use line_values::ValueReader;
 use reports::usage_report;
-use session_cluster::cluster::{Cluster, open_cluster};
+use session_cluster::cluster::Cluster;
+use session_cluster::session::{Session, open_session};
 use session_settings::read_choice;
 use std::alloc::Global;
 use words_line::WordsFault;
@@ -132,7 +137,7 @@ pub(crate) fn refuse_words<K: Sink>(alloc: Global, sink: &mut K) -> Status
     }
 }
 
-/// Runs the lines of the source in new lanes.
+/// Runs the lines of the source in new lanes, for which room is made in the cluster first, and leaves them there.
 fn run_lines<S: Source, K: Sink, C: Carriers>(
     alloc: Global,
     setting: &Setting,
@@ -152,9 +157,34 @@ fn run_lines<S: Source, K: Sink, C: Carriers>(
     ensures source_calm { S.faults source.old ≤ S.faults source.new }
     ensures sink_calm { K.faults sink.old ≤ K.faults sink.new }
 {
-    let Ok(()) = open_cluster(alloc, setting, carriers, cluster) else {
+    let Ok(mut session) = open_session(alloc, setting, carriers) else {
         return Status::NoMemory;
     };
+    let status = serve_lines(alloc, setting, source, sink, &mut session);
+    session.leave(cluster);
+    status
+}
+
+/// Deals with the lines of the source, each in its turn, in a session that dealt with none.
+fn serve_lines<S: Source, K: Sink, C: Carrier + Drop>(
+    alloc: Global,
+    setting: &Setting,
+    source: &mut S,
+    sink: &mut K,
+    session: &mut Session<C>,
+) -> Status
+    requires new { IsUnserved setting.now session.old.cell }
+    requires settled { AreSettled session.old }
+    ensures ended { (plans : ℕ → List Fate) → IsKept setting.now plans [] session.old.cell
+        → EndsAs result setting.now setting.now.schema plans (S.left source.old) (S.left source.new) session.new.cell
+        (K.written sink.old) (K.written sink.new) }
+    ensures read_fault { result ≡ Status.ReadFault
+        → HasRisen S.last (S.faults source.old) (S.faults source.new) }
+    ensures write_fault { result ≡ Status.WriteFault
+        → HasRisen K.last (K.faults sink.old) (K.faults sink.new) }
+    ensures source_calm { S.faults source.old ≤ S.faults source.new }
+    ensures sink_calm { K.faults sink.old ≤ K.faults sink.new }
+{
     let Ok(mut reader) = LineReader::new(alloc, MOST_BYTES, MOST_LINES) else {
         return Status::NoMemory;
     };
@@ -182,7 +212,7 @@ fn run_lines<S: Source, K: Sink, C: Carriers>(
             Ok(counted) => counted,
             Err(which) => return Status::Limit { which },
         };
-        match answer_line(alloc, setting, number, command, sink, cluster) {
+        match answer_line(alloc, setting, number, command, sink, session) {
             Ok(()) => counts = counted,
             Err(Stop::Fault) => return Status::WriteFault,
             Err(Stop::Memory) => return Status::NoMemory,

@@ -24,8 +24,6 @@ mod places;
 mod rule;
 mod seat;
 mod shared_shelf;
-#[cfg(test)]
-mod tests;
 
 pub use face::ShelfId;
 pub use history::{Front, Note};

@@ -1,17 +1,22 @@
 -- Groups of tallies.
 use Rattle.std.proofs.Common.{filter, ◌≡◌, ℕ, ℤ, ◌++◌, ◌||◌, ◌&&◌, Bool, true, false, cond, T, List, [], ◌∷◌, map, length, Option, None, Some, option_map, String, refl, sym, ap, ap₂, subst, ◌∙◌}
 use Rattle.std.specs.List.{AllByRecursion, list_any}
-use Rattle.std.specs.List.Sorted.{IsStrictlySortedBy}
-use Rattle.std.specs.Ordering.{int_cmp, nat_cmp, eq_by_cmp, is_eq, is_lt}
+use Rattle.std.specs.List.{IsDistinct, dedup, dedup_from}
+use Rattle.std.specs.List.Sorted.{IsSorted, IsStrictlySortedBy}
+use Rattle.std.specs.Ordering.{int_cmp, int_eq, nat_cmp, eq_by_cmp, is_eq, is_lt}
 use Rattle.std.specs.declared.cmp.Ordering.{Ordering}
 use Rattle.std.specs.declared.cmp.Ordering.TheVariants.{Less, Equal, Greater}
 use Rattle.std.specs.Cmp.{IsTotalOrder, int_cmp_total, eq_by_cmp_equiv}
 use Rattle.std.specs.Cmp.Lexicographic.{slice_cmp, nat_list_cmp_total}
 use Rattle.std.specs.Map.{lookup, keys_of}
-use Rattle.std.specs.BTreeMap as tree
-use Rattle.std.specs.BTreeMap.{BTreeMap, is_at, get_by_text}
-use Rattle.std.specs.String.{string_bytes, string_cmp}
-use Rattle.std.proofs.lemmas.Map.Keys.{IsDistinct-from_sorted}
+use Rattle.indexmap.specs.IndexMap as table
+use Rattle.indexmap.specs.IndexMap.{IndexMap, get_by_text}
+use Rattle.std.specs.BTreeMap.{is_at}
+use Rattle.std.specs.Prelude.{bytes_eq}
+use Rattle.std.specs.String.{string_bytes, string_cmp, string_eq, string_cmp_total, string_eq_equiv}
+use Rattle.std.proofs.lemmas.List.Kept.{IsStrictlySortedBy-dedup}
+use Rattle.std.proofs.lemmas.Map.Keys.{IsDistinct-cons, IsDistinct-head, IsDistinct-tail}
+use Rattle.std.proofs.lemmas.Map.Text.{is_eq-slice_cmp}
 use Rattle.std.proofs.lemmas.Map.Entries.{option_filter, lookup-filter-values}
 use Rattle.std.specs.FinMap as fin
 use Rattle.std.specs.FinMap.{IsAntisymmetric, same_map, get-from_entries, get-from_sorted, entries-from_sorted, int_cmp-IsAntisymmetric, nat_cmp-IsAntisymmetric, slice_cmp-IsAntisymmetric}
@@ -127,13 +132,19 @@ module _ {K : Type 0} (R : K → K → Ordering) (exact : IsAntisymmetric R) whe
 
 -- ---- texts by their bytes
 
-text-lookup : {X Y : Type 0} (t : List ℕ) (es : List (String Y × X)) → lookup (is_at (slice_cmp nat_cmp t)) (map (λ e. (string_bytes e.0, e.1)) es) ≡ lookup (is_at (λ k. slice_cmp nat_cmp t (string_bytes k))) es
+text-lookup : {X Y : Type 0} (t : List ℕ) (es : List (String Y × X)) → lookup (is_at (slice_cmp nat_cmp t)) (map (λ e. (string_bytes e.0, e.1)) es) ≡ lookup (λ k. bytes_eq t (string_bytes k)) es
 text-lookup t [] = refl
-text-lookup {X} t (e ∷ es) = by (is_eq (slice_cmp nat_cmp t (string_bytes e.0))) _ _ (text-lookup t es)
-  where
-    by : (b : Bool) (x y : Option X) → x ≡ y → cond b (Some e.1) x ≡ cond b (Some e.1) y
-    by true x y ih = refl
-    by false x y ih = ih
+text-lookup {X} t (e ∷ es) = ap₂ (λ b (o : Option X). cond b (Some e.1) o) (is_eq-slice_cmp t (string_bytes e.0)) (text-lookup t es)
+
+text-apart : {X Y : Type 0} (k : String Y) (es : List (String Y × X)) → AllByRecursion (λ y. string_eq k y ≡ false) (keys_of es)
+    → AllByRecursion (λ y. eq_by_cmp (slice_cmp nat_cmp) (string_bytes k) y ≡ false) (keys_of (map {B = List ℕ × X} (λ e. (string_bytes e.0, e.1)) es))
+text-apart k [] h = tt
+text-apart k (e ∷ es) h = (is_eq-slice_cmp (string_bytes k) (string_bytes e.0) ∙ h.0, text-apart k es h.1)
+
+text-distinct : {X Y : Type 0} (es : List (String Y × X)) → IsDistinct string_eq (keys_of es) → IsDistinct (eq_by_cmp (slice_cmp nat_cmp)) (keys_of (map {B = List ℕ × X} (λ e. (string_bytes e.0, e.1)) es))
+unfolding IsDistinct
+text-distinct [] h = tt
+text-distinct (e ∷ es) h = (text-apart e.0 es h.0, text-distinct es h.1)
 
 text-below : {X Y : Type 0} (k : String Y) (es : List (String Y × X)) → AllByRecursion (λ y. string_cmp k y ≡ Less) (keys_of es)
     → AllByRecursion (λ y. slice_cmp nat_cmp (string_bytes k) y ≡ Less) (keys_of (map {B = List ℕ × X} (λ e. (string_bytes e.0, e.1)) es))
@@ -169,8 +180,8 @@ module _ {K : Type 0} (R : K → K → Ordering) where
       by true ih = (below-counted e.0 es h.0, ih)
       by false ih = ih
 
-  counted-lookup : IsTotalOrder R → (q : K) (es : List (K × Told)) → IsStrictlySortedBy R (keys_of es) → lookup (is_at (R q)) (counted_of es) ≡ counted (lookup (is_at (R q)) es)
-  counted-lookup o q es sorted = lookup-filter-values (eq_by_cmp_equiv o) is_counted q es (IsDistinct-from_sorted R (keys_of es) sorted) ∙ filtered (lookup (is_at (R q)) es)
+  counted-lookup : IsTotalOrder R → (q : K) (es : List (K × Told)) → IsDistinct (eq_by_cmp R) (keys_of es) → lookup (is_at (R q)) (counted_of es) ≡ counted (lookup (is_at (R q)) es)
+  counted-lookup o q es apart = lookup-filter-values (eq_by_cmp_equiv o) is_counted q es apart ∙ filtered (lookup (is_at (R q)) es)
     where
       filtered : (x : Option Told) → option_filter is_counted x ≡ counted x
       filtered None = refl
@@ -185,19 +196,42 @@ counted-texts (e ∷ es) = by (is_counted e.1) (counted-texts es)
     by true ih = ap (λ l. (string_bytes e.0, e.1) ∷ l) ih
     by false ih = ih
 
-number-shown : (numbers : BTreeMap ℤ Told) → tree.IsOrdered int_cmp numbers → (z : ℤ) → lookup (is_at (int_cmp z)) (counted_of numbers.entries) ≡ counted (tree.get int_cmp numbers z)
-number-shown numbers ordered z = counted-lookup int_cmp int_cmp_total z numbers.entries ordered
+number-shown : {S : Type 0} (numbers : IndexMap ℤ Told S) → table.IsUnique int_eq numbers → (z : ℤ) → lookup (is_at (int_cmp z)) (counted_of numbers.entries) ≡ counted (table.get int_eq numbers z)
+number-shown numbers unique z = counted-lookup int_cmp int_cmp_total z numbers.entries unique
 
-text-shown : {Y : Type 0} (texts : BTreeMap (String Y) Told) → tree.IsOrdered string_cmp texts → (t : List ℕ) → lookup (is_at (slice_cmp nat_cmp t)) (map (λ e. (string_bytes e.0, e.1)) (counted_of texts.entries)) ≡ counted (get_by_text texts t)
-text-shown texts ordered t =
+text-shown : {Y S : Type 0} (texts : IndexMap (String Y) Told S) → table.IsUnique string_eq texts → (t : List ℕ) → lookup (is_at (slice_cmp nat_cmp t)) (map (λ e. (string_bytes e.0, e.1)) (counted_of texts.entries)) ≡ counted (get_by_text texts t)
+text-shown texts unique t =
     ap (lookup (is_at (slice_cmp nat_cmp t))) (counted-texts texts.entries)
-    ∙ counted-lookup (slice_cmp nat_cmp) nat_list_cmp_total t (map (λ e. (string_bytes e.0, e.1)) texts.entries) (text-sorted texts.entries ordered)
+    ∙ counted-lookup (slice_cmp nat_cmp) nat_list_cmp_total t (map (λ e. (string_bytes e.0, e.1)) texts.entries) (text-distinct texts.entries unique)
     ∙ ap counted (text-lookup t texts.entries)
+
+-- ---- keys in order
+
+module _ {K : Type 0} (E : K → K → Bool) (flips : (x y : K) → E x y ≡ E y x) where
+  dedup-distinct-from : (k : K) (ks : List K) → IsDistinct E (k ∷ ks) → dedup_from E k ks ≡ k ∷ ks
+  dedup-distinct-from k [] h = refl
+  dedup-distinct-from k (x ∷ xs) h =
+      ap (λ t. cond t (dedup_from E k xs) (k ∷ dedup_from E x xs)) (flips x k ∙ (IsDistinct-head E k (x ∷ xs) h).0)
+      ∙ ap (λ l. k ∷ l) (dedup-distinct-from x xs (IsDistinct-tail E k (x ∷ xs) h))
+
+  dedup-distinct : (ks : List K) → IsDistinct E ks → dedup E ks ≡ ks
+  dedup-distinct [] h = refl
+  dedup-distinct (k ∷ ks) h = dedup-distinct-from k ks h
+
+-- keys that don't fall and differ rise
+rises : {K : Type 0} (R : K → K → Ordering) → IsTotalOrder R → (E : K → K → Bool) → ((x y : K) → E x y ≡ eq_by_cmp R x y) → (ks : List K) → IsSorted R ks → IsDistinct E ks → IsStrictlySortedBy R ks
+rises R o E ties ks sorted apart = subst (IsStrictlySortedBy R) (dedup-distinct E (λ x y. ties x y ∙ (eq_by_cmp_equiv o).symm x y ∙ sym (ties y x)) ks apart) (IsStrictlySortedBy-dedup o ties ks sorted)
+
+numbers-rise : {S : Type 0} (numbers : IndexMap ℤ Told S) → IsSorted int_cmp (table.keys numbers) → table.IsUnique int_eq numbers → IsStrictlySortedBy int_cmp (keys_of numbers.entries)
+numbers-rise numbers sorted unique = rises int_cmp int_cmp_total int_eq (λ x y. refl) (keys_of numbers.entries) sorted unique
+
+texts-rise : {Y S : Type 0} (texts : IndexMap (String Y) Told S) → IsSorted string_cmp (table.keys texts) → table.IsUnique string_eq texts → IsStrictlySortedBy string_cmp (keys_of texts.entries)
+texts-rise texts sorted unique = rises string_cmp string_cmp_total string_eq (λ x y. sym (is_eq-slice_cmp (string_bytes x) (string_bytes y))) (keys_of texts.entries) sorted unique
 
 -- ---- what is kept
 
 -- no documents
-pub gathered-none : {Y : Type 0} (by : Option GroupBy) (views : ℕ) (numbers : BTreeMap ℤ Told) (texts : BTreeMap (String Y) Told) → numbers.entries ≡ [] → texts.entries ≡ [] → IsGathered [] (gathered_as by views numbers texts)
+pub gathered-none : {Y S : Type 0} (by : Option GroupBy) (views : ℕ) (numbers : IndexMap ℤ Told S) (texts : IndexMap (String Y) Told S) → numbers.entries ≡ [] → texts.entries ≡ [] → IsGathered [] (gathered_as by views numbers texts)
 gathered-none None views numbers texts n t = tt
 gathered-none (Some by) views numbers texts n t = record {
   numbers = λ z. ap (λ es. lookup (is_at (int_cmp z)) (counted_of es)) n;
@@ -205,12 +239,12 @@ gathered-none (Some by) views numbers texts n t = record {
 }
 
 -- more places
-pub gathered-same : {Y : Type 0} (by : Option GroupBy) (views : ℕ) (numbers next_numbers : BTreeMap ℤ Told) (texts next_texts : BTreeMap (String Y) Told) → counted_of next_numbers.entries ≡ counted_of numbers.entries → counted_of next_texts.entries ≡ counted_of texts.entries
+pub gathered-same : {Y S : Type 0} (by : Option GroupBy) (views : ℕ) (numbers next_numbers : IndexMap ℤ Told S) (texts next_texts : IndexMap (String Y) Told S) → counted_of next_numbers.entries ≡ counted_of numbers.entries → counted_of next_texts.entries ≡ counted_of texts.entries
     → gathered_as by views next_numbers next_texts ≡ gathered_as by views numbers texts
 gathered-same by views numbers next_numbers texts next_texts n t = ap₂ {C = Gathered} (λ a b. record { by = by; views = views; numbers = a; texts = map (λ e. (string_bytes e.0, e.1)) b }) n t
 
 -- the groups
-groups-told : {Y : Type 0} (numbers : BTreeMap ℤ Told) (texts : BTreeMap (String Y) Told) (by : GroupBy) (docs : List Contents) (views : ℕ) → tree.IsOrdered int_cmp numbers → tree.IsOrdered string_cmp texts → HasTallies by docs (gathered_as (Some by) views numbers texts)
+groups-told : {Y S : Type 0} (numbers : IndexMap ℤ Told S) (texts : IndexMap (String Y) Told S) (by : GroupBy) (docs : List Contents) (views : ℕ) → IsStrictlySortedBy int_cmp (keys_of numbers.entries) → IsStrictlySortedBy string_cmp (keys_of texts.entries) → HasTallies by docs (gathered_as (Some by) views numbers texts)
     → map (λ e. told_group by.outputs (Int e.0) e.1) (counted_of numbers.entries) ++ map (λ e. told_group by.outputs (Text (string_bytes e.0)) e.1) (counted_of texts.entries) ≡ groups_of (Some by) docs
 groups-told numbers texts by docs views n t h = ap₂ (λ a b. a ++ b)
     (groups-are int_cmp int_cmp-IsAntisymmetric int_cmp_total Int by.outputs (number_in by.field) docs (counted_of numbers.entries) (sorted-counted int_cmp numbers.entries n) h.numbers)
@@ -218,11 +252,11 @@ groups-told numbers texts by docs views n t h = ap₂ (λ a b. a ++ b)
     ∙ groups-are (slice_cmp nat_cmp) (slice_cmp-IsAntisymmetric nat_cmp-IsAntisymmetric) nat_list_cmp_total Text by.outputs (text_in by.field) docs (map (λ e. (string_bytes e.0, e.1)) (counted_of texts.entries)) (text-sorted (counted_of texts.entries) (sorted-counted string_cmp texts.entries t)) h.texts)
 
 -- what is kept, with places and then documents more
-pub gathered-more : {Y : Type 0} (o : Option GroupBy) (by : GroupBy) (views more : ℕ) (numbers placed_numbers next_numbers : BTreeMap ℤ Told) (texts placed_texts next_texts : BTreeMap (String Y) Told) (g : Gathered) (ds : List Contents) (n : ℕ) → o ≡ Some by
+pub gathered-more : {Y S : Type 0} (o : Option GroupBy) (by : GroupBy) (views more : ℕ) (numbers placed_numbers next_numbers : IndexMap ℤ Told S) (texts placed_texts next_texts : IndexMap (String Y) Told S) (g : Gathered) (ds : List Contents) (n : ℕ) → o ≡ Some by
     → gathered_as o views numbers texts ≡ g
-    → tree.IsOrdered int_cmp placed_numbers → tree.IsOrdered string_cmp placed_texts → tree.IsOrdered int_cmp next_numbers → tree.IsOrdered string_cmp next_texts
+    → table.IsUnique int_eq placed_numbers → table.IsUnique string_eq placed_texts → table.IsUnique int_eq next_numbers → table.IsUnique string_eq next_texts
     → counted_of placed_numbers.entries ≡ counted_of numbers.entries → counted_of placed_texts.entries ≡ counted_of texts.entries
-    → AreTaken int_cmp by.outputs (number_in by.field) ds n (tree.get int_cmp placed_numbers) (tree.get int_cmp next_numbers)
+    → AreTaken int_cmp by.outputs (number_in by.field) ds n (table.get int_eq placed_numbers) (table.get int_eq next_numbers)
     → AreTaken (slice_cmp nat_cmp) by.outputs (text_in by.field) ds n (get_by_text placed_texts) (get_by_text next_texts)
     → (docs : List Contents) → IsGathered docs g → IsGathered (docs ++ ds) (gathered_as o more next_numbers next_texts)
 gathered-more o by views more numbers placed_numbers next_numbers texts placed_texts next_texts g ds n is same pn pt nn nt sn st an at = λ docs h.
@@ -234,26 +268,49 @@ gathered-more o by views more numbers placed_numbers next_numbers texts placed_t
     } in
     subst (λ p. IsGathered (docs ++ ds) (gathered_as p more next_numbers next_texts)) (sym is) all
 
--- the groups of what is kept
-pub groups-gathered : {Y : Type 0} (o : Option GroupBy) (by : GroupBy) (views : ℕ) (numbers : BTreeMap ℤ Told) (texts : BTreeMap (String Y) Told) (g : Gathered) (docs : List Contents) → o ≡ Some by
-    → gathered_as o views numbers texts ≡ g → tree.IsOrdered int_cmp numbers → tree.IsOrdered string_cmp texts → IsGathered docs g
-    → map (λ e. told_group by.outputs (Int e.0) e.1) (counted_of numbers.entries) ++ map (λ e. told_group by.outputs (Text (string_bytes e.0)) e.1) (counted_of texts.entries) ≡ groups_of g.by docs
-groups-gathered o by views numbers texts g docs is same n t h =
-    groups-told numbers texts by docs views n t (subst (λ p. IsGathered docs (gathered_as p views numbers texts)) is (subst (IsGathered docs) (sym same) h))
-    ∙ ap (λ p. groups_of p docs) (sym is ∙ ap (λ g. g.by) same)
+-- what is kept, in another order
+gathered-sorted : {Y S : Type 0} (by : GroupBy) (views : ℕ) (numbers sorted_numbers : IndexMap ℤ Told S) (texts sorted_texts : IndexMap (String Y) Told S) (docs : List Contents)
+    → table.IsUnique int_eq numbers → table.IsUnique string_eq texts → table.IsUnique int_eq sorted_numbers → table.IsUnique string_eq sorted_texts
+    → ((z : ℤ) → table.get int_eq sorted_numbers z ≡ table.get int_eq numbers z) → ((t : List ℕ) → get_by_text sorted_texts t ≡ get_by_text texts t)
+    → HasTallies by docs (gathered_as (Some by) views numbers texts) → HasTallies by docs (gathered_as (Some by) views sorted_numbers sorted_texts)
+gathered-sorted by views numbers sorted_numbers texts sorted_texts docs n t sn st same same_texts h = record {
+  numbers = λ z. number-shown sorted_numbers sn z ∙ ap counted (same z) ∙ sym (number-shown numbers n z) ∙ h.numbers z;
+  texts = λ q. text-shown sorted_texts st q ∙ ap counted (same_texts q) ∙ sym (text-shown texts t q) ∙ h.texts q;
+}
 
-pub groups-none : {Y : Type 0} (o : Option GroupBy) (views : ℕ) (numbers : BTreeMap ℤ Told) (texts : BTreeMap (String Y) Told) (g : Gathered) (docs : List Contents) → o ≡ None
+pub groups-none : {Y S : Type 0} (o : Option GroupBy) (views : ℕ) (numbers : IndexMap ℤ Told S) (texts : IndexMap (String Y) Told S) (g : Gathered) (docs : List Contents) → o ≡ None
     → gathered_as o views numbers texts ≡ g → [] ≡ groups_of g.by docs
 groups-none o views numbers texts g docs is same = ap (λ p. groups_of p docs) (sym is ∙ ap (λ g. g.by) same)
 
+-- sorted tallies, of which all is kept that is kept of others
+pub record AreSorted {Y S : Type 0} (numbers sorted_numbers : IndexMap ℤ Told S) (texts sorted_texts : IndexMap (String Y) Told S) : Type 0 where
+  pub apart : table.IsUnique int_eq numbers
+  pub texts_apart : table.IsUnique string_eq texts
+  pub still_apart : table.IsUnique int_eq sorted_numbers
+  pub texts_still_apart : table.IsUnique string_eq sorted_texts
+  pub sorted : IsSorted int_cmp (table.keys sorted_numbers)
+  pub texts_sorted : IsSorted string_cmp (table.keys sorted_texts)
+  pub same : (z : ℤ) → table.get int_eq sorted_numbers z ≡ table.get int_eq numbers z
+  pub texts_same : (t : List ℕ) → get_by_text sorted_texts t ≡ get_by_text texts t
+
+-- the groups of what is kept
+pub groups-gathered : {Y S : Type 0} (o : Option GroupBy) (by : GroupBy) (views : ℕ) (numbers sorted_numbers : IndexMap ℤ Told S) (texts sorted_texts : IndexMap (String Y) Told S) (g : Gathered) (docs : List Contents) → o ≡ Some by
+    → gathered_as o views numbers texts ≡ g → AreSorted numbers sorted_numbers texts sorted_texts → IsGathered docs g
+    → map (λ e. told_group by.outputs (Int e.0) e.1) (counted_of sorted_numbers.entries) ++ map (λ e. told_group by.outputs (Text (string_bytes e.0)) e.1) (counted_of sorted_texts.entries) ≡ groups_of g.by docs
+groups-gathered o by views numbers sorted_numbers texts sorted_texts g docs is same are h =
+    groups-told sorted_numbers sorted_texts by docs views (numbers-rise sorted_numbers are.sorted are.still_apart) (texts-rise sorted_texts are.texts_sorted are.texts_still_apart)
+    (gathered-sorted by views numbers sorted_numbers texts sorted_texts docs are.apart are.texts_apart are.still_apart are.texts_still_apart are.same are.texts_same
+    (subst (λ p. IsGathered docs (gathered_as p views numbers texts)) is (subst (IsGathered docs) (sym same) h)))
+    ∙ ap (λ p. groups_of p docs) (sym is ∙ ap (λ g. g.by) same)
+
 -- the groups of numbers and then of texts, put one behind the other
-pub groups-pushed : {Y : Type 0} (o : Option GroupBy) (by : GroupBy) (views : ℕ) (numbers : BTreeMap ℤ Told) (texts : BTreeMap (String Y) Told) (g : Gathered) (first second : List OutputKind) (empty one two : List Group) (docs : List Contents)
-    → empty ≡ [] → first ≡ by.outputs → second ≡ by.outputs → one ≡ empty ++ map (λ e. told_group first (Int e.0) e.1) (counted_of numbers.entries) → two ≡ one ++ map (λ e. told_group second (Text (string_bytes e.0)) e.1) (counted_of texts.entries)
-    → o ≡ Some by → gathered_as o views numbers texts ≡ g → tree.IsOrdered int_cmp numbers → tree.IsOrdered string_cmp texts → IsGathered docs g → two ≡ groups_of g.by docs
-groups-pushed o by views numbers texts g first second empty one two docs none k l n t is same ordered texts_ordered h =
-    t ∙ ap₂ (λ a ks. a ++ map (λ e. told_group ks (Text (string_bytes e.0)) e.1) (counted_of texts.entries))
-    (n ∙ ap₂ (λ a ks. a ++ map (λ e. told_group ks (Int e.0) e.1) (counted_of numbers.entries)) none k) l
-    ∙ groups-gathered o by views numbers texts g docs is same ordered texts_ordered h
+pub groups-pushed : {Y S : Type 0} (o : Option GroupBy) (by : GroupBy) (views : ℕ) (numbers sorted_numbers : IndexMap ℤ Told S) (texts sorted_texts : IndexMap (String Y) Told S) (g : Gathered) (first second : List OutputKind) (empty one two : List Group) (docs : List Contents)
+    → empty ≡ [] → first ≡ by.outputs → second ≡ by.outputs → one ≡ empty ++ map (λ e. told_group first (Int e.0) e.1) (counted_of sorted_numbers.entries) → two ≡ one ++ map (λ e. told_group second (Text (string_bytes e.0)) e.1) (counted_of sorted_texts.entries)
+    → o ≡ Some by → gathered_as o views numbers texts ≡ g → AreSorted numbers sorted_numbers texts sorted_texts → IsGathered docs g → two ≡ groups_of g.by docs
+groups-pushed o by views numbers sorted_numbers texts sorted_texts g first second empty one two docs none k l n t is same are h =
+    t ∙ ap₂ (λ a ks. a ++ map (λ e. told_group ks (Text (string_bytes e.0)) e.1) (counted_of sorted_texts.entries))
+    (n ∙ ap₂ (λ a ks. a ++ map (λ e. told_group ks (Int e.0) e.1) (counted_of sorted_numbers.entries)) none k) l
+    ∙ groups-gathered o by views numbers sorted_numbers texts sorted_texts g docs is same are h
 
 -- ---- the group of a key
 

@@ -2,11 +2,8 @@
 use Rattle.std.proofs.Common.{◌≡◌, ℕ, zero, suc, ◌<◌, ◌++◌, Bool, true, false, cond, List, [], ◌∷◌, length, get_or, Option, None, Some, refl, sym, ap, subst, ◌∙◌, arith}
 use Rattle.std.specs.Prelude.{nat_lt, is_some, IsSome}
 use Rattle.std.specs.Option.{IfSome}
-use Rattle.std.specs.Ordering.{is_eq, match_ordering}
-use Rattle.std.specs.declared.cmp.Ordering.{Ordering}
-use Rattle.std.specs.declared.cmp.Ordering.TheVariants.{Less, Equal, Greater}
 use Rattle.std.specs.Map.{lookup}
-use Rattle.std.specs.BTreeMap.{is_at, insert_entry}
+use Rattle.indexmap.specs.IndexMap.{insert_entry}
 use Rattle.doc_types.specs.declared.outputs.OutputKind.{OutputKind}
 use Rattle.documents.specs.Fields.{Contents}
 use Rattle.proof_basics.proofs.Options.{some_same, none_some}
@@ -22,15 +19,14 @@ no_place (Some t) e = cc
 uncounted : (t : Told) → t.count ≡ 0 → is_counted t ≡ false
 uncounted t z = ap (nat_lt 0) z
 
-insert-counted : {K : Type 0} (R : K → K → Ordering) (es : List (K × Told)) (k : K) (t : Told) → t.count ≡ 0 → lookup (is_at (R k)) es ≡ None → counted_of (insert_entry R es k t) ≡ counted_of es
-insert-counted {K} R [] k t z none = ap (λ b. cond {A = List (K × Told)} b ((k, t) ∷ []) []) (uncounted t z)
-insert-counted R (e ∷ es) k t z none = by (R k e.0) none (insert-counted R es k t z)
+insert-counted : {K : Type 0} (E : K → K → Bool) (es : List (K × Told)) (k : K) (t : Told) → t.count ≡ 0 → lookup (E k) es ≡ None → counted_of (insert_entry E es k t) ≡ counted_of es
+insert-counted {K} E [] k t z none = ap (λ b. cond {A = List (K × Told)} b ((k, t) ∷ []) []) (uncounted t z)
+insert-counted E (e ∷ es) k t z none = by (E k e.0) none (insert-counted E es k t z)
   where
-    by : (r : Ordering) → cond (is_eq r) (Some e.1) (lookup (is_at (R k)) es) ≡ None → (lookup (is_at (R k)) es ≡ None → counted_of (insert_entry R es k t) ≡ counted_of es)
-        → counted_of (match_ordering r ((k, t) ∷ e ∷ es) ((e.0, t) ∷ es) (e ∷ insert_entry R es k t)) ≡ counted_of (e ∷ es)
-    by Less n ih = ap (λ b. cond b ((k, t) ∷ counted_of (e ∷ es)) (counted_of (e ∷ es))) (uncounted t z)
-    by Equal n ih = absurd (none_some e.1 (sym n))
-    by Greater n ih = ap (λ l. cond (is_counted e.1) (e ∷ l) l) (ih n)
+    by : (b : Bool) → cond b (Some e.1) (lookup (E k) es) ≡ None → (lookup (E k) es ≡ None → counted_of (insert_entry E es k t) ≡ counted_of es)
+        → counted_of (cond b ((e.0, t) ∷ es) (e ∷ insert_entry E es k t)) ≡ counted_of (e ∷ es)
+    by true n ih = absurd (none_some e.1 (sym n))
+    by false n ih = ap (λ l. cond (is_counted e.1) (e ∷ l) l) (ih n)
 
 module _ {K Q : Type 0} (ks : List OutputKind) where
   pub places-same : (es fs : List (K × Told)) (old new : Q → Option Told) → fs ≡ es → ((q : Q) → new q ≡ old q) → ArePlacesMore ks es fs old new
@@ -47,10 +43,10 @@ module _ {K Q : Type 0} (ks : List OutputKind) where
     stay = λ q h. b.stay q (a.stay q h);
   }
 
-  pub places-put : (R : K → K → Ordering) (es fs : List (K × Told)) (k : K) (t : Told) (test : Q → Bool) (old new : Q → Option Told) → lookup (is_at (R k)) es ≡ None → t ≡ told_of ks [] → fs ≡ insert_entry R es k t
+  pub places-put : (E : K → K → Bool) (es fs : List (K × Told)) (k : K) (t : Told) (test : Q → Bool) (old new : Q → Option Told) → lookup (E k) es ≡ None → t ≡ told_of ks [] → fs ≡ insert_entry E es k t
       → ((q : Q) → new q ≡ cond (test q) (Some t) (old q)) → ArePlacesMore ks es fs old new
-  places-put R es fs k t test old new none first put changed = record {
-    counted = ap counted_of put ∙ insert-counted R es k t zero_count none;
+  places-put E es fs k t test old new none first put changed = record {
+    counted = ap counted_of put ∙ insert-counted E es k t zero_count none;
     kept = λ n h q. subst (λ o. IfSome o (IsKept ks n)) (sym (changed q)) (small n h q (test q));
     stay = λ q h. subst (λ o. IsSome o) (sym (changed q)) (there q (test q) h);
   }

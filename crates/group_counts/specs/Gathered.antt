@@ -3,7 +3,8 @@ use Rattle.std.specs.Prelude.{ℕ, ℤ, List, [], map, Option, None, Some, Strin
 use Rattle.std.specs.Ordering.{int_cmp, nat_cmp}
 use Rattle.std.specs.Cmp.Lexicographic.{slice_cmp}
 use Rattle.std.specs.Map.{lookup}
-use Rattle.std.specs.BTreeMap.{BTreeMap, is_at}
+use Rattle.std.specs.BTreeMap.{is_at}
+use Rattle.indexmap.specs.IndexMap.{IndexMap}
 use Rattle.std.specs.String.{string_bytes}
 use Rattle.doc_types.specs.declared.outputs.OutputKind.{OutputKind}
 use Rattle.documents.specs.Fields.{Contents}
@@ -23,7 +24,7 @@ pub record Gathered : Type 0 where
   pub numbers : List (ℤ × Told)
   pub texts : List (List ℕ × Told)
 
-abbrev pub gathered_as : {Y : Type 0} → Option GroupBy → ℕ → BTreeMap ℤ Told → BTreeMap (String Y) Told → Gathered
+abbrev pub gathered_as : {Y S : Type 0} → Option GroupBy → ℕ → IndexMap ℤ Told S → IndexMap (String Y) Told S → Gathered
 gathered_as by views numbers texts = record { by = by; views = views; numbers = counted_of numbers.entries; texts = map (λ e. (string_bytes e.0, e.1)) (counted_of texts.entries) }
 
 -- what is said of a group; nothing where there are none

@@ -2,32 +2,32 @@
 //!
 //! A value gets its place first, a tally of no document; that alone takes memory. Then a document is counted in it.
 
-ghost use Rattle.std.specs.Prelude.{◌≡◌, ℕ, ℤ, List, length, Some, IsSome, if◌then◌else◌, bytes_eq, OnOk};
+ghost use Rattle.std.specs.Prelude.{◌≡◌, ℕ, ℤ, List, length, Some, IsSome, if◌then◌else◌, bytes_eq, OnOk, IsSorted};
 ghost use Rattle.documents.specs.Fields.{Contents};
 ghost use Rattle.std.specs.Ordering.{int_cmp, int_eq};
-ghost use Rattle.std.specs.BTreeMap as tree;
-ghost use Rattle.std.specs.BTreeMap.{get_by_text};
-ghost use Rattle.std.specs.String.{string_cmp};
+ghost use Rattle.indexmap.specs.IndexMap as table;
+ghost use Rattle.indexmap.specs.IndexMap.{get_by_text};
+ghost use Rattle.std.specs.String.{string_cmp, string_eq};
 ghost use Rattle.group_counts.specs.Tallies.{tally_with, AreKept, ArePlacesMore};
 ghost use Rattle.group_counts.specs.Figures.{AreFigures};
 
 use crate::slots::Slot;
 use crate::tally::Tally;
 use doc_types::OutputKind;
+use indexmap::IndexMap;
 use std::alloc::Global;
-use std::collections::BTreeMap;
 use value_lists::NoMemory;
 
 /// A place for a number, if it has none.
 pub fn place_number(
     alloc: Global,
-    tallies: &mut BTreeMap<i64, Tally>,
+    tallies: &mut IndexMap<i64, Tally>,
     number: i64,
     kinds: &[OutputKind],
 ) -> Result<(), NoMemory>
     ensures places { ArePlacesMore kinds.now tallies.old.entries tallies.new.entries
-        (tree.get int_cmp tallies.old) (tree.get int_cmp tallies.new) }
-    ensures placed { OnOk result (IsSome (tree.get int_cmp tallies.new number)) }
+        (table.get int_eq tallies.old) (table.get int_eq tallies.new) }
+    ensures placed { OnOk result (IsSome (table.get int_eq tallies.new number)) }
 {
     if !tallies.contains_key(&number) {
         let tally = Tally::new(alloc, kinds)?;
@@ -39,7 +39,7 @@ pub fn place_number(
 /// A place for a text, if it has none.
 pub fn place_text(
     alloc: Global,
-    tallies: &mut BTreeMap<String, Tally>,
+    tallies: &mut IndexMap<String, Tally>,
     text: &str,
     kinds: &[OutputKind],
 ) -> Result<(), NoMemory>
@@ -57,17 +57,17 @@ pub fn place_text(
 
 /// A document with a number more.
 pub fn take_number(
-    tallies: &mut BTreeMap<i64, Tally>,
+    tallies: &mut IndexMap<i64, Tally>,
     number: i64,
     kinds: &[OutputKind],
     slots: &[Slot<'_>],
 )
-    requires few { AreKept kinds.now 9223372036854775807 (tree.get int_cmp tallies.old) }
-    requires placed { IsSome (tree.get int_cmp tallies.old number) }
+    requires few { AreKept kinds.now 9223372036854775807 (table.get int_eq tallies.old) }
+    requires placed { IsSome (table.get int_eq tallies.old number) }
     requires same { length slots.now ≡ length kinds.now }
-    ensures { (d : Contents) → AreFigures kinds.now d slots.now → (z : ℤ) → tree.get int_cmp tallies.new z
-        ≡ (if int_eq number z then Some (tally_with kinds.now d (tree.get int_cmp tallies.old number))
-        else tree.get int_cmp tallies.old z) }
+    ensures { (d : Contents) → AreFigures kinds.now d slots.now → (z : ℤ) → table.get int_eq tallies.new z
+        ≡ (if int_eq number z then Some (tally_with kinds.now d (table.get int_eq tallies.old number))
+        else table.get int_eq tallies.old z) }
 {
     if let Some(tally) = tallies.get_mut(&number) {
         tally.take(kinds, slots);
@@ -76,7 +76,7 @@ pub fn take_number(
 
 /// A document with a text more.
 pub fn take_text(
-    tallies: &mut BTreeMap<String, Tally>,
+    tallies: &mut IndexMap<String, Tally>,
     text: &str,
     kinds: &[OutputKind],
     slots: &[Slot<'_>],
@@ -93,11 +93,30 @@ pub fn take_text(
     }
 }
 
-/// The numbers and the texts rise; this does nothing.
-pub fn keys_rise(numbers: &BTreeMap<i64, Tally>, texts: &BTreeMap<String, Tally>)
-    ensures numbers { tree.IsOrdered int_cmp numbers.now }
-    ensures texts { tree.IsOrdered string_cmp texts.now }
+/// No two numbers are the same, and no two texts; this does nothing.
+pub fn keys_differ(numbers: &IndexMap<i64, Tally>, texts: &IndexMap<String, Tally>)
+    ensures numbers { table.IsUnique int_eq numbers.now }
+    ensures texts { table.IsUnique string_eq texts.now }
 {
     // `len` says it of every map.
     let _ = (numbers.len(), texts.len());
+}
+
+/// The numbers in rising order.
+pub fn sort_numbers(tallies: &mut IndexMap<i64, Tally>) -> Result<(), NoMemory>
+    ensures sorted { OnOk result (IsSorted int_cmp (table.keys tallies.new)) }
+    ensures same { (z : ℤ) → table.get int_eq tallies.new z ≡ table.get int_eq tallies.old z }
+    ensures unique { OnOk result (table.IsUnique int_eq tallies.new) }
+{
+    Ok(tallies.sort_keys()?)
+}
+
+/// The texts in rising order of their bytes.
+pub fn sort_texts(tallies: &mut IndexMap<String, Tally>) -> Result<(), NoMemory>
+    ensures sorted { OnOk result (IsSorted string_cmp (table.keys tallies.new)) }
+    ensures same { (t : List ℕ) → get_by_text tallies.new t ≡ get_by_text tallies.old t }
+    ensures unique { OnOk result (table.IsUnique string_eq tallies.new) }
+{
+    tallies.sort_keys()?;
+    Ok(())
 }

@@ -1,5 +1,5 @@
 -- The operation under way after a call, and the work of its lane.
-use Rattle.std.proofs.Common.{◌≡◌, ◌≤◌, ◌+◌, ◌-◌, ℕ, Bool, List, Option, Some, refl, sym, ap, ◌∙◌, subst, arith, vec_len, length, slice_get, slice_set, IsSome, inl, inr}
+use Rattle.std.proofs.Common.{◌≡◌, ◌≤◌, ◌+◌, ◌-◌, ℕ, Bool, List, Option, None, Some, refl, sym, ap, ◌∙◌, subst, arith, vec_len, length, slice_get, slice_set, IsSome, inl, inr}
 use Rattle.bucket_ids.specs.Buckets.{Low, IsIn}
 use Rattle.global_ids.specs.Keys as keys
 use Rattle.lane_journals.specs.Buckets.{key_of}
@@ -7,25 +7,30 @@ use Rattle.node_sets.specs.Members.{has_node}
 use Rattle.stamps.specs.declared.stamp.Stamp.{Stamp}
 use Rattle.cluster_states.specs.declared.cluster_state.ClusterState.{ClusterState}
 use Rattle.carriers.specs.declared.fate.Fate.{Fate}
+use Rattle.documents.specs.declared.entry.Entry.{Entry}
+use Rattle.messages.specs.declared.body.Body.{Body}
+use Rattle.messages.specs.declared.body.Body.TheVariants as body
+use Rattle.messages.specs.declared.message.Message.{Message}
 use Rattle.messages.specs.declared.operation.Operation.{Operation}
 use Rattle.messages.specs.declared.outcome.Outcome.{Outcome}
 use Rattle.messages.specs.declared.outcome.Outcome.TheVariants as outcome
 use Rattle.op_machine.specs.declared.plan.Plan.{Plan}
 use Rattle.op_machine.specs.declared.machine.Standing.{Standing}
-use Rattle.op_machine.specs.Outcomes.{Next, Finishes}
+use Rattle.op_machine.specs.Outcomes.{Next, Asks, Finishes}
 use Rattle.op_machine.specs.Standings.{next_at}
 use Rattle.distributor_part.specs.declared.rules.Rules.{Rules}
 use Rattle.lane_journals.specs.Readers.{Journal, Preparing, prepared, answered_store}
 use Rattle.lane_journals.specs.Meanings.{history}
 use Rattle.lane_journals.specs.KeptJournals.{IsLegal, IsLegalStep}
 use Rattle.lane_journals.specs.declared.event.LaneEvent.{LaneEvent}
-use Rattle.lane_journals.specs.declared.event.LaneEvent.TheVariants.{Closed}
+use Rattle.lane_journals.specs.declared.event.LaneEvent.TheVariants.{Closed, Wrote}
 use Rattle.lane_keeping.specs.LaneKeeping.{setting_of}
+use Rattle.lane_keeping.specs.Replaying.{sending}
 use Rattle.lane_keeping.specs.Acting.{IsActing}
 use Rattle.operation_keeping.specs.OperationKeeping.{IsUnderWay, KnowsOperation}
 use Rattle.operation_keeping.specs.Laws.{OfOperation, IsAckedAs}
 use Rattle.operation_keeping.specs.Left.{messages_left}
-use Rattle.operation_keeping.specs.Wants.{Ends, IsRunSince, IsEndSince, NextGives}
+use Rattle.operation_keeping.specs.Wants.{Adds, Ends, WantsSince, IsRunSince, IsEndSince, BodyGives, NextGives}
 use Rattle.operation_keeping.proofs.Since.{run-begins, run-closes, run-prepared}
 use Rattle.operation_keeping.proofs.OthersRuns.{run-others}
 use Rattle.lane_core.proofs.Places.{get-map, set-length}
@@ -45,7 +50,7 @@ use Rattle.lane_core.specs.Advancing.{IsFree, WentOn, Advances, AdvancesAt}
 use Rattle.stamps.specs.Places.{place_of}
 use Rattle.lane_states.specs.Written.{FindsEntries}
 use Rattle.lane_core.specs.Works.{value_of, under_way_at, progress_of, IsItsRow, IsAnswered, MayMark, IsPrepared, PhaseKeeps, IsJob, PhaseLasts, AreJobs, IsWork}
-use Rattle.lane_lines.specs.Steps.{sender_of, StandsIn, GoesIn, RunsIn, IsUneventful}
+use Rattle.lane_lines.specs.Steps.{sender_of, StandsIn, GoesIn, RunsIn, GivesOne, GivesFew, IsUneventful}
 use Rattle.lane_core.specs.Phases.{WantsMore, WantsEnd, ComesTo, OfPrepared, IsAtMessages}
 
 -- ---- whose it is
@@ -96,6 +101,47 @@ may-mark H j s answered (outcome.BadUpdate x) f = tt
 may-mark H j s answered (outcome.TooFew a b x) f = tt
 may-mark H j s answered (outcome.OwnedElsewhere a b) f = tt
 may-mark H j s answered outcome.NoMemory f = tt
+
+-- ---- the event of its next message
+
+next-event : (line : ℕ) (written : Option Entry) (m : Message) (b : Body) → (e : LaneEvent) × BodyGives line written m b e
+next-event line (Some w) m b = (sending 0 m, (0, refl))
+next-event line None m (body.Store entry) = (Wrote line entry, refl)
+next-event line None m body.Ask = (sending 0 m, (0, refl))
+next-event line None m (body.Read b only) = (sending 0 m, (0, refl))
+next-event line None m (body.Apply b entries) = (sending 0 m, (0, refl))
+next-event line None m (body.Delete b serial) = (sending 0 m, (0, refl))
+next-event line None m (body.Split b) = (sending 0 m, (0, refl))
+next-event line None m (body.Join b) = (sending 0 m, (0, refl))
+next-event line None m (body.Ready b) = (sending 0 m, (0, refl))
+next-event line None m (body.Activate b) = (sending 0 m, (0, refl))
+
+module _ (c : LaneState) (j : Job) (row : Low) (t : Standing) (of : IsOf j t.plan) where
+  abbrev K : List LaneEvent
+  K = journal_of c
+
+  -- the line wants the event of its next message, wherever it looks back to
+  pub more-wanted : (from : Journal) (written : Bool) (x : Standing) → WantsMore c j.line row written t x → (e : LaneEvent) × WantsSince c.lane c.rules j.line j.operation from K (Adds e)
+  more-wanted from written x w =
+      let st = w.stands in
+      let by : IsOf j x.plan = of-same j t.plan x.plan w.same_plan of in
+      let next = next-event j.line st.entry w.message (w.message).body in (
+        next.0,
+        record {
+          distributor = j.distributor;
+          state = st.state;
+          stamp = j.stamp;
+          acting = acts c.lane c.rules K j x.plan by st.state st.acting;
+          under_way = goes c.lane c.rules K j x.plan by st.state (((st.stands).knows).plan).is_under_way;
+          wants = inr (record {
+            row = row;
+            written = st.entry;
+            standing = x;
+            stands = record { knows = subst (λ (d : ℕ). KnowsOperation c.lane c.rules K d st.state j.line row st.entry x) by.sender (st.stands).knows; operation_is = by.operation };
+            gives = subst (λ (n : Next). NextGives j.line st.entry n (Adds next.0)) (sym w.next) next.1;
+          });
+        },
+      )
 
 -- ---- the job after a call
 
@@ -294,7 +340,7 @@ module _ (x w : Work) (at : ℕ) (j : Job) (t : Standing) (row : Low) (written :
         (subst (λ (l : Low). AreJobs l y.rules (journal_of y) (slice_set x.jobs.items at now)) (sym (on).lane) (subst (λ (r : Rules). AreJobs x.state.lane r (journal_of y) (slice_set x.jobs.items at now)) (sym (on).rules) jobs)))
         (ap length items ∙ set-length x.jobs.items at now) finds
 
-  module _ (items : List Job) (put : items ≡ slice_set x.jobs.items at now) (given fates planned : List Fate) (takes : Bool) where
+  module _ (items : List Job) (put : items ≡ slice_set x.jobs.items at now) (given fates planned : List Fate) (takes : Bool) (one : a ≡ advance.More → GivesOne given fates) (few : GivesFew given fates) where
     abbrev before : LaneValue
     before = value_of x given planned takes
 
@@ -309,10 +355,10 @@ module _ (x w : Work) (at : ℕ) (j : Job) (t : Standing) (row : Low) (written :
     free by h = let wrong : progress.Runs ≡ progress.Begun = sym (ap progress_of stage) ∙ h.begun in cc
 
     went : WentOn at (under_way_at j) (progress_of p) before later
-    went = record { free = free; left = j.left - 1; fewer = (let one = some in omega (arith, one)); after = value; run = run }
+    went = record { free = free; left = j.left - 1; fewer = (let calls = some in omega (arith, calls)); after = value; few = λ runs. few; run = run }
 
     pub advances-stepped : AdvancesAt at before later a
-    advances-stepped = (under_way_at j, get-map under_way_at x.jobs.items at j found, by p a refl comes)
+    advances-stepped = (under_way_at j, get-map under_way_at x.jobs.items at j found, by p a refl refl comes)
       where
         end-of : (o told : Outcome) (answered : ℕ) → WantsEnd y j.line row t o told answered → IsEndSince y.lane y.rules j.line j.operation (history (journal_of x.state)) (journal_of y) o
         end-of o told answered h = over-wanted y j (j.left - 1) row t of-job
@@ -331,35 +377,48 @@ module _ (x w : Work) (at : ℕ) (j : Job) (t : Standing) (row : Low) (written :
             (λ s b z stamp entry knows finished. acked y.lane y.rules (journal_of y) y.newest y.last y.nodes.items y.parts.items kept.keeps (sender_of z) s j.line b entry z knows stamp finished)
             (history (journal_of x.state)) o told answered h
 
-        by : (q : Phase) (b : Advance) → p ≡ q → ComesTo w.state j.line row t q b → Advances at (under_way_at j) before later b
-        by (phase.Prepared m r v) advance.More is h = (
+        more-of : (v : Bool) (m : Standing) → WantsMore y j.line row v t m → (e : LaneEvent) × WantsSince y.lane y.rules j.line j.operation (history (journal_of x.state)) (journal_of y) (Adds e)
+        more-of v m h = more-wanted y j row t of-job (history (journal_of x.state)) v m h
+
+        by : (q : Phase) (b : Advance) → p ≡ q → a ≡ b → ComesTo w.state j.line row t q b → Advances at (under_way_at j) before later b
+        by (phase.Prepared m r v) advance.More is says h = (
           subst (λ (z : Phase). WentOn at (under_way_at j) (progress_of z) before later) is went,
           subst (λ (z : Option Preparing). IsSome z) (sym (prepared-now).1) refl,
+          λ begun. absurd (let other : progress.Runs ≡ progress.Begun = sym (ap progress_of stage) ∙ begun in cc),
+          λ runs. (
+            one says,
+            (
+              (more-of v m h.1).0,
+              subst (λ (l : Low). WantsSince l x.state.rules j.line j.operation (history (journal_of x.state)) (journal_of y) (Adds (more-of v m h.1).0)) (on).lane
+                  (subst (λ (s : Rules). WantsSince y.lane s j.line j.operation (history (journal_of x.state)) (journal_of y) (Adds (more-of v m h.1).0)) (on).rules (more-of v m h.1).1),
+            ),
+          ),
         )
-        by (phase.Over o told answered) advance.Done is h = (
+        by (phase.Over o told answered) advance.Done is says h = (
           o,
           subst (λ (z : Phase). WentOn at (under_way_at j) (progress_of z) before later) is went,
           subst (λ (l : Low). IsEndSince l x.state.rules j.line j.operation (history (journal_of x.state)) (journal_of y) o) (on).lane
               (subst (λ (r : Rules). IsEndSince y.lane r j.line j.operation (history (journal_of x.state)) (journal_of y) o) (on).rules (end-of o told answered h)),
         )
-        by phase.Short advance.NoMemory is h = record {
+        by phase.Short advance.NoMemory is says h = record {
           left = j.left - 1;
           after = value ∙ ap (λ (z : Phase). with_run before (journal_of y) fates at (under_way_of j.line j.operation j.distributor (progress_of z) (j.left - 1))) is;
+          few = λ runs. few;
           run = (journal_of y, run, inl refl);
         }
-        by phase.Begun advance.More is h = absurd h
-        by phase.Begun (advance.Waits l) is h = absurd h
-        by phase.Begun advance.Done is h = absurd h
-        by phase.Begun advance.NoMemory is h = absurd h
-        by (phase.Prepared m r v) (advance.Waits l) is h = absurd h
-        by (phase.Prepared m r v) advance.Done is h = absurd h
-        by (phase.Prepared m r v) advance.NoMemory is h = absurd h
-        by (phase.Over o told answered) advance.More is h = absurd h
-        by (phase.Over o told answered) (advance.Waits l) is h = absurd h
-        by (phase.Over o told answered) advance.NoMemory is h = absurd h
-        by phase.Short advance.More is h = absurd h
-        by phase.Short (advance.Waits l) is h = absurd h
-        by phase.Short advance.Done is h = absurd h
+        by phase.Begun advance.More is says h = absurd h
+        by phase.Begun (advance.Waits l) is says h = absurd h
+        by phase.Begun advance.Done is says h = absurd h
+        by phase.Begun advance.NoMemory is says h = absurd h
+        by (phase.Prepared m r v) (advance.Waits l) is says h = absurd h
+        by (phase.Prepared m r v) advance.Done is says h = absurd h
+        by (phase.Prepared m r v) advance.NoMemory is says h = absurd h
+        by (phase.Over o told answered) advance.More is says h = absurd h
+        by (phase.Over o told answered) (advance.Waits l) is says h = absurd h
+        by (phase.Over o told answered) advance.NoMemory is says h = absurd h
+        by phase.Short advance.More is says h = absurd h
+        by phase.Short (advance.Waits l) is says h = absurd h
+        by phase.Short advance.Done is says h = absurd h
 
 -- ---- where it stands
 

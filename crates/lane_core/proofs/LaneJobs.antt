@@ -41,13 +41,18 @@ module _ (jobs : List Job) (line : ℕ) where
       (subst (λ (u : UnderWay). WantsMore u.progress) b.2 h.3)
 
 -- what was done at the place of the line is its advance
-pub advance-at : (w : Work) (given planned : List Fate) (takes : Bool) (b : LaneValue) (line at : ℕ) (j : Job) → slice_get w.jobs.items at ≡ Some j → j.line ≡ line → (answer : Advance) → AdvancesAt at (value_of w given planned takes) b answer → IsAdvance line (value_of w given planned takes) b answer
-advance-at w given planned takes b line at j found is answer h = record {
+pub advance-at : (w : Work) (given planned : List Fate) (takes : Bool) (b : LaneValue) (line at : ℕ) (j : Job) → slice_get w.jobs.items at ≡ Some j → j.line ≡ line → WantsMore (progress_of j.phase) → (answer : Advance) → AdvancesAt at (value_of w given planned takes) b answer
+    → IsAdvance line (value_of w given planned takes) b answer
+advance-at w given planned takes b line at j found is wants answer h = record {
   at = at;
   operation = h.0;
   place = record {
     found = h.1;
-    line_is = ap (λ (u : UnderWay). u.line) (get-one (under_way_in w.jobs.items) at h.0 (under_way_at j) h.1 (get-map under_way_at w.jobs.items at j found)) ∙ is;
+    line_is = ap (λ (u : UnderWay). u.line) here ∙ is;
   };
+  wants = subst (λ (u : UnderWay). WantsMore u.progress) (sym here) wants;
   advances = h.2;
 }
+  where
+    here : h.0 ≡ under_way_at j
+    here = get-one (under_way_in w.jobs.items) at h.0 (under_way_at j) h.1 (get-map under_way_at w.jobs.items at j found)

@@ -1,8 +1,8 @@
 -- Shared: other crates cite these.
 pub mod Served
 pub mod Shelves
+pub mod Places
 -- Of this crate alone.
-mod Places
 mod Blocking
 mod LaneJobs
 mod Shown

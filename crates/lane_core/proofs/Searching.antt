@@ -20,6 +20,7 @@ use Rattle.lane_states.specs.declared.lane_state.LaneState.{LaneState}
 use Rattle.lane_core.specs.declared.work.Job.{Job}
 use Rattle.lane_core.specs.declared.work.Phase.{Phase}
 use Rattle.lane_core.specs.declared.work.Phase.TheVariants as phase
+use Rattle.lane_lives.specs.declared.progress.Progress.{Progress}
 use Rattle.lane_lives.specs.declared.progress.Progress.TheVariants as progress
 use Rattle.lane_lives.specs.declared.progress.UnderWay.{UnderWay}
 use Rattle.lane_lives.specs.declared.answers.Advance.TheVariants as advance
@@ -49,6 +50,9 @@ use Rattle.lane_journals.specs.Readers.{began, closed}
 use Rattle.lane_journals.specs.KeptJournals.{IsLegal}
 use Rattle.lane_keeping.specs.LaneKeeping.{setting_of}
 use Rattle.stamps.specs.declared.places.StampPlaces.{StampPlaces}
+
+not-runs : (p : Progress) → p ≡ progress.Begun → p ≡ progress.Runs → ⊥
+not-runs p is runs = let other : progress.Begun ≡ progress.Runs = sym is ∙ runs in cc
 
 pub begun-so : (p : Phase) → is_begun p ≡ true → p ≡ phase.Begun
 begun-so phase.Begun e = refl
@@ -252,8 +256,10 @@ module _ (x : Work) (at : ℕ) (j : Job) (w : IsWork x) (found : slice_get x.job
             left = j.left - 1;
             fewer = (let all = calls in omega (arith, all));
             after = subst (λ (K : List LaneEvent). value_of m now planned takes ≡ with_run (value_of x given planned takes) K now at (under_way_at (spent j))) (sym same-journal) value-is;
+            few = λ runs. absurd (not-runs (under_way_at j).progress (ap progress_of (begun-so j.phase begun)) runs);
             run = subst (λ (K : List LaneEvent). IsRunSince x.state.lane x.state.rules j.line j.operation (history J) J K) (sym same-journal) (of-own (λ line o s stamp. GoesOnWith (search_from x.state) x.state y line o j.distributor s stamp) h).run;
           },
+          ap progress_of (begun-so j.phase begun),
         )
 
         pub cut-searched : OfOwn (λ line o s stamp. IsCutOffWith (search_from x.state) x.state y line o j.distributor s stamp) → AdvancesAt at (value_of x given planned takes) (value_of m now planned takes) advance.NoMemory
@@ -263,6 +269,7 @@ module _ (x : Work) (at : ℕ) (j : Job) (w : IsWork x) (found : slice_get x.job
           record {
             left = j.left - 1;
             after = subst (λ (K : List LaneEvent). value_of m now planned takes ≡ with_run (value_of x given planned takes) K now at (under_way_at (spent j))) (sym same-journal) value-is;
+            few = λ runs. absurd (not-runs (under_way_at j).progress (ap progress_of (begun-so j.phase begun)) runs);
             run = subst (λ (K : List LaneEvent). IsCutRunSince x.state.lane x.state.rules j.line j.operation (history J) J K) (sym same-journal) (of-own (λ line o s stamp. IsCutOffWith (search_from x.state) x.state y line o j.distributor s stamp) h).run;
           },
         )
@@ -290,10 +297,13 @@ prepared-so at a b c h p = (
       left = (h.2).left;
       fewer = (h.2).fewer;
       after = settled a c at (under_way_of h.0.line h.0.operation h.0.distributor progress.Runs (h.2).left) _ b.given whole;
+      few = λ runs. absurd (not-runs h.0.progress h.3 runs);
       run = subst (λ (K : List LaneEvent). IsRunSince a.lane a.rules h.0.line h.0.operation (history a.journal) a.journal K) (sym grown)
           (Longer (Prepared h.0.line (q).row.bucket (q).row.complete) b.journal (h.2).run (inr wanted));
     },
     (q).there,
+    λ was. record { row = (q).row.bucket; recipients = (q).row.complete; before = b.journal; now = grown },
+    λ runs. absurd (not-runs h.0.progress h.3 runs),
   ),
 )
   where
@@ -315,7 +325,7 @@ prepared-so at a b c h p = (
 
 -- memory was wanted
 pub cut-so : (at : ℕ) (a b c : LaneValue) → WentAt at a b → c ≡ b → AdvancesAt at a c advance.NoMemory
-cut-so at a b c h e = subst (λ (z : LaneValue). AdvancesAt at a z advance.NoMemory) (sym e) (h.0, h.1, record { left = (h.2).left; after = (h.2).after; run = (b.journal, (h.2).run, inl refl) })
+cut-so at a b c h e = subst (λ (z : LaneValue). AdvancesAt at a z advance.NoMemory) (sym e) (h.0, h.1, record { left = (h.2).left; after = (h.2).after; few = λ runs. absurd (not-runs h.0.progress h.3 runs); run = (b.journal, (h.2).run, inl refl) })
 
 -- it is over
 pub fell-so : (at : ℕ) (a b c : LaneValue) (x : Outcome) → WentAt at a b → ((u : UnderWay) → slice_get a.under_way at ≡ Some u → IsEndSince a.lane a.rules u.line u.operation (history a.journal) b.journal x) → OverAt at x b c → AdvancesAt at a c advance.Done
@@ -329,6 +339,7 @@ fell-so at a b c x h end o = (
       left = (h.2).left;
       fewer = (h.2).fewer;
       after = settled a c at (under_way_of h.0.line h.0.operation h.0.distributor (progress.Over x) (h.2).left) b.journal b.given whole;
+      few = λ runs. absurd (not-runs h.0.progress h.3 runs);
       run = subst (λ (K : List LaneEvent). IsRunSince a.lane a.rules h.0.line h.0.operation (history a.journal) a.journal K) (sym same) (h.2).run;
     },
     subst (λ (K : List LaneEvent). IsEndSince a.lane a.rules h.0.line h.0.operation (history a.journal) K x) (sym same) (end h.0 h.1),

@@ -1,5 +1,5 @@
 -- What a call of an operation that is prepared comes to.
-use Rattle.std.proofs.Common.{◌≡◌, ◌≤◌, ◌+◌, ℕ, Bool, true, false, Option, Some, None, refl, sym, ap, ◌∙◌, subst}
+use Rattle.std.proofs.Common.{◌≡◌, ◌⊎◌, ◌≤◌, ◌+◌, ℕ, Bool, true, false, Option, Some, None, inl, inr, refl, sym, ap, ◌∙◌, subst}
 use Rattle.bucket_ids.specs.Buckets.{Low}
 use Rattle.messages.specs.declared.message.Message.{Message}
 use Rattle.messages.specs.declared.outcome.Outcome.{Outcome}
@@ -40,7 +40,7 @@ module _ (asks : (t : Standing) (m : Message) → next_at t ≡ Asks m → 1 ≤
   fewer-by false e m next = absurd (silent-asks (next_at x) m (over e) next)
 
   wants-more : outcome_in (next_at x) ≡ None → WantsMore c line row now t x
-  wants-more none = let m = asks-more (next_at x) none in record { stands = st; same_plan = plan-by more refl; fewer = fewer-by more refl m.0 m.1; some = asks x m.0 m.1 }
+  wants-more none = let m = asks-more (next_at x) none in record { message = m.0; next = m.1; stands = st; same_plan = plan-by more refl; fewer = fewer-by more refl m.0 m.1; some = asks x m.0 m.1 }
 
   pub comes-by : (p : Phase) (a : Advance) → IsPhaseOf row now x p a → ComesTo c line row t p a
   comes-by (phase.Prepared m r w) advance.More h = (h.0, subst (λ (s : Standing). WantsMore c line row w t s) (sym h.2) (subst (λ (b : Bool). WantsMore c line row b t x) (sym h.1) (wants-more h.3)))
@@ -67,3 +67,29 @@ module _ (asks : (t : Standing) (m : Message) → next_at t ≡ Asks m → 1 ≤
   comes-by (phase.Over outcome said answered) advance.NoMemory h = absurd h
   comes-by phase.Short advance.More h = absurd h
   comes-by phase.Short advance.Done h = absurd h
+
+-- where it goes on, a message was left
+left-by : (more : Bool) → more ≡ false ⊎ more ≡ true
+left-by true = inr refl
+left-by false = inl refl
+
+pub left-then : (row : Low) (now more : Bool) (x : Standing) (p : Phase) (a : Advance) → (more ≡ false → message_in (next_at x) ≡ None) → IsPhaseOf row now x p a → a ≡ advance.More → more ≡ true
+left-then row now more x (phase.Prepared m r w) advance.More over h is = elim (left-by more) [
+  | inl none ↦ (let m = asks-more (next_at x) h.3 in absurd (silent-asks (next_at x) m.0 (over none) m.1))
+  | inr some ↦ some
+]
+left-then row now more x (phase.Over o t n) advance.Done over h is = absurd (let e : advance.Done ≡ advance.More = is in cc)
+left-then row now more x phase.Short advance.NoMemory over h is = absurd (let e : advance.NoMemory ≡ advance.More = is in cc)
+left-then row now more x phase.Begun advance.More over h is = absurd h
+left-then row now more x phase.Begun (advance.Waits by) over h is = absurd h
+left-then row now more x (phase.Prepared m r w) (advance.Waits by) over h is = absurd h
+left-then row now more x (phase.Over o t n) (advance.Waits by) over h is = absurd h
+left-then row now more x phase.Short (advance.Waits by) over h is = absurd h
+left-then row now more x phase.Begun advance.Done over h is = absurd h
+left-then row now more x phase.Begun advance.NoMemory over h is = absurd h
+left-then row now more x (phase.Prepared m r w) advance.Done over h is = absurd h
+left-then row now more x (phase.Prepared m r w) advance.NoMemory over h is = absurd h
+left-then row now more x (phase.Over o t n) advance.More over h is = absurd h
+left-then row now more x (phase.Over o t n) advance.NoMemory over h is = absurd h
+left-then row now more x phase.Short advance.More over h is = absurd h
+left-then row now more x phase.Short advance.Done over h is = absurd h

@@ -2,9 +2,10 @@
 use Rattle.std.specs.Prelude.{◌≡◌, ◌≤◌, ◌+◌, ℕ, Bool, List, Option, None, Some}
 use Rattle.bucket_ids.specs.Buckets.{Low}
 use Rattle.carriers.specs.declared.fate.Fate.{Fate}
+use Rattle.messages.specs.declared.message.Message.{Message}
 use Rattle.messages.specs.declared.outcome.Outcome.{Outcome}
 use Rattle.op_machine.specs.declared.machine.Standing.{Standing}
-use Rattle.op_machine.specs.Outcomes.{Finishes, outcome_in}
+use Rattle.op_machine.specs.Outcomes.{Asks, Finishes, outcome_in}
 use Rattle.op_machine.specs.Standings.{next_at}
 use Rattle.operation_keeping.specs.Left.{messages_left}
 use Rattle.lane_states.specs.declared.lane_state.LaneState.{LaneState}
@@ -20,6 +21,8 @@ use Rattle.lane_lines.specs.Steps.{StandsIn}
 
 -- it wants one more message, with one less left
 pub record WantsMore (c : LaneState) (line : ℕ) (row : Low) (written : Bool) (t x : Standing) : Type 0 where
+  pub message : Message
+  pub next : next_at x ≡ Asks message
   pub stands : StandsIn c line row written x
   pub same_plan : x.plan ≡ t.plan
   pub fewer : messages_left x + 1 ≡ messages_left t

@@ -48,9 +48,9 @@ IsBlocked w j (Some by) = (given planned : List Fate) (takes_plans : Bool) → I
 
 -- ---- the search
 
--- the operation at the place went on by what it wanted
+-- the operation at the place, which was only begun, went on by what it wanted
 abbrev pub WentAt : ℕ → LaneValue → LaneValue → Type 0
-WentAt at old new = (u : UnderWay) × (slice_get old.under_way at ≡ Some u) × WentOn at u progress.Short old new
+WentAt at old new = (u : UnderWay) × (slice_get old.under_way at ≡ Some u) × WentOn at u progress.Short old new × (u.progress ≡ progress.Begun)
 
 abbrev pub SearchesBy : ℕ → Work → Work → List Fate → List Fate → Type 0
 SearchesBy at old new given now = (planned : List Fate) (takes_plans : Bool) → WentAt at (value_of old given planned takes_plans) (value_of new now planned takes_plans)

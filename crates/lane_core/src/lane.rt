@@ -109,21 +109,22 @@ impl<C: Carrier + Drop, H: Shelf + Drop> Lane<C, H> {
         schema: SharedSchema,
         carrier: C,
         shelf: H,
-    ) -> Lane<C, H>
+    ) -> Result<Lane<C, H>, NoMemory>
         requires set_up { IsSetUp (record { bits = bits; low = lane }) rules }
         requires unused { C.given carrier ≡ [] }
         requires shown { H.shows shelf [] }
         requires pending { H.pending shelf ≡ [] }
-        ensures lane { result.lane ≡ new_value (record { bits = bits; low = lane }) rules schema [] (C.planned carrier)
-            (C.takes_plans carrier) }
-        ensures shelf { result.shelf ≡ shelf }
+        ensures lane { IfOk result (λ made. made.lane ≡ new_value (record { bits = bits; low = lane }) rules schema []
+            (C.planned carrier) (C.takes_plans carrier)) }
+        ensures shelf { IfOk result (λ made. made.shelf ≡ shelf) }
     {
-        Lane {
-            work: Work::new(alloc, Bucket::new(bits, u64::from(lane)), rules, schema),
+        let work = Work::new(alloc, Bucket::new(bits, u64::from(lane)), rules, schema)?;
+        Ok(Lane {
+            work,
             owner: None,
             carrier: Watching::new(alloc, carrier),
             shelf,
-        }
+        })
     }
 
     // ---- states
@@ -465,7 +466,7 @@ pub fn open_lane<C: Carriers, H: Shelf + Drop>(
         schema,
         carrier,
         shelf,
-    );
+    )?;
     made.room()?;
     made.announce(&setting.initial, NodeSet::none());
     // that its journal is legal is known once it is read

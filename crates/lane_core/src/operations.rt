@@ -20,7 +20,7 @@ ghost use Rattle.global_ids.specs.Keys as keys;
 ghost use Rattle.lane_journals.specs.Buckets as buckets;
 ghost use Rattle.lane_lives.specs.declared.answers.Advance.TheVariants as advance;
 ghost use Rattle.global_ids.specs.Keys.{key_of};
-ghost use Rattle.lane_lines.specs.Steps.{GoesIn, RunsIn, StandsIn, IsUneventful};
+ghost use Rattle.lane_lines.specs.Steps.{GoesIn, RunsIn, StandsIn, GivesOne, GivesFew, IsUneventful};
 ghost use Rattle.stamps.specs.Places.{place_of};
 ghost use Rattle.lane_states.specs.Written.{FindsEntries};
 ghost use Rattle.op_machine.specs.Standings.{IsBegun};
@@ -581,6 +581,8 @@ fn step_phase<C: Carrier>(
     ensures quiet { IsUneventful (journal_of state.old) (journal_of state.new) }
     ensures run { OfPrepared (λ row written machine. RunsIn state.old state.new line machine) phase.old }
     ensures going { OfPrepared (λ row written machine. GoesIn state.new line machine.plan) phase.old }
+    ensures one { result ≡ advance.More → GivesOne (C.given carrier.old) (C.given carrier.new) }
+    ensures few { GivesFew (C.given carrier.old) (C.given carrier.new) }
     ensures comes { OfPrepared (λ row written machine. ComesTo state.new line row machine phase.new result) phase.old }
     ensures after { state.new ≡ record state.old {
       journal = state.new.journal;
@@ -630,6 +632,8 @@ fn step_job<C: Carrier>(
     ensures quiet { IsUneventful (journal_of state.old) (journal_of state.new) }
     ensures run { OfPrepared (λ row written machine. RunsIn state.old state.new job.old.line machine) job.old.phase }
     ensures going { OfPrepared (λ row written machine. GoesIn state.new job.old.line machine.plan) job.old.phase }
+    ensures one { result ≡ advance.More → GivesOne (C.given carrier.old) (C.given carrier.new) }
+    ensures few { GivesFew (C.given carrier.old) (C.given carrier.new) }
     ensures comes { OfPrepared (λ row written machine. ComesTo state.new job.old.line row machine job.new.phase result)
         job.old.phase }
     ensures job { job.new ≡ record job.old { left = job.old.left - 1; phase = job.new.phase } }

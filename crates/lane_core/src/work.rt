@@ -1,4 +1,4 @@
-ghost use Rattle.std.specs.Prelude.{◌≡◌, Some, ◌<◌, ◌≤◌, ◌+◌, [], ◌∷◌, ◌++◌, ℕ, Bool, true, false, IsSome, IfSome, IfNone, OnOk, OnErr, List, length, vec_len, vec_capacity};
+ghost use Rattle.std.specs.Prelude.{◌≡◌, Some, ◌<◌, ◌≤◌, ◌+◌, [], ◌∷◌, ◌++◌, ℕ, Bool, true, false, IsSome, IfSome, IfNone, IfOk, OnOk, OnErr, List, length, vec_len, vec_capacity};
 ghost use Rattle.lane_lives.specs.LaneValues.{Closes, IsHearing, new_value};
 ghost use Rattle.lane_core.specs.Works.{IsWork, OfValues, OfNoJob, OfFirstJob, IsToClosePhase, HasJobToClose, IsEndedBy, value_of, SameValue, SameHanded};
 ghost use Rattle.lane_states.specs.LaneStates.{StaysCarried, journal_of, handed_of, IsCarriedBy, HasRoom, IsSetUp};
@@ -41,7 +41,7 @@ use stamps::{Stamp, StampPlaces};
 use std::alloc::Global;
 use std::collections::BTreeMap;
 use upkeep_spans::laws::{upkeep_goes_on, upkeep_leaves_lines, upkeep_leaves_states};
-use value_lists::NoMemory;
+use value_lists::{NoMemory, TryCopy};
 
 /// A lane with what it keeps of its lines: how many stamps were drawn under each version, where in the journal
 /// the entry of each stamp stands, and the operations that are under way. Its documents are of the types of a schema.
@@ -183,23 +183,29 @@ pub struct Job {
 
 impl Work {
     /// A lane in which nothing happened.
-    pub fn new(alloc: Global, lane: Bucket, rules: Rules, schema: SharedSchema) -> Work
+    pub fn new(
+        alloc: Global,
+        lane: Bucket,
+        rules: Rules,
+        schema: SharedSchema,
+    ) -> Result<Work, NoMemory>
         requires set_up { IsSetUp lane rules }
-        ensures keeps { IsWork result }
-        ensures carried { IsCarriedBy result.state [] }
-        ensures value { (given planned : List Fate) (takes : Bool) → value_of result given planned takes
-            ≡ new_value lane rules schema given planned takes }
-        ensures handed { handed_of result.state ≡ [] }
+        ensures keeps { IfOk result IsWork }
+        ensures carried { IfOk result (λ work. IsCarriedBy work.state []) }
+        ensures value { IfOk result (λ work. (given planned : List Fate) (takes : Bool) → value_of work given planned takes
+            ≡ new_value lane rules schema given planned takes) }
+        ensures handed { IfOk result (λ work. handed_of work.state ≡ []) }
     {
         late_messages_wait();
-        Work {
-            state: LaneState::new(alloc, lane, rules),
+        let own = schema.copy(alloc)?;
+        Ok(Work {
+            state: LaneState::new(alloc, lane, rules, own),
             schema,
             drawn: BTreeMap::new(alloc),
             places: StampPlaces::none(alloc),
             has_room: false,
             jobs: Vec::new(alloc),
-        }
+        })
     }
 
     /// Makes room for one publication with all that hear it, or for one stop or start.

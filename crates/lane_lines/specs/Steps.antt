@@ -1,7 +1,8 @@
 -- What an operation that is prepared does in a lane, message by message.
-use Rattle.std.specs.Prelude.{◌≡◌, ℕ, Bool, true, List, Option, is_some}
+use Rattle.std.specs.Prelude.{◌≡◌, ◌⊎◌, ◌++◌, ℕ, Bool, true, List, [], ◌∷◌, Option, is_some}
 use Rattle.bucket_ids.specs.Buckets.{Low}
 use Rattle.cluster_states.specs.declared.cluster_state.ClusterState.{ClusterState}
+use Rattle.carriers.specs.declared.fate.Fate.{Fate}
 use Rattle.documents.specs.declared.entry.Entry.{Entry}
 use Rattle.messages.specs.declared.body.Body.{Body}
 use Rattle.messages.specs.declared.body.Body.TheVariants as body
@@ -107,6 +108,13 @@ IsStandingTold m t x = (y : Option Reply) × IsAnswered m.receiver y t x
 
 abbrev pub TellsOne : Standing → Standing → Type 0
 TellsOne t x = (m : Message) × (next_at t ≡ Asks m) × IsStandingTold m t x
+
+-- the carrier gave one fate more, or one at most
+abbrev pub GivesOne : List Fate → List Fate → Type 0
+GivesOne given now = (fate : Fate) × (now ≡ given ++ fate ∷ [])
+
+abbrev pub GivesFew : List Fate → List Fate → Type 0
+GivesFew given now = (now ≡ given) ⊎ GivesOne given now
 
 -- no state is published, no stamp drawn, no round begun or ended
 pub record IsUneventful (J K : List LaneEvent) : Type 0 where

@@ -7,7 +7,7 @@ ghost use Rattle.lane_journals.specs.KeptJournals.{IsLegalStep};
 ghost use Rattle.lane_journals.specs.declared.event.LaneEvent.TheVariants as event;
 ghost use Rattle.lane_keeping.specs.LaneKeeping.{setting_of};
 ghost use Rattle.lane_states.specs.LaneStates.{journal_of, IsKept, HasRoom, IsCarriedBy, StaysCarried};
-ghost use Rattle.lane_lines.specs.Steps.{IsToWrite, IsToSend, IsReady, WritesOn, SendsIn, SentIn, IsPreparedIn, StandsOn, GoesIn, RunsIn, IsStandingTold, TellsOne, IsUneventful};
+ghost use Rattle.lane_lines.specs.Steps.{IsToWrite, IsToSend, IsReady, WritesOn, SendsIn, SentIn, IsPreparedIn, StandsOn, GoesIn, RunsIn, IsStandingTold, TellsOne, GivesOne, GivesFew, IsUneventful};
 ghost use Rattle.stamps.specs.Places.{place_of};
 ghost use Rattle.lane_states.specs.Written.{FindsEntries, AddsNoEntry};
 
@@ -119,6 +119,8 @@ fn exchange_operation<C: Carrier>(
     ensures runs { OnOk result (SendsIn lane.old lane.new message machine.old) }
     ensures stands { OnOk result (SentIn lane.old lane.new message machine.old machine.new) }
     ensures told { OnOk result (IsStandingTold message machine.old machine.new) }
+    ensures one { OnOk result (GivesOne (C.given carrier.old) (C.given carrier.new)) }
+    ensures given { OnErr result (C.given carrier.new ≡ C.given carrier.old) }
     ensures err { OnErr result (journal_of lane.new ≡ journal_of lane.old) }
     ensures after { lane.new ≡ record lane.old {
       journal = lane.new.journal;
@@ -166,6 +168,8 @@ pub fn send_next<C: Carrier>(
     ensures told { IfOk result (λ more. more ≡ true → TellsOne machine.old machine.new) }
     ensures over { IfOk result (λ more. more ≡ false → message_in (next_at machine.new) ≡ None) }
     ensures same { IfOk result (λ more. more ≡ false → machine.new ≡ machine.old) }
+    ensures one { IfOk result (λ more. more ≡ true → GivesOne (C.given carrier.old) (C.given carrier.new)) }
+    ensures few { GivesFew (C.given carrier.old) (C.given carrier.new) }
     ensures after { lane.new ≡ record lane.old {
       journal = lane.new.journal;
       last = lane.new.last;

@@ -48,7 +48,7 @@ module _ (S : Setting) (n : ℕ) where
       by_event _ none step below = below none
 
   -- and one that is begun isn't refused
-  unrefused : (J : List LaneEvent) → IsLegal S J → (b : Beginning) → began n (history J) ≡ Some b → refused n (history J) ≡ false
+  pub unrefused : (J : List LaneEvent) → IsLegal S J → (b : Beginning) → began n (history J) ≡ Some b → refused n (history J) ≡ false
   unrefused [] legal b begun = refl
   unrefused (e ∷ J) legal b begun = by_event e begun legal.1 (unrefused J legal.0)
     where

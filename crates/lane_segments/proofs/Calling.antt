@@ -13,19 +13,21 @@ use Rattle.lane_journals.specs.Meanings.{history}
 use Rattle.lane_journals.specs.declared.event.LaneEvent.{LaneEvent}
 use Rattle.lane_journals.specs.declared.event.LaneEvent.TheVariants as event
 use Rattle.lane_keeping.specs.Lines.{IsFresh}
-use Rattle.lane_keeping.specs.Tidings.{is_older, heard_next}
+use Rattle.lane_keeping.specs.Tidings.{is_older, heard_next, last_state}
 use Rattle.operation_keeping.specs.Others as others
 use Rattle.operation_keeping.specs.Others.{AreOthers}
 use Rattle.operation_keeping.specs.Wants.{IsRunSince}
 use Rattle.operation_keeping.proofs.OthersRuns.{run-others, cut-others}
 use Rattle.lane_lives.specs.declared.answers.Begin.{Begin}
 use Rattle.lane_lives.specs.declared.answers.Begin.TheVariants as begin
+use Rattle.lane_lives.specs.declared.answers.Hear.{Hear}
+use Rattle.lane_lives.specs.declared.answers.Hear.TheVariants as hear
 use Rattle.lane_lives.specs.declared.progress.UnderWay.{UnderWay}
 use Rattle.lane_lives.specs.declared.progress.Progress.{Progress}
 use Rattle.lane_lives.specs.declared.progress.Progress.TheVariants as progress
-use Rattle.lane_lives.specs.LaneValues.{LaneValue, IsLaneValue, OfNone, IsOfDocument, EndsAs, drawn, under_way_of}
+use Rattle.lane_lives.specs.LaneValues.{LaneValue, IsLaneValue, OfNone, IsOfDocument, IsHearing, EndsAs, drawn, under_way_of}
 use Rattle.lane_lives.specs.Lives.{FeedLine, Lines}
-use Rattle.lane_segments.specs.Segments.{IsAmong, IsNext, IsOfLines, BeginsAs, WentTo, GoesOn, IsCall, Starts, Continues, Ends, Stays, Calls, Here, Then, IsSegment}
+use Rattle.lane_segments.specs.Segments.{IsAmong, IsNext, IsOfLines, BeginsAs, WentTo, GoesOn, IsCall, Hears, Starts, Continues, Ends, Stays, Calls, Here, Then, IsSegment}
 use Rattle.lane_segments.specs.Courses as courses
 use Rattle.lane_segments.specs.Courses.{GoesTo, IsBegun, Course, GoesItsCourse}
 use Rattle.lane_segments.specs.Growth as growth
@@ -276,9 +278,28 @@ module _ (feeders : ℕ) (lines : Lines) (first : LaneValue) where
           })
           (ap (λ (x : LaneValue). x.lane) after) (ap (λ (x : LaneValue). x.rules) after) (ap (λ (x : LaneValue). x.journal) after) (ap (λ (x : LaneValue). x.under_way) after)
 
+    -- ---- a state is heard
+
+    heard-at : (d : ℕ) (s : ClusterState) → last_state v.journal ≡ Some s → IsOwner first.lane s d → (answer : Hear) (w : LaneValue) → IsLaneValue w → IsHearing d v w answer → Keeps w
+    heard-at d s newest owns (hear.Heard version) w now h =
+        let heard = heard_next d (Some s) v.journal in
+        keeps-with heard v.under_way w now
+        (record {
+          grew = grows-heard feeders lines first.lane first.rules d s first.journal v.journal newest owns k.grew;
+          own = λ at u found. own-waits lines first.lane first.rules v.journal heard u (k.own at u found) (heard-others ((k.own at u found).of_lines).line d s v.journal);
+          lines_apart = k.lines_apart;
+          documents_apart = k.documents_apart;
+        })
+        (ap (λ (x : LaneValue). x.lane) h.after) (ap (λ (x : LaneValue). x.rules) h.after)
+        (ap (λ (x : LaneValue). x.journal) h.after ∙ ap (λ (o : Option ClusterState). heard_next d o v.journal) newest)
+        (ap (λ (x : LaneValue). x.under_way) h.after)
+    heard-at d s newest owns (hear.Held by) w now h = subst Keeps (sym h.same) k
+    heard-at d s newest owns hear.NoMemory w now h = subst Keeps (sym h) k
+
     -- ---- any call
 
     called : (w : LaneValue) → IsLaneValue w → IsCall feeders lines v w → Keeps w
+    called w now (Hears h) = heard-at h.owner h.state h.newest (subst (λ (l : Low). IsOwner l h.state h.owner) k.lane_is h.owns) h.answer w now h.hears
     called w now (Starts line answer next b) = begun-at line line.via refl next answer w now b
     called w now (Continues at u g) = gone-on at u g.found w now g
     called w now (Ends line x c) = ended c.at c.operation (c.place).found line x w now (c.place).line_is c.ends c.after

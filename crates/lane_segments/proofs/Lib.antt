@@ -1,7 +1,9 @@
-mod Lists
-mod Growing
+-- Shared: other crates cite these.
+pub mod Lists
+pub mod Growing
+pub mod Calling
+pub mod Ordering
+pub mod Answering
+-- Of this crate alone.
 mod Alone
-mod Calling
 mod Wanted
-mod Ordering
-mod Answering

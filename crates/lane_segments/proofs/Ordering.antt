@@ -102,7 +102,7 @@ none-among n [] line place none at = absurd (none_some line at)
 none-among n (l ∷ lines) line zero none at = λ same. none.0 (sym same ∙ ap (λ (x : FeedLine). x.number) (sym (some_same l line at)))
 none-among n (l ∷ lines) line (suc place) none at = none-among n lines line place none.1 at
 
-adds-not : (line n : ℕ) (e : LaneEvent) → line ≢ n → AddsFor line e → IsNotOf n e
+pub adds-not : (line n : ℕ) (e : LaneEvent) → line ≢ n → AddsFor line e → IsNotOf n e
 adds-not line n (event.Begun l d v id stamp) off h = absurd h
 adds-not line n (event.Refused l d outcome) off h = absurd h
 adds-not line n (event.Closed l outcome) off h = absurd h
@@ -110,7 +110,7 @@ adds-not line n (event.Prepared l b set) off h = λ same. off (sym h ∙ same)
 adds-not line n (event.Wrote l entry) off h = λ same. off (sym h ∙ same)
 adds-not line n _ off h = tt
 
-carries-not : (n : ℕ) (e : LaneEvent) → IsCarriage e → IsNotOf n e
+pub carries-not : (n : ℕ) (e : LaneEvent) → IsCarriage e → IsNotOf n e
 carries-not n (event.Delivered k r) h = tt
 carries-not n (event.Returned k) h = tt
 carries-not n _ h = absurd h

@@ -2,7 +2,9 @@
 -- and calls for lines of several feeders come in any order.
 use Rattle.std.specs.Prelude.{◌≡◌, ◌<◌, ◌/◌, ◌%◌, ◌^◌, ℕ, List, [], Option, None, Some, IsSome, slice_get}
 use Rattle.bucket_ids.specs.Buckets.{Low}
+use Rattle.cluster_states.specs.declared.cluster_state.ClusterState.{ClusterState}
 use Rattle.distributor_part.specs.declared.rules.Rules.{Rules}
+use Rattle.ideal_nodes.specs.Placement.{IsOwner}
 use Rattle.messages.specs.declared.operation.Operation.{Operation}
 use Rattle.messages.specs.declared.outcome.Outcome.{Outcome}
 use Rattle.lane_journals.specs.Buckets.{key_of}
@@ -10,12 +12,14 @@ use Rattle.lane_journals.specs.Readers.{prepared}
 use Rattle.lane_journals.specs.Meanings.{history}
 use Rattle.lane_journals.specs.declared.event.LaneEvent.{LaneEvent}
 use Rattle.lane_keeping.specs.Lines.{IsFresh}
+use Rattle.lane_keeping.specs.Tidings.{last_state}
 use Rattle.operation_keeping.specs.Wants.{IsRunSince, IsCutRunSince, IsEndSince}
 use Rattle.lane_lives.specs.declared.answers.Begin.{Begin}
+use Rattle.lane_lives.specs.declared.answers.Hear.{Hear}
 use Rattle.lane_lives.specs.declared.progress.UnderWay.{UnderWay}
 use Rattle.lane_lives.specs.declared.progress.Progress.{Progress}
 use Rattle.lane_lives.specs.declared.progress.Progress.TheVariants.{Begun, Runs, Over, Short}
-use Rattle.lane_lives.specs.LaneValues.{LaneValue, IsLaneValue, IsBeginning, IsBeginningAtOwner, Closes, under_way_of, with_run}
+use Rattle.lane_lives.specs.LaneValues.{LaneValue, IsLaneValue, IsHearing, IsBeginning, IsBeginningAtOwner, WantsMore, Closes, under_way_of, with_run}
 use Rattle.lane_lives.specs.Lives.{FeedLine, Lines, outcome_in}
 
 -- ---- the lines of a segment
@@ -56,18 +60,30 @@ WentTo lane rules n o J K Runs = IsRunSince lane rules n o (history J) J K × Is
 WentTo lane rules n o J K (Over x) = IsRunSince lane rules n o (history J) J K × IsEndSince lane rules n o (history J) K x
 WentTo lane rules n o J K Short = IsCutRunSince lane rules n o (history J) J K
 
--- the operation at the place goes on
+-- the operation at the place, which wants to, goes on
 pub record GoesOn (at : ℕ) (u : UnderWay) (v w : LaneValue) : Type 0 where
   pub found : slice_get v.under_way at ≡ Some u
+  pub wants : WantsMore u.progress
   pub progress : Progress
   pub left : ℕ
   pub went : WentTo v.lane v.rules u.line u.operation v.journal w.journal progress
   pub after : w ≡ with_run v w.journal w.given at (under_way_of u.line u.operation u.distributor progress left)
 
+-- the owner under the newest state is to hear it
+pub record HearsAtOwner (v w : LaneValue) : Type 0 where
+  pub owner : ℕ
+  pub state : ClusterState
+  pub newest : last_state v.journal ≡ Some state
+  pub owns : IsOwner v.lane state owner
+  pub answer : Hear
+  pub hears : IsHearing owner v w answer
+
 -- ---- the segment
 
 -- one call, or nothing that a line could see
 pub data IsCall (feeders : ℕ) (lines : Lines) (v w : LaneValue) : Type 0 where
+  -- the owner hears the newest state, unless an operation stands against it
+  Hears : HearsAtOwner v w → IsCall feeders lines v w
   -- a line is to begin, in its turn; another may stand against it
   Starts : (line : FeedLine) (answer : Begin) → IsNext feeders lines line v.journal → BeginsAs line line.via v w answer → IsCall feeders lines v w
   -- an operation under way goes on

@@ -120,7 +120,7 @@ impl LaneState {
             .kept
             .reserve(self.late.len().saturating_add(3))?;
         self.late.room()?;
-        make_nodes(self.alloc, &mut self.nodes, node)
+        make_nodes(self.alloc, &self.schema, &mut self.nodes, node)
     }
 
     /// Keeps the message that was sent last, to be delivered after so many further ones.

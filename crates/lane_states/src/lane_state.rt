@@ -17,6 +17,7 @@ use lane_journals::LaneEvent;
 use lane_journals::laws::states_are_published;
 use lane_keeping::laws::{events_are_kept, lanes_begin, states_are_kept};
 use messages::LateList;
+use node_rows::SharedSchema;
 use node_sets::NodeSet;
 use service_layer::NodePart;
 use std::alloc::Global;
@@ -31,6 +32,8 @@ use value_lists::NoMemory;
 pub struct LaneState {
     pub lane: Bucket,
     pub rules: Rules,
+    /// The types of the documents that nodes make ready.
+    pub schema: SharedSchema,
     pub journal: EventLog,
     pub newest: Option<ClusterState>,
     pub last: u64,
@@ -50,7 +53,7 @@ pub struct LaneState {
 
 impl LaneState {
     /// A lane in which nothing happened. A lane's bucket has at most 6 bits.
-    pub fn new(alloc: Global, lane: Bucket, rules: Rules) -> LaneState
+    pub fn new(alloc: Global, lane: Bucket, rules: Rules, schema: SharedSchema) -> LaneState
         requires small { lane.bits ≤ 6 }
         ensures keeps { IsKept result }
         ensures journal { journal_of result ≡ [] }
@@ -72,6 +75,7 @@ impl LaneState {
         LaneState {
             lane,
             rules,
+            schema,
             handed: Snapshot::of(&journal),
             journal,
             newest: None,

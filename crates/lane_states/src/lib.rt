@@ -16,7 +16,7 @@
 //! (`settling`).
 //!
 //! ```text
-//! let mut lane = LaneState::new(alloc, bucket, rules);
+//! let mut lane = LaneState::new(alloc, bucket, rules, schema);
 //! lane.room(1)?;
 //! lane.publish(&state);                   // Published { .. }
 //! lane.hear(distributor)?;                // Heard { .. }

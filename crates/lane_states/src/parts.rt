@@ -18,19 +18,25 @@ use distributor_part::{DistributorPart, Rules};
 use lane_journals::LaneEvent;
 use lane_journals::laws::kept_journals_mean_legal_ones;
 use lane_keeping::laws::states_are_kept;
+use node_rows::SharedSchema;
 use node_sets::NodeSet;
 use service_layer::NodePart;
 use std::alloc::Global;
 use value_lists::NoMemory;
 
 /// Makes the nodes up to one, which count as new until they are there.
-pub fn make_nodes(alloc: Global, nodes: &mut Vec<NodePart>, node: u8) -> Result<(), NoMemory>
+pub fn make_nodes(
+    alloc: Global,
+    schema: &SharedSchema,
+    nodes: &mut Vec<NodePart>,
+    node: u8,
+) -> Result<(), NoMemory>
     ensures same { (n : ℕ) → node_in nodes.new.items n ≡ node_in nodes.old.items n }
     ensures more { vec_len nodes.old ≤ vec_len nodes.new }
     ensures there { OnOk result (node < vec_len nodes.new) }
 {
     while nodes.len() <= usize::from(node) {
-        nodes.push(NodePart::new(alloc))?;
+        nodes.push(NodePart::new(alloc, schema)?)?;
     }
     Ok(())
 }

@@ -5,15 +5,24 @@ ghost use Rattle.service_layer.specs.Takes.{IsInside};
 use crate::changes::told;
 use crate::table::{done, shown};
 use crate::texts::{halves, short};
+use crate::versions::schema;
 use crate::words::read_body;
+use document_ids::DocId;
 use messages::{Body, Message};
+use node_rows::SharedSchema;
 use service_layer::{NodePart, Taken};
 use std::alloc::Global;
 
-/// The node.
+/// The node, if memory served.
 #[derive(Drop)]
 pub struct Node {
-    node: NodePart,
+    node: Option<NodePart>,
+}
+
+/// A node that took no message.
+pub fn new_node(alloc: Global) -> Option<NodePart> {
+    let schema = SharedSchema::new(alloc, schema(alloc)?).ok()?;
+    NodePart::new(alloc, &schema).ok()
 }
 
 /// Takes a message where a serial is left to be drawn.
@@ -36,14 +45,14 @@ pub fn take(node: &mut NodePart, version: u32, body: Body) -> Option<Taken>
 impl Node {
     pub fn new(alloc: Global) -> Node {
         Node {
-            node: NodePart::new(alloc),
+            node: new_node(alloc),
         }
     }
 
     /// Begins with another node.
     fn begin(&mut self, alloc: Global) -> bool {
-        self.node = NodePart::new(alloc);
-        true
+        self.node = new_node(alloc);
+        self.node.is_some()
     }
 
     /// What the node makes of a message of a version.
@@ -51,7 +60,7 @@ impl Node {
         let version = short(version, 0)?;
         let (verb, rest) = halves(words);
         match read_body(alloc, verb, rest) {
-            Some(body) => take(&mut self.node, version, body),
+            Some(body) => take(self.node.as_mut()?, version, body),
             None => None,
         }
     }
@@ -73,15 +82,22 @@ impl Node {
         }
     }
 
+    /// In which of its parts a document is.
+    fn place(&self, alloc: Global, id: &str) -> Option<String> {
+        let id = DocId::parse(alloc, id).ok()?;
+        shown(alloc, &self.node.as_ref()?.parts().place(&id))
+    }
+
     /// What comes of a line: a version and a message, `changes` before these, or a question about the node itself.
     pub fn say(&mut self, alloc: Global, verb: &str, rest: &str) -> Option<String> {
         match verb {
             "begin" => done(alloc, self.begin(alloc)),
             "changes" => self.changes(alloc, rest),
-            "entries" => shown(alloc, &self.node.entries()),
-            "serial" => shown(alloc, &self.node.last_serial()),
-            "version" => shown(alloc, &self.node.version()),
-            "regions" => shown(alloc, &self.node.regions()),
+            "entries" => shown(alloc, &self.node.as_ref()?.entries()),
+            "serial" => shown(alloc, &self.node.as_ref()?.last_serial()),
+            "version" => shown(alloc, &self.node.as_ref()?.version()),
+            "regions" => shown(alloc, &self.node.as_ref()?.regions()),
+            "place" => self.place(alloc, rest),
             version => self.noted(alloc, version, rest),
         }
     }

@@ -3,7 +3,7 @@
 ghost use Rattle.std.specs.Prelude.{◌<◌, ◌≤◌, IfSome};
 ghost use Rattle.service_layer.specs.Takes.{IsInside};
 
-use crate::node::take;
+use crate::node::{new_node, take};
 use crate::words::{change_of, entries_in};
 use bucket_ids::Bucket;
 use document_ids::DocId;
@@ -79,7 +79,7 @@ fn applies(node: &mut NodePart, bucket: Bucket, entries: &EntryMap) -> bool {
 
 /// A node that holds all keys in two buckets.
 fn whole(alloc: Global) -> Option<NodePart> {
-    let mut node = NodePart::new(alloc);
+    let mut node = new_node(alloc)?;
     let none = EntryMap::new(alloc);
     if applies(&mut node, Bucket::new(1, 0), &none)
         && applies(&mut node, Bucket::new(1, 1), &none)

@@ -29,8 +29,6 @@ pub mod journaled_node;
 pub mod laws;
 mod records;
 mod replaying;
-#[cfg(test)]
-mod tests;
 
 pub use causes::OpenCause;
 pub use faults::JournalFault;

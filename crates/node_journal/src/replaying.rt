@@ -1,4 +1,5 @@
 ghost use Rattle.std.specs.Prelude.{◌≡◌, ◌<◌, ◌≤◌, ◌^◌, ℕ, length, IfOk, IfErr, OnOk};
+ghost use Rattle.service_layer.specs.Nodes.{new_node};
 ghost use Rattle.service_layer.specs.Takes.{IsInside, HasRoom};
 ghost use Rattle.node_journal.specs.Lives.{is_wanting, after};
 ghost use Rattle.disks.specs.Disks.{Rests, Only, LeavesOnly};
@@ -13,9 +14,10 @@ use crate::records::{Found, record_at};
 use disks::{Disk, keep};
 use doc_types::Schema;
 use messages::{Message, Reply};
+use node_rows::SharedSchema;
 use service_layer::NodePart;
 use std::alloc::Global;
-use value_lists::NoMemory;
+use value_lists::{NoMemory, TryCopy};
 
 /// A node that took messages, and where the gate behind their records stands.
 #[derive(Drop)]
@@ -55,13 +57,23 @@ fn take_found(node: &mut NodePart, found: Found) -> Result<u64, NoMemory>
     Ok(found.next)
 }
 
-/// The node that takes all messages of a file's records, up to the first gate that isn't open.
+/// A node that took no message, with documents of the types of a schema.
+fn new_node(alloc: Global, schema: &Schema) -> Result<NodePart, NoMemory>
+    ensures { IfOk result (λ node. node ≡ new_node) }
+{
+    let shared = SharedSchema::new(alloc, schema.copy(alloc)?)?;
+    NodePart::new(alloc, &shared)
+}
+
+/// The node that takes all messages of a file's records, up to the first gate that isn't open, once it took none.
 pub fn replay<D: Disk>(
     alloc: Global,
     disk: &mut D,
     schema: &Schema,
     size: u64,
+    mut node: NodePart,
 ) -> Result<Replayed, OpenCause>
+    requires new { node ≡ new_node }
     requires some { 0 < size }
     requires few { size < 2 ^ 32 }
     requires size { size ≡ length (D.state disk.old).seen }
@@ -70,7 +82,6 @@ pub fn replay<D: Disk>(
     ensures count { (D.state disk.old).faults ≤ (D.state disk.new).faults }
     ensures cause { IfErr result (IsCause (reading (message_in schema.now) 0 0 (D.state disk.old).seen) D.last (D.state disk.old) (D.state disk.new)) }
 {
-    let mut node = NodePart::new(alloc);
     let mut end = 0;
     'records: loop {
         match record_at(alloc, disk, schema, end, size) {
@@ -101,16 +112,16 @@ pub fn read_all<D: Disk>(
         → Only (D.state disk.old).seen (D.state disk.old).may_leave
         → LeavesOnly (D.state disk.old) (D.state disk.new) (Records schema.now limit (recorded schema.now (D.state disk.old).seen)) }
 {
+    let Ok(node) = new_node(alloc, schema) else {
+        return Err(OpenCause::NoMemory);
+    };
     if size < 6 {
         return match keep(disk, 0, &[CLOSED]) {
-            Ok(()) => Ok(Replayed {
-                node: NodePart::new(alloc),
-                end: 0,
-            }),
+            Ok(()) => Ok(Replayed { node, end: 0 }),
             Err(_) => Err(OpenCause::DiskFault),
         };
     }
-    match replay(alloc, disk, schema, size) {
+    match replay(alloc, disk, schema, size, node) {
         Ok(replayed) => match disk.sync() {
             Ok(()) => Ok(replayed),
             Err(_) => Err(OpenCause::DiskFault),

@@ -171,8 +171,8 @@ impl NodeRows {
     }
 
     /// A node keeps an entry: its document comes to its place, or goes. The key is that of its id. Takes the size of the
-    /// document before and of this one, for each of their words and numbers a logarithm, and the move of the ids above in
-    /// their lists; a document that goes takes no memory.
+    /// document before and of this one, for each of their numbers a logarithm, for each word one look, and the move of the
+    /// ids above in their lists; a document that goes takes no memory.
     pub fn take(&mut self, alloc: Global, key: u64, entry: &SharedEntry) -> Result<(), NoMemory>
         requires { key ≡ key_of entry.now.id }
         ensures ok { OnOk result (self.new ≡ with_rows (taken_into self.old.types self.old.rows entry.now) self.old) }

@@ -1,6 +1,6 @@
 -- Seats are read one after the other.
-use Rattle.std.proofs.Common.{◌≡◌, ℕ, ◌+◌, ◌≤◌, List, [], ◌∷◌, ◌++◌, length, take, map, Option, Some, refl, sym, ◌∙◌, ap₂, subst}
-use Rattle.std.proofs.lemmas.List.{map-append, take_all}
+use Rattle.std.proofs.Common.{◌≡◌, ℕ, ◌+◌, ◌<◌, ◌≤◌, List, [], ◌∷◌, ◌++◌, length, take, map, Option, Some, refl, sym, ◌∙◌, ap, ap₂, subst, arith}
+use Rattle.std.proofs.lemmas.List.{length-map, length-take-le, map-append, take_all}
 use Rattle.view_changes.specs.Views.{View}
 use Rattle.query_text.specs.declared.query.Query.{Query}
 use Rattle.search_views.specs.Summed.{IsSummed}
@@ -27,3 +27,11 @@ read_more q w lane seats seats' fronts fronts' front sum sum' so now more =
 pub all_read : (q : Query) (w lane : ℕ) (seats : List (Option Known)) (fronts : List Beginning) (sum : SearchSum)
     → ReadSoFar q w (take lane seats) fronts sum → length seats ≤ lane → ReadSoFar q w seats fronts sum
 all_read q w lane seats fronts sum so past = subst (λ (xs : List (Option Known)). ReadSoFar q w xs fronts sum) (take_all lane seats past) so
+
+-- one view more is one of 64
+pub few_read : (q : Query) (w lane : ℕ) (seats : List (Option Known)) (fronts : List Beginning) (sum : SearchSum)
+    → ReadSoFar q w (take lane seats) fronts sum → lane < length seats → length seats ≤ 64 → sum.groups.views < 64
+few_read q w lane seats fronts sum so below few =
+    let count : sum.groups.views ≡ lane =
+    so.summed.views ∙ length-map so.known view_by ∙ sym (length-map so.known (λ (k : Known). Some k)) ∙ ap length (sym so.seats_are) ∙ length-take-le lane seats (omega (arith, below)) in
+    omega (arith, count, below, few)

@@ -34,14 +34,17 @@ pub const SHAPES: &[(&str, &str)] = &[
     ("token", "word word word ."),
 ];
 
+/// Parts without entries.
+fn no_parts(alloc: Global) -> Option<SubDatabases> {
+    let schema = schema(alloc)?;
+    SubDatabases::new(alloc, &schema).ok()
+}
+
 /// Takes the entry that a word says, with a count in its stamp.
 fn take(alloc: Global, parts: &mut SubDatabases, rest: &str, ready: bool) -> Option<()> {
     let entry = read_entry(alloc, word(rest, 1), long(rest, 0))?;
     let key = key_of(&entry.id);
     let entry = SharedEntry::new(alloc, entry).ok()?;
-    if parts.entries() > 1_000_000 {
-        return None;
-    }
     parts.take(alloc, key, &entry, ready).ok()
 }
 
@@ -54,7 +57,7 @@ fn change_bucket(alloc: Global, parts: &mut SubDatabases, verb: &str, bucket: &s
         parts.drop_bucket(bucket);
         return true;
     }
-    parts.entries() <= 1_000_000 && parts.make_ready(alloc, bucket).is_ok()
+    parts.make_ready(alloc, bucket).is_ok()
 }
 
 /// Forgets a remove of a document, if its stamp has this count.
@@ -133,16 +136,16 @@ impl Databases {
         Databases { parts: None }
     }
 
-    /// Parts without entries.
-    fn begin(&mut self, alloc: Global) -> Option<()> {
-        self.parts = Some(SubDatabases::new(alloc, &schema(alloc)?).ok()?);
-        Some(())
+    /// Begins with parts without entries.
+    fn begin(&mut self, alloc: Global) -> bool {
+        self.parts = no_parts(alloc);
+        self.parts.is_some()
     }
 
     /// Does what a line says.
     pub fn say(&mut self, alloc: Global, verb: &str, rest: &str) -> Option<String> {
         if verb == "begin" {
-            done(alloc, self.begin(alloc).is_some())
+            done(alloc, self.begin(alloc))
         } else {
             say(alloc, self.parts.as_mut()?, verb, rest)
         }

@@ -1,8 +1,5 @@
 //! Documents and entries as lines say them, and the schema that they are of.
 
-ghost use Rattle.std.specs.Prelude.{IfSome};
-ghost use Rattle.sub_databases.specs.Parts.{HasOwnId};
-
 use crate::columns::read_value;
 use doc_types::schema::{FieldOf, TypeOf};
 use doc_types::{FieldType, Schema};
@@ -91,9 +88,7 @@ fn read_document(alloc: Global, word: &str) -> Option<Document> {
 }
 
 /// The entry that stores a document.
-fn entry_of(alloc: Global, stamp: Stamp, document: Document) -> Option<Entry>
-    ensures { IfSome result HasOwnId }
-{
+fn entry_of(alloc: Global, stamp: Stamp, document: Document) -> Option<Entry> {
     match document.id().copy(alloc) {
         Ok(id) => Some(Entry {
             stamp,
@@ -105,9 +100,7 @@ fn entry_of(alloc: Global, stamp: Stamp, document: Document) -> Option<Entry>
 }
 
 /// The entry that removes the document of an id.
-fn remove_of(alloc: Global, stamp: Stamp, id: &str) -> Option<Entry>
-    ensures { IfSome result HasOwnId }
-{
+fn remove_of(alloc: Global, stamp: Stamp, id: &str) -> Option<Entry> {
     match DocId::parse(alloc, id) {
         Ok(id) => Some(Entry {
             stamp,
@@ -120,9 +113,7 @@ fn remove_of(alloc: Global, stamp: Stamp, id: &str) -> Option<Entry>
 
 /// The entry that a word says: a document, or behind a minus sign the id of one that is removed. Its stamp is of version 1
 /// and this count.
-pub fn read_entry(alloc: Global, word: &str, count: u64) -> Option<Entry>
-    ensures { IfSome result HasOwnId }
-{
+pub fn read_entry(alloc: Global, word: &str, count: u64) -> Option<Entry> {
     let stamp = Stamp { version: 1, count };
     match word.strip_prefix('-') {
         Some(id) => remove_of(alloc, stamp, id),

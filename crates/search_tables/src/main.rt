@@ -1,6 +1,6 @@
 //! Tables of what searches read: each file of `data/` is one table, and each of its lines says what is done or asked,
 //! and behind an equals sign what comes of it. Prints for each table how many lines came as they are written there,
-//! and each line that didn't. The words of a line are explained at the head of its file.
+//! and each line that didn't. The words of a line are explained at the head of its file. Then what is held of seats.
 #![tactic(auto)]
 
 mod columns;
@@ -9,6 +9,7 @@ mod entries;
 mod maps;
 mod parts;
 mod searches;
+mod seats;
 mod shelf;
 mod stores;
 mod table;
@@ -17,6 +18,7 @@ mod views;
 mod words;
 
 use crate::parts::Parts;
+use crate::seats::hold_seats;
 use crate::table::hold;
 use std::io;
 use std::process::ExitCode;
@@ -44,8 +46,13 @@ fn hold_all(rt: &HostRuntime, parts: &mut Parts) -> io::Result<bool> {
     Ok(wrong)
 }
 
-fn main(rt: HostRuntime) -> io::Result<ExitCode> {
+/// The same with parts before any line.
+fn hold_anew(rt: &HostRuntime) -> io::Result<bool> {
     let mut parts = Parts::new(rt.alloc());
-    let wrong = hold_all(&rt, &mut parts)?;
+    hold_all(rt, &mut parts)
+}
+
+fn main(rt: HostRuntime) -> io::Result<ExitCode> {
+    let wrong = hold_anew(&rt)? | hold_seats(&rt, rt.alloc())?;
     Ok(ExitCode::from(u8::from(wrong)))
 }

@@ -46,8 +46,14 @@ fn found(alloc: Global, view: &LaneView, query: &Query, version: u32) -> Option<
     answer_text(alloc, &sum.finish(alloc).ok()?)
 }
 
+/// The query that a text says.
+fn read_query(alloc: Global, text: &str) -> Option<Query> {
+    let schema = schema(alloc)?;
+    Query::parse(alloc, text, schema.schema()).ok()
+}
+
 /// What the search that a text says answers over a view.
 pub fn search(alloc: Global, view: &LaneView, version: u32, text: &str) -> Option<String> {
-    let query = Query::parse(alloc, text, schema(alloc)?.schema()).ok()?;
+    let query = read_query(alloc, text)?;
     found(alloc, view, &query, version)
 }

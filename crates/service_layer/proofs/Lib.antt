@@ -1,2 +1,4 @@
 mod Treating
 mod Tellings
+mod Readiness
+mod Placed

@@ -7,15 +7,17 @@
 //! tells; a `ChangeList` is seen as the list of them. One contract serves a node alone and a lane that keeps a journal.
 //!
 //! ```text
-//! let mut node = NodePart::new(alloc);
+//! let mut node = NodePart::new(alloc, &schema)?;
 //! let taken = node.take(&message);     // taken.reply goes back, taken.noted into the journal
 //! taken.changes.len()                  // taken.changes go to the view: 1 of a greater version, at least
 //! node.pieces()
+//! node.parts().place(&id)             // Ready exactly where the piece of the document is
 //! ```
 #![tactic(auto)]
 
 pub mod changes;
 pub mod node_part;
+mod node_store;
 mod replies;
 
 pub use changes::{ChangeList, LaterChanges};

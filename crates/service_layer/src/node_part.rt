@@ -7,12 +7,14 @@ ghost use Rattle.messages.specs.declared.body.Body.TheVariants as body;
 ghost use Rattle.pieces.specs.Told.{IsAnsweredAs};
 ghost use Rattle.replica_store.specs.Replicas.{LieIn, IsReplica};
 ghost use Rattle.service_layer.specs.Nodes.{new_node, adopt, stored, after_body};
+ghost use Rattle.service_layer.specs.Placing.{ArePlaced};
 ghost use Rattle.service_layer.specs.Takes.{Takes, Treats, Shows, IsInside, IsKeyOf, HasRoom, told};
 ghost use Rattle.service_layer.specs.Telling.{kept_of, deed_replied, changes_taken, after_first, adoption_of};
 ghost use Rattle.view_changes.specs.Deeds.{Stores, Unites, Activates, is_seen, changes_of as changes_told};
 ghost use Rattle.entry_maps.specs.Entries.{is_newer, in_bucket};
 
 use crate::changes::LaterChanges;
+use crate::node_store::NodeStore;
 use crate::replies::{Taken, done, newer, only_entry, shown, telling};
 use bucket_ids::Bucket;
 use document_ids::DocId;
@@ -20,10 +22,11 @@ use documents::{Entry, SharedEntry};
 use entry_maps::EntryMap;
 use global_ids::key_of;
 use messages::{Body, Message, Reply};
-use pieces::{Piece, PieceList};
-use replica_store::{ReplicaStore, StoreFault};
+use node_rows::SharedSchema;
+use pieces::{Piece, PieceList, StoreFault};
 use std::alloc::Global;
 use std::marker::Model;
+use sub_databases::SubDatabases;
 use value_lists::{NoMemory, TryCopy, copy_all};
 use view_changes::LaneChange;
 use view_changes::fresh::entries_in_order;
@@ -45,7 +48,7 @@ fn key_or(known: Option<u64>, id: &DocId) -> u64
 #[derive(Drop)]
 pub struct NodePart {
     version: u32,
-    store: ReplicaStore,
+    store: NodeStore,
     regions: Vec<Bucket>,
     alloc: Global,
 }
@@ -62,16 +65,16 @@ impl Model for NodePart {
 }
 
 impl NodePart {
-    /// A node that took no message.
-    pub fn new(alloc: Global) -> NodePart
-        ensures { result ≡ new_node }
+    /// A node that took no message, with documents of the types of a schema that is shared.
+    pub fn new(alloc: Global, schema: &SharedSchema) -> Result<NodePart, NoMemory>
+        ensures { IfOk result (λ node. node ≡ new_node) }
     {
-        NodePart {
+        Ok(NodePart {
             version: 0,
-            store: ReplicaStore::new(alloc),
+            store: NodeStore::new(alloc, schema)?,
             regions: Vec::new(alloc),
             alloc,
-        }
+        })
     }
 
     /// The greatest version of a message, 0 before the first.
@@ -85,21 +88,28 @@ impl NodePart {
     pub fn entry(&self, id: &DocId) -> Option<&Entry>
         ensures { option_copied result ≡ fin.get self.now.entries id.now }
     {
-        self.store.entry(id)
+        self.store.newest().get(id)
     }
 
     /// How many entries there are, removes among them.
     pub fn entries(&self) -> u64
         ensures { result ≡ fin.len self.now.entries }
     {
-        self.store.entries()
+        self.store.newest().entries()
     }
 
     /// The entries in a bucket, shared.
     pub fn entries_in(&self, bucket: Bucket) -> Result<EntryMap, NoMemory>
         ensures { IfOk result (λ part. part ≡ fin.retain_keys self.now.entries (in_bucket bucket)) }
     {
-        self.store.entries_in(bucket)
+        self.store.newest().within(bucket)
+    }
+
+    /// The three parts of its documents: they hold the node's entries, and a document is ready exactly where its piece is.
+    pub fn parts(&self) -> &SubDatabases
+        ensures { ArePlaced self.now.entries self.now.pieces result.now }
+    {
+        self.store.parts()
     }
 
     /// The pieces, in the order of their runs.
@@ -296,7 +306,7 @@ impl NodePart {
         if self.regions.is_empty() {
             return Ok(LaterChanges::none(self.alloc));
         }
-        if !self.store.is_behind(entries) {
+        if !entries.has_newer(self.store.newest()) {
             return Ok(LaterChanges::none(self.alloc));
         }
         let mut list = entries_in_order(entries)?;
@@ -341,9 +351,6 @@ impl NodePart {
             return Err(StoreFault::NoBucket);
         }
         let Ok(changes) = self.take_of(node, key, entry) else {
-            return Err(StoreFault::NoMemory);
-        };
-        let Ok(entry) = entry.copy(self.alloc) else {
             return Err(StoreFault::NoMemory);
         };
         match self.store.store(key, entry) {

@@ -1,5 +1,5 @@
 -- The lane of a document, and what may be asked of lanes.
-use Rattle.std.proofs.Common.{◌≡◌, ◌<◌, ◌≤◌, ◌^◌, ℕ, Bool, List, Option, None, Some, IfSome, refl, sym, ap, ◌∙◌, subst, arith, length, map, slice_get, slice_index_or, set}
+use Rattle.std.proofs.Common.{◌≡◌, ◌<◌, ◌≤◌, ◌^◌, ℕ, zero, suc, Bool, List, [], ◌∷◌, Option, None, Some, IfSome, inl, inr, refl, sym, ap, ap₂, ◌∙◌, subst, arith, length, map, slice_get, slice_index_or, set}
 use Rattle.std.specs.Option.{IsSome}
 use Rattle.std.proofs.Math.Pow.{pow_mono}
 use Rattle.std.proofs.lemmas.List.{length-map}
@@ -23,24 +23,28 @@ use Rattle.lane_lives.specs.LaneValues.{LaneValue, IsLaneValue}
 use Rattle.lane_keeping.specs.Tidings.{last_state}
 use Rattle.lane_lives.specs.declared.setting.Setting.{Setting}
 use Rattle.lane_lives.specs.Settings.{lane_count}
-use Rattle.lane_lives.specs.Lives.{Deed, lines_of, last_line, newest_in}
+use Rattle.lane_lives.specs.Lives.{Deed, FeedLine, lines_of, last_line, newest_in}
 use Rattle.lane_core.specs.Runs.{IsLineRun}
 use Rattle.lane_lives.specs.Serving.{bucket_in, IsServing}
 use Rattle.lane_core.proofs.Served.{serving_fresh, serving_heard, serving_newest, serving_told}
 use Rattle.lane_core.specs.Shelved.{with_lane, OfLane}
-use Rattle.session_cluster.specs.Cells.{Cell, ShownLane, own_lane, lanes_in, shelves_in}
+use Rattle.lane_core.specs.Showing.{IsSettled}
+use Rattle.shelves.specs.Plain.{Plain, ShowsPlain}
+use Rattle.view_changes.specs.Opening.{opening}
+use Rattle.view_changes.specs.Views.{View}
+use Rattle.session_cluster.specs.Cells.{Cell, ShownLane, ShownCell, own_lane, lanes_in, shelves_in}
 use Rattle.session_cluster.specs.Deeds.{told_with, deeds_of_lane}
 use Rattle.session_cluster.specs.Keeping.{IsReady}
 use Rattle.session_cluster.specs.Lanes.{lane_of_id}
 use Rattle.session_cluster.specs.Output.{state_answer, plan_answer}
 use Rattle.session_cluster.specs.Searches.{fronts_of}
 use Rattle.session_cluster.specs.Spans.{spans_of}
-use Rattle.session_cluster.specs.Steps.{with_room, after_state, EachLane, IsTelling, IsRoomy, MayAnnounce, MayMaintain, HasTypes, MayRun, IsOperatedIn, IsDoneInEach, IsStateTold, IsToldRoomy, IsPlannedIn}
+use Rattle.session_cluster.specs.Steps.{with_room, after_state, EachLane, IsTelling, IsRoomy, MayAnnounce, MayMaintain, HasTypes, MayRun, IsOperatedIn, IsDoneInEach, IsStateTold, IsToldRoomy, IsPlannedIn, MayHavePassed, MayHaveAllPassed, IsSettledLane, AreSettled, first_view, unheard}
 use Rattle.session_cluster.proofs.DeedLists.{deeds_told, lines_low}
 use Rattle.session_cluster.proofs.Elements.{element_map, set_there, seen_map}
 use Rattle.session_cluster.proofs.KeptLanes.{lane_there}
-use Rattle.session_cluster.proofs.LaneLists.{lane_small}
-use Rattle.session_cluster.proofs.ShelvedLanes.{lanes_did, shelves_did, each_of, cell-in, lane_index, lanes_set, shelves_set}
+use Rattle.session_cluster.proofs.LaneLists.{lane_small, item-at}
+use Rattle.session_cluster.proofs.ShelvedLanes.{lanes_did, shelves_did, each_of, cell-in, lane_index, lanes_set, settled_is, settled_set, each_settled}
 
 -- ---- which lane it is
 
@@ -66,38 +70,52 @@ found at n c xs s below same from value = found-lane at n c (lanes_in xs) s.lane
 pub look_up : (at n : ℕ) (c : Cell) (xs : List ShownLane) → at < length c.lanes → lanes_in xs ≡ c.lanes → n ≡ at → n < length xs
 look_up at n c xs below same from = let small = look-up-lane at n c (lanes_in xs) below same from in omega (arith, small, length-map xs own_lane)
 
--- one lane of a cluster is another, and its shelf is the same
-one-lane : (old inside : Cell) (xs : List ShownLane) (n at line : ℕ) (s t : ShownLane) → inside ≡ old → inside.lanes ≡ lanes_in xs → inside.shelves ≡ shelves_in xs → n ≡ at → t.shelf ≡ (slice_index_or xs n s).shelf
-    → ◌≡◌ {A = Cell} (record inside { lanes = lanes_in (set xs n t); shelves = shelves_in (set xs n t); dealt = line }) (record old { lanes = set old.lanes at t.lane; dealt = line })
-one-lane old inside xs n at line s t is lanes shelves from shelf =
-    cell-in old inside (lanes_in (set xs n t)) (set old.lanes at t.lane) (shelves_in (set xs n t)) line is
+-- one lane of a cluster is another
+one-lane : (old inside : Cell) (xs : List ShownLane) (n at line : ℕ) (t : ShownLane) → inside ≡ old → inside.lanes ≡ lanes_in xs → n ≡ at
+    → ◌≡◌ {A = Cell} (record inside { lanes = lanes_in (set xs n t); dealt = line }) (record old { lanes = set old.lanes at t.lane; dealt = line })
+one-lane old inside xs n at line t is lanes from =
+    cell-in old inside (lanes_in (set xs n t)) (set old.lanes at t.lane) line is
     (lanes_set xs n t ∙ (ap (λ (vs : List LaneValue). set vs n t.lane) (sym lanes ∙ ap (λ (x : Cell). x.lanes) is) ∙ ap (λ m. set old.lanes m t.lane) from))
-    (shelves_set xs n t s shelf ∙ sym shelves)
 
-pub operated_in : (line at n : ℕ) (op : Operation) (via : Option ℕ) (old inside : Cell) (xs : List ShownLane) (s t : ShownLane) (x : Outcome) → at < length old.lanes → inside ≡ old → inside.lanes ≡ lanes_in xs → inside.shelves ≡ shelves_in xs → n ≡ at → s ≡ slice_index_or xs n s
-    → IsLineRun (record { number = line; operation = op; via = via }) s.lane t.lane x → t.shelf ≡ s.shelf
-    → IsOperatedIn at line op via old (record inside { lanes = lanes_in (set xs n t); shelves = shelves_in (set xs n t); dealt = line }) x
-operated_in line at n op via old inside xs s t x below is lanes shelves from value ran shelf = record {
+-- the operation ran in it, and what changed there was shown, or not
+pub operated_in : (line at n : ℕ) (op : Operation) (via : Option ℕ) (old inside : Cell) (xs : List ShownLane) (s t u : ShownLane) (x : Outcome) → at < length old.lanes → inside ≡ old → inside.lanes ≡ lanes_in xs → n ≡ at → s ≡ slice_index_or xs n s
+    → IsLineRun (record { number = line; operation = op; via = via }) s.lane t.lane x → u.lane ≡ t.lane
+    → IsOperatedIn at line op via old (record inside { lanes = lanes_in (set xs n u); dealt = line }) x
+operated_in line at n op via old inside xs s t u x below is lanes from value ran same = record {
   before = s.lane;
-  after = t.lane;
+  after = u.lane;
   there = found at n old xs s below (sym lanes ∙ ap (λ (c : Cell). c.lanes) is) from value;
-  ran = ran;
-  now = one-lane old inside xs n at line s t is lanes shelves from (shelf ∙ ap (λ (z : ShownLane). z.shelf) value);
+  ran = subst (λ (v : LaneValue). IsLineRun (record { number = line; operation = op; via = via }) s.lane v x) (sym same) ran;
+  now = one-lane old inside xs n at line u is lanes from;
 }
 
-pub planned_in : (line at n : ℕ) (given fates : List Fate) (old inside : Cell) (xs : List ShownLane) (s t : ShownLane) (taken : Bool) → at < length old.lanes → inside ≡ old → inside.lanes ≡ lanes_in xs → inside.shelves ≡ shelves_in xs → n ≡ at → s ≡ slice_index_or xs n s
+-- that lane as it is settled then
+pub ran_settled : (line : FeedLine) (old : ShownCell) (xs : List ShownLane) (n : ℕ) (s t u : ShownLane) (x : Outcome) → old.cell.lanes ≡ lanes_in xs → old.shelves ≡ shelves_in xs → n < length xs → s ≡ slice_index_or xs n s → AreSettled old
+    → IsLineRun line s.lane t.lane x → t.shelf ≡ s.shelf → u.lane ≡ t.lane → first_view u.shelf ≡ first_view t.shelf → IsSettled ShowsPlain (λ (p : Plain). p.pending) u → EachLane IsSettledLane (set xs n u)
+ran_settled line old xs n s t u x lanes shelves below value settled ran shelf same first shown =
+    let all = each_settled xs old lanes shelves settled in
+    let was : first_view s.shelf ≡ unheard s.lane = ap first_view (all n s (item-at xs n s below value)).0 in
+    settled_set xs n u all (settled_is u (first ∙ (ap first_view shelf ∙ (was ∙ sym (ap unheard same ∙ ap unheard ran.after)))) shown)
+
+pub planned_in : (line at n : ℕ) (given fates : List Fate) (old inside : Cell) (xs : List ShownLane) (s t : ShownLane) (taken : Bool) → at < length old.lanes → inside ≡ old → inside.lanes ≡ lanes_in xs → n ≡ at → s ≡ slice_index_or xs n s
     → given ≡ fates → taken ≡ s.lane.takes_plans → t ≡ record s { lane = record s.lane { planned = planned_with taken s.lane.planned given } }
-    → IsPlannedIn line at fates old (record inside { lanes = lanes_in (set xs n t); shelves = shelves_in (set xs n t); dealt = line })
-planned_in line at n given fates old inside xs s t taken below is lanes shelves from value are took after =
+    → IsPlannedIn line at fates old (record inside { lanes = lanes_in (set xs n t); dealt = line })
+planned_in line at n given fates old inside xs s t taken below is lanes from value are took after =
     let v : LaneValue = s.lane in
     let lane : t.lane ≡ record v { planned = planned_with v.takes_plans v.planned fates }
     = ap (λ (z : ShownLane). z.lane) after ∙ ap (λ b. record v { planned = planned_with b v.planned given }) took ∙ ap (λ fs. record v { planned = planned_with v.takes_plans v.planned fs }) are in
     record {
       before = v;
       there = found at n old xs s below (sym lanes ∙ ap (λ (c : Cell). c.lanes) is) from value;
-      now = one-lane old inside xs n at line s t is lanes shelves from (ap (λ (z : ShownLane). z.shelf) after ∙ ap (λ (z : ShownLane). z.shelf) value)
-          ∙ ap (λ (x : LaneValue). record old { lanes = set old.lanes at x; dealt = line }) lane;
+      now = one-lane old inside xs n at line t is lanes from ∙ ap (λ (x : LaneValue). record old { lanes = set old.lanes at x; dealt = line }) lane;
     }
+
+-- and is settled still
+pub plan_settled : (old : ShownCell) (xs : List ShownLane) (n : ℕ) (given : List Fate) (s t : ShownLane) (taken : Bool) → old.cell.lanes ≡ lanes_in xs → old.shelves ≡ shelves_in xs → n < length xs → s ≡ slice_index_or xs n s → AreSettled old
+    → t ≡ record s { lane = record s.lane { planned = planned_with taken s.lane.planned given } } → EachLane IsSettledLane (set xs n t)
+plan_settled old xs n given s t taken lanes shelves below value settled after =
+    let all = each_settled xs old lanes shelves settled in
+    settled_set xs n t all (subst IsSettledLane (sym after) (all n s (item-at xs n s below value)))
 
 -- what the plan is answered
 pub plan_told : (at n : ℕ) (fates : List Fate) (c : Cell) (xs : List ShownLane) (s t : ShownLane) (taken : Bool) → at < length c.lanes → lanes_in xs ≡ c.lanes → n ≡ at → taken ≡ s.lane.takes_plans
@@ -222,25 +240,27 @@ pub may_announce_after : (state : ClusterState) (old mid : Cell) → mid ≡ rec
 may_announce_after state old mid room telling none = all_may_announce old.told state old.lanes mid.lanes (sym (ap (fault_in state) room) ∙ none) telling (ap (λ (x : Cell). x.lanes) room)
 
 -- every lane of a cluster did it, whose lanes with their shelves were these
-pub all_did : (line : ℕ) (f : LaneValue → LaneValue) (old inside : Cell) (items vs ws shown : List ShownLane) → inside ≡ old → inside.lanes ≡ lanes_in items → inside.shelves ≡ shelves_in items → vs ≡ items → ws ≡ map (with_lane f) vs → EachLane (OfLane IsLaneValue) ws → shown ≡ ws
-    → IsDoneInEach line f old (record inside { lanes = lanes_in shown; shelves = shelves_in shown; dealt = line })
-all_did line f old inside items vs ws shown is lanes shelves same after holds shows = record {
-  now = cell-in old inside (lanes_in shown) (map f old.lanes) (shelves_in shown) line is
-      (lanes_did f vs shown (shows ∙ after) ∙ ap (map f) (ap lanes_in same ∙ (sym lanes ∙ ap (λ (x : Cell). x.lanes) is)))
-      (shelves_did f vs shown (shows ∙ after) ∙ (ap shelves_in same ∙ sym shelves));
+pub all_did : (line : ℕ) (f : LaneValue → LaneValue) (old inside : Cell) (items vs ws shown : List ShownLane) → inside ≡ old → inside.lanes ≡ lanes_in items → vs ≡ items → ws ≡ map (with_lane f) vs → EachLane (OfLane IsLaneValue) ws → shown ≡ ws
+    → IsDoneInEach line f old (record inside { lanes = lanes_in shown; dealt = line })
+all_did line f old inside items vs ws shown is lanes same after holds shows = record {
+  now = cell-in old inside (lanes_in shown) (map f old.lanes) line is (lanes_did f vs shown (shows ∙ after) ∙ ap (map f) (ap lanes_in same ∙ (sym lanes ∙ ap (λ (x : Cell). x.lanes) is)));
   holds = subst (λ (xs : List ShownLane). EachLane IsLaneValue (lanes_in xs)) (sym shows) (each_of IsLaneValue ws holds);
 }
+
+-- and their shelves are the same
+pub all_left : (f : LaneValue → LaneValue) (items vs ws shown : List ShownLane) (ps : List Plain) → shelves_in items ≡ ps → vs ≡ items → ws ≡ map (with_lane f) vs → shown ≡ ws → shelves_in shown ≡ ps
+all_left f items vs ws shown ps are same after shows = shelves_did f vs shown (shows ∙ after) ∙ (ap shelves_in same ∙ are)
 
 -- nothing stands against the state
 pub no_fault : (state : ClusterState) (old inside : Cell) → inside ≡ old → publish_fault inside.told state ≡ None → publish_fault old.told state ≡ None
 no_fault state old inside is none = sym (ap (fault_in state) is) ∙ none
 
-pub all_announced : (line : ℕ) (state : ClusterState) (deaf : ℕ) (old inside : Cell) (items vs ws shown : List ShownLane) (now : Told) → inside ≡ old → inside.lanes ≡ lanes_in items → inside.shelves ≡ shelves_in items → vs ≡ items → now ≡ told_with None state inside.told
+pub all_announced : (line : ℕ) (state : ClusterState) (deaf : ℕ) (old inside : Cell) (items vs ws shown : List ShownLane) (now : Told) → inside ≡ old → inside.lanes ≡ lanes_in items → vs ≡ items → now ≡ told_with None state inside.told
     → ws ≡ map (with_lane (after_state state deaf)) vs → EachLane (OfLane IsLaneValue) ws → publish_fault inside.told state ≡ None → shown ≡ ws
-    → IsToldRoomy line (publish_fault old.told state) state deaf old (record inside { told = now; lanes = lanes_in shown; shelves = shelves_in shown; dealt = line })
-all_announced line state deaf old inside items vs ws shown now is lanes shelves same told after holds none shows =
-    let d : IsDoneInEach line (after_state state deaf) old (record inside { lanes = lanes_in shown; shelves = shelves_in shown; dealt = line }) = all_did line (after_state state deaf) old inside items vs ws shown is lanes shelves same after holds shows in
-    subst (λ o. IsToldRoomy line o state deaf old (record inside { told = now; lanes = lanes_in shown; shelves = shelves_in shown; dealt = line })) (sym (no_fault state old inside is none)) (record {
+    → IsToldRoomy line (publish_fault old.told state) state deaf old (record inside { told = now; lanes = lanes_in shown; dealt = line })
+all_announced line state deaf old inside items vs ws shown now is lanes same told after holds none shows =
+    let d : IsDoneInEach line (after_state state deaf) old (record inside { lanes = lanes_in shown; dealt = line }) = all_did line (after_state state deaf) old inside items vs ws shown is lanes same after holds shows in
+    subst (λ o. IsToldRoomy line o state deaf old (record inside { told = now; lanes = lanes_in shown; dealt = line })) (sym (no_fault state old inside is none)) (record {
       now = ap (λ (x : Cell). record x { told = now }) d.now ∙ ap (λ t. record old { told = t; lanes = map (after_state state deaf) old.lanes; dealt = line }) (told ∙ ap (λ (x : Cell). told_with None state x.told) is);
       holds = d.holds;
     })
@@ -248,3 +268,28 @@ all_announced line state deaf old inside items vs ws shown now is lanes shelves 
 -- as many lanes as before
 pub same_many : (f : LaneValue → LaneValue) (inside vs ws : List ShownLane) (n : ℕ) → n ≡ length inside → vs ≡ inside → ws ≡ map (with_lane f) vs → length ws ≡ n
 same_many f inside vs ws n count same after = ap length after ∙ length-map vs (with_lane f) ∙ ap length same ∙ sym count
+
+-- ---- lanes that have the types that they had
+
+unheard_map : (f : LaneValue → LaneValue) → ((v : LaneValue) → (f v).types ≡ v.types) → (vs : List LaneValue) → map unheard (map f vs) ≡ map unheard vs
+unheard_map f same [] = refl
+unheard_map f same (v ∷ vs) = ap₂ (λ (w : View) (ws : List View). w ∷ ws) (ap opening (same v)) (unheard_map f same vs)
+
+pub done_unheard : (line : ℕ) (f : LaneValue → LaneValue) (old new : Cell) → ((v : LaneValue) → (f v).types ≡ v.types) → IsDoneInEach line f old new → map unheard new.lanes ≡ map unheard old.lanes
+done_unheard line f old new same d = ap (λ (c : Cell). map unheard c.lanes) d.now ∙ unheard_map f same old.lanes
+
+pub told_unheard : (line : ℕ) (o : Option PublishFault) (state : ClusterState) (deaf : ℕ) (old new : Cell) → IsStateTold line o state deaf old new → map unheard new.lanes ≡ map unheard old.lanes
+told_unheard line None state deaf old new d = ap (λ (c : Cell). map unheard c.lanes) d.now ∙ unheard_map (after_state state deaf) (λ v. refl) old.lanes
+told_unheard line (Some why) state deaf old new d = ap (λ (c : Cell). map unheard c.lanes) d ∙ unheard_map with_room (λ v. refl) old.lanes
+
+passed_types : (v w : LaneValue) → MayHavePassed v w → unheard w ≡ unheard v
+passed_types v w (inl same) = ap unheard same
+passed_types v w (inr m) = ap unheard (m.0).after
+
+pub passed_unheard : (vs ws : List LaneValue) → MayHaveAllPassed vs ws → map unheard ws ≡ map unheard vs
+passed_unheard [] [] d = refl
+passed_unheard [] (w ∷ ws) d = absurd (omega (arith, d.count))
+passed_unheard (v ∷ vs) [] d = absurd (omega (arith, d.count))
+passed_unheard (v ∷ vs) (w ∷ ws) d =
+    ap₂ (λ (x : View) (xs : List View). x ∷ xs) (passed_types v w (d.each zero v w refl refl))
+    (passed_unheard vs ws (record { count = omega (arith, d.count); each = λ lane x y was is. d.each (suc lane) x y was is }))

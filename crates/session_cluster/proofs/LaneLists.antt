@@ -5,7 +5,8 @@ use Rattle.std.proofs.lemmas.Nat.{mod_below, pow_pos}
 use Rattle.global_ids.specs.Keys.{key_of, lane_of}
 use Rattle.lane_journals.specs.KeptJournals.{past}
 use Rattle.lane_lives.specs.LaneValues.{LaneValue}
-use Rattle.session_cluster.specs.Cells.{ShownLane, own_lane, lanes_in}
+use Rattle.lane_core.specs.Shelved.{Shelved}
+use Rattle.session_cluster.specs.Cells.{own_lane, lanes_in}
 use Rattle.session_cluster.specs.Lanes.{Journal, lane_of_id, journal_in}
 use Rattle.session_cluster.proofs.Elements.{map_there}
 
@@ -50,26 +51,26 @@ past_none = refl
 pub no_journal : (vs shown : List LaneValue) (lane at : ℕ) → shown ≡ vs → at ≡ lane → length shown ≤ at → past [] ≡ journal_in lane (map journal_is vs)
 no_journal vs shown lane at same is h = past_none ∙ sym (journal_past vs lane (omega (arith, ap length same, is, h)))
 
--- ---- of lanes with their shelves
+-- ---- of lanes, whatever shelves they have
 
-pub journal_of_lane : (xs : List ShownLane) (lane : ℕ) (s : ShownLane) → slice_get xs lane ≡ Some s → journal_in lane (map journal_is (lanes_in xs)) ≡ s.lane.journal
+pub journal_of_lane : {H : Type 0} (xs : List (Shelved H)) (lane : ℕ) (s : Shelved H) → slice_get xs lane ≡ Some s → journal_in lane (map journal_is (lanes_in xs)) ≡ s.lane.journal
 journal_of_lane [] zero s h = cc h
 journal_of_lane [] (suc lane) s h = cc h
-journal_of_lane (x ∷ xs) zero s h = ap (λ (t : ShownLane). t.lane.journal) (some_is h)
+journal_of_lane (x ∷ xs) zero s h = ap (λ t. t.lane.journal) (some_is h)
   where
-    some_is : {a b : ShownLane} → Some a ≡ Some b → a ≡ b
+    some_is : {X : Type 0} {a b : X} → Some a ≡ Some b → a ≡ b
     some_is e = cc
 journal_of_lane (x ∷ xs) (suc lane) s h = journal_of_lane xs lane s h
 
-pub journal_past_lanes : (xs : List ShownLane) (lane : ℕ) → length xs ≤ lane → journal_in lane (map journal_is (lanes_in xs)) ≡ []
+pub journal_past_lanes : {H : Type 0} (xs : List (Shelved H)) (lane : ℕ) → length xs ≤ lane → journal_in lane (map journal_is (lanes_in xs)) ≡ []
 journal_past_lanes xs lane h = journal_past (lanes_in xs) lane (omega (arith, length-map xs own_lane, h))
 
 -- the lane that was looked up among them
-item-at : {X : Type 0} (xs : List X) (i : ℕ) (x : X) → i < length xs → x ≡ slice_index_or xs i x → slice_get xs i ≡ Some x
+pub item-at : {X : Type 0} (xs : List X) (i : ℕ) (x : X) → i < length xs → x ≡ slice_index_or xs i x → slice_get xs i ≡ Some x
 item-at [] i x h is = absurd (omega (arith, h))
 item-at (y ∷ xs) zero x h is = ap Some (sym is)
 item-at (y ∷ xs) (suc i) x h is = item-at xs i x (omega (arith, h)) is
 
-pub seen-lane : (xs shown : List ShownLane) (vs : List LaneValue) (n lane : ℕ) (s : ShownLane) → shown ≡ xs → lanes_in xs ≡ vs → n ≡ lane → n < length shown → s ≡ slice_index_or shown n s → slice_get vs lane ≡ Some s.lane
+pub seen-lane : {H : Type 0} (xs shown : List (Shelved H)) (vs : List LaneValue) (n lane : ℕ) (s : Shelved H) → shown ≡ xs → lanes_in xs ≡ vs → n ≡ lane → n < length shown → s ≡ slice_index_or shown n s → slice_get vs lane ≡ Some s.lane
 seen-lane xs shown vs n lane s same seen from below is =
     sym (ap (λ (us : List LaneValue). slice_get us lane) (ap lanes_in same ∙ seen)) ∙ (sym (ap (λ m. slice_get (lanes_in shown) m) from) ∙ map_there own_lane shown n s (item-at shown n s below is))

@@ -8,7 +8,6 @@ pub mod FrontLists
 pub mod SearchLaws
 pub mod SessionSteps
 pub mod Moving
-pub mod Nearly
 pub mod ShelvedLanes
 -- Of this crate alone.
 mod NotedLists

@@ -24,13 +24,12 @@ use Rattle.session_cluster.specs.Lanes.{lane_of_id, journal_in}
 use Rattle.session_cluster.specs.Output.{plan_answer, operation_answer, upkeep_answer, found_answer_of, answer_in}
 use Rattle.session_cluster.specs.Searches.{fronts_of}
 use Rattle.session_cluster.specs.Spans.{spans_of}
-use Rattle.session_cluster.specs.Steps.{with_room, after_state, after_stop, after_start, IsOperatedIn, IsStateTold, MayHavePassed, MayHaveAllPassed, IsAfter}
+use Rattle.session_cluster.specs.Steps.{with_room, without_room, after_state, after_stop, after_start, IsOperatedIn, IsStateTold, MayHavePassed, MayHaveAllPassed, IsAfter}
 use Rattle.session_cluster.specs.declared.asked.Asked.{Asked}
 use Rattle.session_cluster.specs.declared.asked.Asked.TheVariants as command
 use Rattle.session_cluster.proofs.Elements.{map_there}
 use Rattle.session_cluster.proofs.KeptLanes.{lane_there}
 use Rattle.session_cluster.proofs.LaneLists.{journal_is, journal_at, journal_past, journal_set, journal_other}
-use Rattle.session_cluster.proofs.Nearly.{bare}
 use Rattle.session_cluster.proofs.SessionSteps.{after_plan, takes_same}
 
 -- in each lane the line came, or nothing changed; and whether its carrier takes plans is as it was
@@ -181,19 +180,19 @@ moves s plans cs (command.BadQuery offset) old new k kept now = same_moves k old
 
 -- ---- room and what is shown
 
-pub journals_seen : (vs ws : List LaneValue) → map bare ws ≡ map bare vs → journals ws ≡ journals vs
+pub journals_seen : (vs ws : List LaneValue) → map without_room ws ≡ map without_room vs → journals ws ≡ journals vs
 journals_seen vs ws same = sym (unseen ws) ∙ ap (map journal_is) same ∙ unseen vs
   where
-    unseen : (us : List LaneValue) → map journal_is (map bare us) ≡ map journal_is us
+    unseen : (us : List LaneValue) → map journal_is (map without_room us) ≡ map journal_is us
     unseen [] = refl
     unseen (u ∷ us) = ap (λ Js. u.journal ∷ Js) (unseen us)
 
-pub plans_seen : (vs ws : List LaneValue) → map bare ws ≡ map bare vs → (lane : ℕ) → plan_answer (slice_get ws lane) ≡ plan_answer (slice_get vs lane)
+pub plans_seen : (vs ws : List LaneValue) → map without_room ws ≡ map without_room vs → (lane : ℕ) → plan_answer (slice_get ws lane) ≡ plan_answer (slice_get vs lane)
 plans_seen vs ws same lane =
-    sym (plans_map bare (λ v. refl) ws lane) ∙ ap (λ us. plan_answer (slice_get us lane)) same ∙ plans_map bare (λ v. refl) vs lane
+    sym (plans_map without_room (λ v. refl) ws lane) ∙ ap (λ us. plan_answer (slice_get us lane)) same ∙ plans_map without_room (λ v. refl) vs lane
 
 -- and then a line's answer is the same
-pub answer_seen : (s : Setting) (told : Told) (j : ℕ) (c : Asked) (vs ws : Cell) → map bare ws.lanes ≡ map bare vs.lanes → ws.upkeeps ≡ vs.upkeeps → ws.fronts ≡ vs.fronts → answer_in s told j c ws ≡ answer_in s told j c vs
+pub answer_seen : (s : Setting) (told : Told) (j : ℕ) (c : Asked) (vs ws : Cell) → map without_room ws.lanes ≡ map without_room vs.lanes → ws.upkeeps ≡ vs.upkeeps → ws.fronts ≡ vs.fronts → answer_in s told j c ws ≡ answer_in s told j c vs
 answer_seen s told j command.Blank vs ws same spans fronts = refl
 answer_seen s told j command.TooLong vs ws same spans fronts = refl
 answer_seen s told j (command.Bad why) vs ws same spans fronts = refl

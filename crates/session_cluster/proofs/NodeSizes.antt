@@ -3,11 +3,12 @@ use Rattle.std.proofs.Common.{◌≡◌, ◌<◌, ◌≤◌, ◌+◌, ◌-◌, �
 use Rattle.std.proofs.Math.Seq.{take-suc}
 use Rattle.std.proofs.lemmas.List.{map-append, take_all}
 use Rattle.std.proofs.lemmas.List.Sums.{sum_by-append}
+use Rattle.lane_core.specs.Shelved.{Shelved}
 use Rattle.lane_lives.specs.LaneValues.{LaneValue}
 use Rattle.lane_keeping.specs.Shown.{HasEntries}
 use Rattle.session_cluster.specs.Lanes.{Journal}
 use Rattle.session_cluster.specs.Sizes.{AreSizes, HasSize}
-use Rattle.session_cluster.specs.Cells.{ShownLane, lanes_in}
+use Rattle.session_cluster.specs.Cells.{lanes_in}
 use Rattle.session_cluster.proofs.LaneLists.{journal_is}
 use Rattle.session_cluster.proofs.ShelvedLanes.{past_lanes}
 
@@ -50,6 +51,6 @@ whole_size node size k vs ws has past same = subst (λ us. HasSize node (map jou
     all_taken : (vs : List LaneValue) (k : ℕ) → length vs ≤ k → take k vs ≡ vs
     all_taken vs k h = take_all k vs h
 
--- of lanes with their shelves
-pub size_of_lanes : (node size k : ℕ) (xs : List ShownLane) (ws : List LaneValue) → HasSize node (map journal_is (take k (lanes_in xs))) size → length xs ≤ k → lanes_in xs ≡ ws → HasSize node (map journal_is ws) size
+-- of lanes, whatever shelves they have
+pub size_of_lanes : {H : Type 0} (node size k : ℕ) (xs : List (Shelved H)) (ws : List LaneValue) → HasSize node (map journal_is (take k (lanes_in xs))) size → length xs ≤ k → lanes_in xs ≡ ws → HasSize node (map journal_is ws) size
 size_of_lanes node size k xs ws has past same = whole_size node size k (lanes_in xs) ws has (past_lanes xs k past) same

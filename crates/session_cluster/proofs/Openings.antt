@@ -6,7 +6,6 @@ use Rattle.lane_lives.specs.declared.setting.Setting.{Setting}
 use Rattle.lane_lives.specs.Serving.{IsServing}
 use Rattle.session_cluster.specs.Cells.{Cell, ShownLane, lanes_in}
 use Rattle.session_cluster.specs.Deeds.{first_told}
-use Rattle.shelves.specs.Plain.{Plain}
 use Rattle.session_cluster.specs.Steps.{EachLane, IsSettledLane}
 use Rattle.session_cluster.specs.Keeping.{AreOpenTo, AreOpen, IsKept}
 
@@ -49,5 +48,5 @@ one_more_settled xs ys s settled is now = subst (EachLane IsSettledLane) (sym no
   | inr new ↦ subst IsSettledLane new.1 is
 ])
 
-pub kept_none : (s : Setting) (plans : ℕ → List Fate) (vs : List LaneValue) (ps : List Plain) (c : Cell) → AreOpen s plans vs → c ≡ record { bits = s.bits; told = first_told s; lanes = vs; shelves = ps; dealt = 0; upkeeps = []; fronts = [] } → IsKept s plans [] c
-kept_none s plans vs ps c opened now = subst (IsKept s plans []) (sym now) (record { bits = refl; told = refl; dealt = refl; lanes = opened.count_is; serving = λ lane v at. opened.serving lane v at; unkept = λ line later. refl; unread = λ line later. refl })
+pub kept_none : (s : Setting) (plans : ℕ → List Fate) (vs : List LaneValue) (c : Cell) → AreOpen s plans vs → c ≡ record { bits = s.bits; told = first_told s; lanes = vs; dealt = 0; upkeeps = []; fronts = [] } → IsKept s plans [] c
+kept_none s plans vs c opened now = subst (IsKept s plans []) (sym now) (record { bits = refl; told = refl; dealt = refl; lanes = opened.count_is; serving = λ lane v at. opened.serving lane v at; unkept = λ line later. refl; unread = λ line later. refl })

@@ -16,13 +16,13 @@ use Rattle.lane_lives.specs.Serving.{IsServing}
 use Rattle.lane_core.proofs.Served.{serves_run, serves_announced, serves_stopped, serves_started, serves_room, serves_planned, serves_upkept, serves_spanned}
 use Rattle.session_cluster.specs.Cells.{Cell}
 use Rattle.session_cluster.specs.Deeds.{first_told, told_with, told_next, told_of, with_state, with_line, deeds_of_lane, planned_next, planned_for}
-use Rattle.session_cluster.specs.Keeping.{IsKept, IsReady}
+use Rattle.session_cluster.specs.Keeping.{IsKept}
 use Rattle.session_cluster.specs.Lanes.{lane_of_id}
 use Rattle.lane_lives.specs.Upkeep.{MayBeUpkept}
 use Rattle.query_text.specs.Grammar.{Said}
 use Rattle.session_cluster.specs.Searches.{fronts_of, fronts_now}
 use Rattle.session_cluster.specs.Spans.{spans_of, span_in}
-use Rattle.session_cluster.specs.Steps.{with_room, after_state, after_stop, after_start, IsOperatedIn, IsDoneInEach, IsPublished, IsStateTold, IsPlannedIn, MayHavePassed, HasSpans, IsMaintained, IsSearched, IsAfter, EachLane, HasTypes, HasOpening, AreSettled}
+use Rattle.session_cluster.specs.Steps.{with_room, without_room, after_state, after_stop, after_start, IsOperatedIn, IsDoneInEach, IsPublished, IsStateTold, IsPlannedIn, MayHavePassed, HasSpans, IsMaintained, IsSearched, IsRoomier, IsAfter}
 use Rattle.session_cluster.specs.declared.asked.Asked.{Asked}
 use Rattle.session_cluster.specs.declared.asked.Asked.TheVariants as command
 use Rattle.session_cluster.specs.declared.cluster.LineSpans.{LineSpans}
@@ -30,8 +30,6 @@ use Rattle.lane_lives.specs.declared.spans.UpkeepSpan.{UpkeepSpan}
 use Rattle.session_cluster.proofs.DeedLists.{told_push, deeds_push, deeds_same, planned_push, with_own, with_other, plan_own, plan_other, lines_low}
 use Rattle.session_cluster.proofs.Elements.{element_set, element_map, element_seen}
 use Rattle.session_cluster.proofs.FrontLists.{fronts_other}
-use Rattle.session_cluster.proofs.Nearly.{bare, IsNearly}
-use Rattle.session_cluster.proofs.ShelvedLanes.{opens_settled}
 use Rattle.session_cluster.proofs.SpanLists.{spans_other, spans_own}
 
 count_next : (cs : List Asked) (c : Asked) (k : ℕ) → k ≡ length cs + 1 → k ≡ length (cs ++ c ∷ [])
@@ -394,56 +392,29 @@ leaves_fronts s c old new k after = elim (read_after s c old new k after) [
   | inr same ↦ same_fronts k old new same
 ]
 
--- ---- whose shelves a line leaves, and which types its lanes have
-
-shelves_told : (k : ℕ) (o : Option PublishFault) (state : ClusterState) (deaf : ℕ) (old new : Cell) → IsStateTold k o state deaf old new → new.shelves ≡ old.shelves
-shelves_told k None state deaf old new d = ap (λ (x : Cell). x.shelves) d.now
-shelves_told k (Some why) state deaf old new d = ap (λ (x : Cell). x.shelves) d
-
-pub leaves_shelves : (s : Setting) (c : Asked) (old new : Cell) (k : ℕ) → IsAfter s k c old new → new.shelves ≡ old.shelves
-leaves_shelves s command.Blank old new k now = ap (λ (x : Cell). x.shelves) now
-leaves_shelves s command.TooLong old new k now = ap (λ (x : Cell). x.shelves) now
-leaves_shelves s (command.Bad why) old new k now = ap (λ (x : Cell). x.shelves) now
-leaves_shelves s (command.Feed op via) old new k now = ap (λ (x : Cell). x.shelves) (now.1).now
-leaves_shelves s (command.State state deaf) old new k now = shelves_told k (publish_fault old.told state) state deaf old new now
-leaves_shelves s (command.BadState offset) old new k now = ap (λ (x : Cell). x.shelves) now
-leaves_shelves s (command.Stop node) old new k now = ap (λ (x : Cell). x.shelves) now.now
-leaves_shelves s (command.Start node) old new k now = ap (λ (x : Cell). x.shelves) now.now
-leaves_shelves s (command.Net at fates) old new k now = ap (λ (x : Cell). x.shelves) now.now
-leaves_shelves s command.Maintain old new k now = ap (λ (x : Cell). x.shelves) now.now
-leaves_shelves s (command.Search query) old new k now = ap (λ (x : Cell). x.shelves) now
-leaves_shelves s (command.BadQuery offset) old new k now = ap (λ (x : Cell). x.shelves) now
-
-pub typed_after : (s : Setting) (line : ℕ) (c : Asked) (old new : Cell) → IsReady s line old → IsAfter s line c old new → EachLane (HasTypes s.schema) new.lanes
-typed_after s line c old new ready after lane v at = ((kept_more s ready.plans ready.commands c old new line ready.kept ready.next after).serving lane v at).types_are
-
-pub opened_after : (s : Setting) (line : ℕ) (c : Asked) (old new : Cell) → IsReady s line old → AreSettled old → IsAfter s line c old new → EachLane (HasOpening s.schema) new.shelves
-opened_after s line c old new ready settled after =
-    subst (EachLane (HasOpening s.schema)) (sym (leaves_shelves s c old new line after)) (opens_settled s.schema old.lanes old.shelves settled.shelves (λ lane v at. (ready.kept.serving lane v at).types_are))
-
--- ---- room and what is shown
+-- ---- room that was made
 
 -- a lane of which all else is the same
-but_bare : (v w : LaneValue) → bare v ≡ bare w → v ≡ record w { has_room = v.has_room }
-but_bare v w same = ap (λ (x : LaneValue). record x { has_room = v.has_room }) same
+but_room : (v w : LaneValue) → without_room v ≡ without_room w → v ≡ record w { has_room = v.has_room }
+but_room v w same = ap (λ (x : LaneValue). record x { has_room = v.has_room }) same
 
-serves_nearly : (s : Setting) (plans : ℕ → List Fate) (cs : List Asked) (old new : Cell) → IsKept s plans cs old → map bare new.lanes ≡ map bare old.lanes
+serves_but_room : (s : Setting) (plans : ℕ → List Fate) (cs : List Asked) (old new : Cell) → IsKept s plans cs old → map without_room new.lanes ≡ map without_room old.lanes
     → (lane : ℕ) (v : LaneValue) → slice_get new.lanes lane ≡ Some v → IsServing s (planned_for lane v.takes_plans (plans lane) cs) lane (deeds_of_lane s old.upkeeps lane cs) v
-serves_nearly s plans cs old new kept same lane v at =
-    let found = element_seen bare old.lanes new.lanes lane v same at in
+serves_but_room s plans cs old new kept same lane v at =
+    let found = element_seen without_room old.lanes new.lanes lane v same at in
     let w = found.0 in
-    let is = but_bare v w found.1.1 in
+    let is = but_room v w found.1.1 in
     subst (λ t. IsServing s (planned_for lane t (plans lane) cs) lane (deeds_of_lane s old.upkeeps lane cs) v) (sym (ap (λ (x : LaneValue). x.takes_plans) is))
     (serves_room s (planned_for lane w.takes_plans (plans lane) cs) lane (deeds_of_lane s old.upkeeps lane cs) w v v.has_room (kept.serving lane w found.1.0) is)
 
-pub kept_nearly : (s : Setting) (plans : ℕ → List Fate) (cs : List Asked) (old new : Cell) → IsNearly old new → IsKept s plans cs old → IsKept s plans cs new
-kept_nearly s plans cs old new r kept = record {
+pub kept_roomier : (s : Setting) (plans : ℕ → List Fate) (cs : List Asked) (old new : Cell) → IsRoomier old new → IsKept s plans cs old → IsKept s plans cs new
+kept_roomier s plans cs old new r kept = record {
   bits = ap (λ (x : Cell). x.bits) r.rest ∙ kept.bits;
   told = ap (λ (x : Cell). x.told) r.rest ∙ kept.told;
   dealt = ap (λ (x : Cell). x.dealt) r.rest ∙ kept.dealt;
-  lanes = sym (length-map new.lanes bare) ∙ ap length r.lanes ∙ length-map old.lanes bare ∙ kept.lanes;
+  lanes = sym (length-map new.lanes without_room) ∙ ap length r.lanes ∙ length-map old.lanes without_room ∙ kept.lanes;
   serving = λ lane v at.
-      subst (λ us. IsServing s (planned_for lane v.takes_plans (plans lane) cs) lane (deeds_of_lane s us lane cs) v) (sym (ap (λ (x : Cell). x.upkeeps) r.rest)) (serves_nearly s plans cs old new kept r.lanes lane v at);
+      subst (λ us. IsServing s (planned_for lane v.takes_plans (plans lane) cs) lane (deeds_of_lane s us lane cs) v) (sym (ap (λ (x : Cell). x.upkeeps) r.rest)) (serves_but_room s plans cs old new kept r.lanes lane v at);
   unkept = λ line later. ap (λ (x : Cell). spans_of line x.upkeeps) r.rest ∙ kept.unkept line (subst (λ (x : Cell). x.dealt < line) r.rest later);
   unread = λ line later. ap (λ (x : Cell). fronts_of line x.fronts) r.rest ∙ kept.unread line (subst (λ (x : Cell). x.dealt < line) r.rest later);
 }

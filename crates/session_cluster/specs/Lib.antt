@@ -1,4 +1,4 @@
--- `Cells` says what a cluster is to its callers, `Asking` what lines ask, `Lanes` which lane a document belongs to, `Deeds`
+-- `Cells` says what a cluster and a session are to their callers, `Asking` what lines ask, `Lanes` which lane a document belongs to, `Deeds`
 -- which deeds lines are in each lane, `Steps` what one line makes of the cluster, `Output` the bytes that answer it, `Keeping`
 -- what a session keeps, `Noted` what is noted of lines, `Spans` how upkeep went, `Searches` how far searches read and
 -- what they find, and `Rows` and `Sizes` what is shown of rows and stores.

@@ -23,9 +23,10 @@ use Rattle.lane_core.specs.Runs.{IsLineRun}
 use Rattle.lane_core.specs.Showing.{all_changes, view_in}
 use Rattle.shelves.specs.Plain.{Plain}
 use Rattle.view_changes.specs.Opening.{opening}
+use Rattle.view_changes.specs.Views.{View}
 use Rattle.lane_lives.specs.Upkeep.{IsSpan}
 use Rattle.lane_lives.specs.declared.spans.UpkeepSpan.{UpkeepSpan}
-use Rattle.session_cluster.specs.Cells.{Cell, ShownLane}
+use Rattle.session_cluster.specs.Cells.{Cell, ShownLane, ShownCell}
 use Rattle.session_cluster.specs.Deeds.{told_with}
 use Rattle.session_cluster.specs.Lanes.{lane_of_id}
 use Rattle.session_cluster.specs.Searches.{fronts_now}
@@ -179,27 +180,25 @@ settled_shelf v = record { opening = opening v.types; view = view_in v; pending 
 abbrev pub HasFew : LaneValue → Type 0
 HasFew v = all_changes v < 18446744073709551615
 
--- a shelf showed at first a view of these types of which nothing was heard
-abbrev pub HasOpening : Types → Plain → Type 0
-HasOpening types p = p.opening ≡ opening types
-
 abbrev pub IsSettledLane : ShownLane → Type 0
 IsSettledLane s = (s.shelf ≡ settled_shelf s.lane) × HasFew s.lane
 
 -- all changes of the lanes' journals are shown
-pub record AreSettled (c : Cell) : Type 0 where
-  pub shelves : c.shelves ≡ map settled_shelf c.lanes
-  pub few : EachLane HasFew c.lanes
+pub record AreSettled (s : ShownCell) : Type 0 where
+  pub shelves : s.shelves ≡ map settled_shelf s.cell.lanes
+  pub few : EachLane HasFew s.cell.lanes
 
--- the same, but that more is shown of some lanes
-abbrev pub IsShownOn : Cell → Cell → Type 0
-IsShownOn old new = new ≡ record old { shelves = new.shelves }
+-- what a shelf showed at first
+abbrev pub first_view : Plain → View
+first_view p = p.opening
 
--- something was done, and then more was shown of some lanes
-pub record ThenShown (Done : Cell → Type 0) (new : Cell) : Type 0 where
-  pub mid : Cell
-  pub done : Done mid
-  pub shown : IsShownOn mid new
+-- the view of a lane of which nothing was heard
+abbrev pub unheard : LaneValue → View
+unheard v = opening v.types
+
+-- each shelf showed that of its lane at first
+abbrev pub AreOpened : List LaneValue → List Plain → Type 0
+AreOpened vs ps = map first_view ps ≡ map unheard vs
 
 -- ---- any line
 
@@ -218,10 +217,10 @@ IsAfter s line command.Maintain old new = IsMaintained line old new
 IsAfter s line (command.Search q) old new = IsSearched line old new
 IsAfter s line (command.BadQuery offset) old new = new ≡ record old { dealt = line }
 
--- that was done which the line asks for, and then more was shown
+-- and it has its spans, if it asked for upkeep
 abbrev pub IsDealt : Setting → ℕ → Asked → Cell → Cell → Type 0
-IsDealt s line asked old new = ThenShown (λ mid. IsAfter s line asked old mid × IsSpanNoted line asked old mid) new
+IsDealt s line asked old new = IsAfter s line asked old new × IsSpanNoted line asked old new
 
 -- the line wasn't dealt with, or it was
 abbrev pub IsAllOrNothing : Setting → ℕ → Asked → Cell → Cell → Type 0
-IsAllOrNothing s line asked old new = IsRoomier old new ⊎ ThenShown (IsAfter s line asked old) new
+IsAllOrNothing s line asked old new = IsRoomier old new ⊎ IsAfter s line asked old new

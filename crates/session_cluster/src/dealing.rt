@@ -19,7 +19,8 @@ ghost use Rattle.session_cluster.specs.Output.{body_answer, found_answer, outcom
 ghost use Rattle.session_cluster.specs.Steps.{with_room, after_stop, after_start, EachLane, IsTelling, IsRoomy, MayAnnounce, MayRun, IsOperatedIn, IsDoneInEach, IsStateTold, IsToldRoomy, IsPlannedIn, IsSpanNoted, IsAfter};
 
 use crate::asked::Asked;
-use crate::cluster::{Cluster, announce_all, make_room, start_all, stop_all};
+use crate::every_lane::{announce_all, make_room, start_all, stop_all};
+use crate::session::Session;
 use carriers::{Carrier, FateList};
 use cluster_states::{ClusterState, PublishFault};
 use documents::Entry;
@@ -43,9 +44,9 @@ fn lane_at(key: u64, bits: u8) -> u8
     lane_of(key, bits)
 }
 
-impl<C: Carrier + Drop> Cluster<C> {
-    /// Deals with a line's command, and gives the line's answer, which a blank line has not; then the lanes show what
-    /// changed in them. At want of memory the line may be dealt with.
+impl<C: Carrier + Drop> Session<C> {
+    /// Deals with a line's command, and gives the line's answer, which a blank line has not; the lanes that it changed
+    /// show what changed in them. At want of memory the line may be dealt with.
     pub fn deal(
         &mut self,
         alloc: Global,
@@ -53,35 +54,13 @@ impl<C: Carrier + Drop> Cluster<C> {
         line: u32,
         command: Asked,
     ) -> Result<Option<Answer>, NoMemory>
-        requires ready { IsReady setting.now line self.old }
+        requires ready { IsReady setting.now line self.old.cell }
         requires own { IsOwnAsked setting.now.bits command }
         requires settled { AreSettled self.old }
-        ensures ok { IfOk result (λ answer. IsDealt setting.now line command self.old self.new
-            × (answer ≡ answer_in setting.now self.old.told line command self.new)) }
+        ensures ok { IfOk result (λ answer. IsDealt setting.now line command self.old.cell self.new.cell
+            × (answer ≡ answer_in setting.now self.old.cell.told line command self.new.cell)) }
         ensures settled { OnOk result (AreSettled self.new) }
-        ensures err { OnErr result (IsAllOrNothing setting.now line command self.old self.new) }
-    {
-        let answer = self.deal_with(alloc, setting, line, command)?;
-        self.settle()?;
-        Ok(answer)
-    }
-
-    /// Deals with a line's command, and gives the line's answer.
-    fn deal_with(
-        &mut self,
-        alloc: Global,
-        setting: &Setting,
-        line: u32,
-        command: Asked,
-    ) -> Result<Option<Answer>, NoMemory>
-        requires ready { IsReady setting.now line self.old }
-        requires own { IsOwnAsked setting.now.bits command }
-        requires settled { AreSettled self.old }
-        ensures ok { IfOk result (λ answer. IsAfter setting.now line command self.old self.new
-            × (answer ≡ answer_in setting.now self.old.told line command self.new)) }
-        ensures noted { OnOk result (IsSpanNoted line command self.old self.new) }
-        ensures err { OnErr result (IsRoomier self.old self.new
-            ⊎ IsAfter setting.now line command self.old self.new) }
+        ensures err { OnErr result (IsAllOrNothing setting.now line command self.old.cell self.new.cell) }
     {
         match command {
             Asked::Blank => {
@@ -118,7 +97,7 @@ impl<C: Carrier + Drop> Cluster<C> {
 
     // ---- operations
 
-    /// Does what an operation asks for in the lane of its document, and gives the answer.
+    /// Does what an operation asks for in the lane of its document, which then shows it, and gives the answer.
     fn answer_operation(
         &mut self,
         alloc: Global,
@@ -127,17 +106,19 @@ impl<C: Carrier + Drop> Cluster<C> {
         operation: &Operation,
         via: Option<u8>,
     ) -> Result<Option<Answer>, NoMemory>
-        requires ready { IsReady setting.now line self.old }
+        requires ready { IsReady setting.now line self.old.cell }
         requires own { IsOwn operation.now.id operation.now.kind }
         requires plain { IsPlainGet operation.now }
         requires number { IfSome via (λ d. d < 32) }
+        requires settled { AreSettled self.old }
         ensures ok { IfOk result (λ answer.
             ((ending : Outcome) × IsOperatedIn (lane_of_id setting.now.bits operation.now.id) line operation.now via
-            self.old self.new ending)
-            × (answer ≡ operation_answer setting.now line operation.now.id (journals_of self.new))) }
-        ensures err { OnErr result ((self.new ≡ self.old)
+            self.old.cell self.new.cell ending)
+            × (answer ≡ operation_answer setting.now line operation.now.id (journals_of self.new.cell))) }
+        ensures settled { OnOk result (AreSettled self.new) }
+        ensures err { OnErr result ((self.new.cell ≡ self.old.cell)
             ⊎ ((ending : Outcome) × IsOperatedIn (lane_of_id setting.now.bits operation.now.id) line operation.now via
-            self.old self.new ending)) }
+            self.old.cell self.new.cell ending)) }
     {
         let key = key_of(&operation.id);
         let at = lane_at(key, setting.bits);
@@ -145,7 +126,7 @@ impl<C: Carrier + Drop> Cluster<C> {
         self.answer(alloc, at, outcome)
     }
 
-    /// Does what an operation asks for in a lane, which is that of its document.
+    /// Does what an operation asks for in a lane, which is that of its document, and shows what changed there.
     fn operate(
         &mut self,
         at: u8,
@@ -154,26 +135,30 @@ impl<C: Carrier + Drop> Cluster<C> {
         operation: &Operation,
         via: Option<u8>,
     ) -> Result<Outcome, NoMemory>
-        requires there { at < length self.old.lanes }
+        requires there { at < length self.old.cell.lanes }
         requires line { 1 ≤ line }
         requires key { key ≡ key_of operation.now.id }
-        requires may { (v : LaneValue) → slice_get self.old.lanes at ≡ Some v → MayRun line operation.now via v }
+        requires may { (v : LaneValue) → slice_get self.old.cell.lanes at ≡ Some v → MayRun line operation.now via v }
         requires own { IsOwn operation.now.id operation.now.kind }
         requires plain { IsPlainGet operation.now }
         requires number { IfSome via (λ d. d < 32) }
-        ensures ok { IfOk result (λ ending. IsOperatedIn at line operation.now via self.old self.new ending) }
-        ensures err { OnErr result (self.new ≡ self.old) }
+        requires settled { AreSettled self.old }
+        ensures ok { IfOk result (λ ending. IsOperatedIn at line operation.now via self.old.cell self.new.cell ending) }
+        ensures settled { OnOk result (AreSettled self.new) }
+        ensures err { OnErr result ((self.new.cell ≡ self.old.cell)
+            ⊎ ((ending : Outcome) × IsOperatedIn at line operation.now via self.old.cell self.new.cell ending)) }
     {
         let lane = &mut self.lanes[usize::from(at)];
         let outcome = run_line(lane, line, key, operation, via)?;
         self.dealt = line;
+        lane.settle()?;
         Ok(outcome)
     }
 
     /// The answer that an outcome in a lane is.
     fn answer(&self, alloc: Global, at: u8, outcome: Outcome) -> Result<Option<Answer>, NoMemory>
         ensures { IfOk result (λ answer. answer
-            ≡ outcome_answer outcome (entry_of outcome (journal_in at (journals_of self.now)))) }
+            ≡ outcome_answer outcome (entry_of outcome (journal_in at (journals_of self.now.cell)))) }
     {
         match outcome {
             Outcome::Acked { stamp } => Ok(Some(Answer::Acked { stamp })),
@@ -202,35 +187,45 @@ impl<C: Carrier + Drop> Cluster<C> {
 
     /// Makes room in every lane. After want of memory nothing has changed but for rooms.
     fn make_room(&mut self) -> Result<(), NoMemory>
-        ensures ok { OnOk result (self.new ≡ record self.old { lanes = map with_room self.old.lanes }) }
-        ensures err { OnErr result (IsRoomier self.old self.new) }
+        ensures ok { OnOk result (self.new ≡ record self.old {
+          cell = record self.old.cell { lanes = map with_room self.old.cell.lanes };
+        }) }
+        ensures err { OnErr result (IsRoomier self.old.cell self.new.cell) }
     {
         make_room(&mut self.lanes)
     }
 
-    /// Publishes a state in every lane, unless something stands against it, and gives the answer. After want of
-    /// memory nothing has changed but for rooms.
+    /// Publishes a state in every lane, unless something stands against it, and gives the answer; then the lanes show what
+    /// changed in them.
     fn tell(
         &mut self,
         line: u32,
         state: &ClusterState,
         deaf: NodeSet,
     ) -> Result<Option<Answer>, NoMemory>
-        requires { EachLane (IsTelling self.old.told) self.old.lanes }
+        requires telling { EachLane (IsTelling self.old.cell.told) self.old.cell.lanes }
+        requires settled { AreSettled self.old }
         ensures ok { IfOk result (λ answer.
-            IsStateTold line (publish_fault self.old.told state.now) state.now deaf self.old self.new
-            × (answer ≡ state_answer (publish_fault self.old.told state.now) state.now)) }
-        ensures err { OnErr result (IsRoomier self.old self.new) }
+            IsStateTold line (publish_fault self.old.cell.told state.now) state.now deaf self.old.cell self.new.cell
+            × (answer ≡ state_answer (publish_fault self.old.cell.told state.now) state.now)) }
+        ensures settled { OnOk result (AreSettled self.new) }
+        ensures err { OnErr result (IsRoomier self.old.cell self.new.cell
+            ⊎ IsStateTold line (publish_fault self.old.cell.told state.now) state.now deaf self.old.cell self.new.cell) }
     {
         self.make_room()?;
-        Ok(self.tell_roomy(line, state, deaf))
+        let answer = self.tell_roomy(line, state, deaf);
+        self.settle()?;
+        Ok(answer)
     }
 
     /// Publishes a state in every lane, unless something stands against it, and gives the answer.
     fn tell_roomy(&mut self, line: u32, state: &ClusterState, deaf: NodeSet) -> Option<Answer>
-        requires { publish_fault self.old.told state.now ≡ None → EachLane (MayAnnounce state.now) self.old.lanes }
-        ensures told { IsToldRoomy line (publish_fault self.old.told state.now) state.now deaf self.old self.new }
-        ensures value { result ≡ state_answer (publish_fault self.old.told state.now) state.now }
+        requires { publish_fault self.old.cell.told state.now ≡ None
+            → EachLane (MayAnnounce state.now) self.old.cell.lanes }
+        ensures told { IsToldRoomy line (publish_fault self.old.cell.told state.now) state.now deaf
+            self.old.cell self.new.cell }
+        ensures shelves { self.new.shelves ≡ self.old.shelves }
+        ensures value { result ≡ state_answer (publish_fault self.old.cell.told state.now) state.now }
     {
         match self.states.publish(state) {
             Ok(()) => {
@@ -246,47 +241,57 @@ impl<C: Carrier + Drop> Cluster<C> {
         }
     }
 
-    /// Stops a node in every lane. After want of memory nothing has changed but for rooms.
+    /// Stops a node in every lane; then the lanes show what changed in them.
     fn stop(&mut self, line: u32, node: u8) -> Result<Option<Answer>, NoMemory>
-        requires telling { EachLane (IsTelling self.old.told) self.old.lanes }
+        requires telling { EachLane (IsTelling self.old.cell.told) self.old.cell.lanes }
         requires number { node < 32 }
-        ensures ok { IfOk result (λ answer. IsDoneInEach line (after_stop node) self.old self.new
+        requires settled { AreSettled self.old }
+        ensures ok { IfOk result (λ answer. IsDoneInEach line (after_stop node) self.old.cell self.new.cell
             × (answer ≡ Some (answered.Stopped node))) }
-        ensures err { OnErr result (IsRoomier self.old self.new) }
+        ensures settled { OnOk result (AreSettled self.new) }
+        ensures err { OnErr result (IsRoomier self.old.cell self.new.cell
+            ⊎ IsDoneInEach line (after_stop node) self.old.cell self.new.cell) }
     {
         self.make_room()?;
         self.stop_roomy(line, node);
+        self.settle()?;
         Ok(Some(Answer::Stopped { node }))
     }
 
     /// Stops a node in every lane.
     fn stop_roomy(&mut self, line: u32, node: u8)
-        requires roomy { EachLane IsRoomy self.old.lanes }
+        requires roomy { EachLane IsRoomy self.old.cell.lanes }
         requires number { node < 32 }
-        ensures { IsDoneInEach line (after_stop node) self.old self.new }
+        ensures done { IsDoneInEach line (after_stop node) self.old.cell self.new.cell }
+        ensures shelves { self.new.shelves ≡ self.old.shelves }
     {
         stop_all(&mut self.lanes, node);
         self.dealt = line;
     }
 
-    /// Starts a node in every lane. After want of memory nothing has changed but for rooms.
+    /// Starts a node in every lane; then the lanes show what changed in them.
     fn start(&mut self, line: u32, node: u8) -> Result<Option<Answer>, NoMemory>
-        requires telling { EachLane (IsTelling self.old.told) self.old.lanes }
+        requires telling { EachLane (IsTelling self.old.cell.told) self.old.cell.lanes }
         requires number { node < 32 }
-        ensures ok { IfOk result (λ answer. IsDoneInEach line (after_start node) self.old self.new
+        requires settled { AreSettled self.old }
+        ensures ok { IfOk result (λ answer. IsDoneInEach line (after_start node) self.old.cell self.new.cell
             × (answer ≡ Some (answered.Started node))) }
-        ensures err { OnErr result (IsRoomier self.old self.new) }
+        ensures settled { OnOk result (AreSettled self.new) }
+        ensures err { OnErr result (IsRoomier self.old.cell self.new.cell
+            ⊎ IsDoneInEach line (after_start node) self.old.cell self.new.cell) }
     {
         self.make_room()?;
         self.start_roomy(line, node);
+        self.settle()?;
         Ok(Some(Answer::Started { node }))
     }
 
     /// Starts a node in every lane.
     fn start_roomy(&mut self, line: u32, node: u8)
-        requires roomy { EachLane IsRoomy self.old.lanes }
+        requires roomy { EachLane IsRoomy self.old.cell.lanes }
         requires number { node < 32 }
-        ensures { IsDoneInEach line (after_start node) self.old self.new }
+        ensures done { IsDoneInEach line (after_start node) self.old.cell self.new.cell }
+        ensures shelves { self.new.shelves ≡ self.old.shelves }
     {
         start_all(&mut self.lanes, node);
         self.dealt = line;
@@ -296,9 +301,11 @@ impl<C: Carrier + Drop> Cluster<C> {
 
     /// Plans what becomes of the coming messages of a lane, if its carrier takes plans.
     fn plan(&mut self, line: u32, lane: u8, fates: &FateList) -> Result<Option<Answer>, NoMemory>
-        requires { lane < length self.old.lanes }
-        ensures ok { IfOk result (λ answer. IsPlannedIn line lane fates.now self.old self.new
-            × (answer ≡ plan_answer (slice_get self.new.lanes lane))) }
+        requires there { lane < length self.old.cell.lanes }
+        requires settled { AreSettled self.old }
+        ensures ok { IfOk result (λ answer. IsPlannedIn line lane fates.now self.old.cell self.new.cell
+            × (answer ≡ plan_answer (slice_get self.new.cell.lanes lane))) }
+        ensures settled { OnOk result (AreSettled self.new) }
         ensures err { OnErr result (self.new ≡ self.old) }
     {
         let there = &mut self.lanes[usize::from(lane)];

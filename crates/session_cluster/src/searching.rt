@@ -13,9 +13,9 @@ ghost use Rattle.session_cluster.specs.Output.{found_answer_of};
 ghost use Rattle.session_cluster.specs.Noted.{is_for};
 ghost use Rattle.session_cluster.specs.declared.searching.LineFronts.{LineFronts};
 ghost use Rattle.session_cluster.specs.Searches.{fronts_of, fronts_now, version_of, version_now};
-ghost use Rattle.session_cluster.specs.Steps.{EachLane, HasTypes, HasOpening, IsSearched, IsSettledLane, IsShownOn, AreSettled};
+ghost use Rattle.session_cluster.specs.Steps.{EachLane, HasTypes, IsSearched, IsSettledLane, AreSettled, AreOpened, first_view};
 
-use crate::cluster::Cluster;
+use crate::session::Session;
 use carriers::Carrier;
 use cluster_states::States;
 use lane_core::Lane;
@@ -59,8 +59,7 @@ fn version_told(states: &States) -> u32
 /// them.
 pub fn settle_all<C: Carrier + Drop>(lanes: &mut [Lane<C, PlainShelf>]) -> Result<(), NoMemory>
     ensures lanes { lanes_in lanes.new ≡ lanes_in lanes.old }
-    ensures openings { map (λ (p : Plain). p.opening) (shelves_in lanes.new)
-        ≡ map (λ (p : Plain). p.opening) (shelves_in lanes.old) }
+    ensures openings { map first_view (shelves_in lanes.new) ≡ map first_view (shelves_in lanes.old) }
     ensures settled { OnOk result (EachLane (IsSettled ShowsPlain (λ (p : Plain). p.pending)) lanes.new) }
 {
     for lane in lanes.iter_mut() {
@@ -93,7 +92,7 @@ fn search_all<C: Carrier + Drop>(
     sum.finish(alloc)
 }
 
-impl<C: Carrier + Drop> Cluster<C> {
+impl<C: Carrier + Drop> Session<C> {
     /// Searches every lane, in their order, and gives the answer; all changes of their journals are shown.
     pub(crate) fn search(
         &mut self,
@@ -101,12 +100,13 @@ impl<C: Carrier + Drop> Cluster<C> {
         line: u32,
         query: Parsed,
     ) -> Result<Option<Answer>, NoMemory>
-        requires few { length self.old.lanes ≤ 64 }
+        requires few { length self.old.cell.lanes ≤ 64 }
         requires settled { AreSettled self.old }
-        requires new { fronts_of line self.old.fronts ≡ None }
-        ensures ok { (types : Types) → EachLane (HasTypes types) self.old.lanes
-            → IfOk result (λ answer. IsSearched line self.old self.new
-            × (answer ≡ found_answer_of types self.old.told query (fronts_of line self.new.fronts) (journals_of self.new))) }
+        requires new { fronts_of line self.old.cell.fronts ≡ None }
+        ensures ok { (types : Types) → EachLane (HasTypes types) self.old.cell.lanes
+            → IfOk result (λ answer. IsSearched line self.old.cell self.new.cell
+            × (answer ≡ found_answer_of types self.old.cell.told query (fronts_of line self.new.cell.fronts) (journals_of self.new.cell))) }
+        ensures settled { OnOk result (AreSettled self.new) }
         ensures err { OnErr result (self.new ≡ self.old) }
     {
         let mut fronts = Vec::with_capacity(alloc, self.lanes.len())?;
@@ -117,9 +117,9 @@ impl<C: Carrier + Drop> Cluster<C> {
 
     /// Each lane shows all changes of its events. At want of memory some do.
     pub(crate) fn settle(&mut self) -> Result<(), NoMemory>
-        ensures shown { IsShownOn self.old self.new }
-        ensures settled { (types : Types) → EachLane (HasTypes types) self.old.lanes
-            → EachLane (HasOpening types) self.old.shelves → OnOk result (AreSettled self.new) }
+        requires { AreOpened self.old.cell.lanes self.old.shelves }
+        ensures cell { self.new.cell ≡ self.old.cell }
+        ensures settled { OnOk result (AreSettled self.new) }
     {
         settle_all(&mut self.lanes)
     }
@@ -131,12 +131,12 @@ impl<C: Carrier + Drop> Cluster<C> {
         query: Parsed,
         fronts: &mut Vec<u64>,
     ) -> Result<SearchAnswer, NoMemory>
-        requires few { length self.now.lanes ≤ 64 }
+        requires few { length self.now.cell.lanes ≤ 64 }
         requires settled { AreSettled self.now }
         requires none { fronts.old.items ≡ [] }
         ensures answer { IfOk result (λ answer. answer
-            ≡ search_answer query (version_now self.now.told) (map view_in self.now.lanes)) }
-        ensures fronts { OnOk result (fronts.new.items ≡ fronts_now self.now.lanes) }
+            ≡ search_answer query (version_now self.now.cell.told) (map view_in self.now.cell.lanes)) }
+        ensures fronts { OnOk result (fronts.new.items ≡ fronts_now self.now.cell.lanes) }
     {
         let version = version_told(&self.states);
         let query = query.query();
@@ -146,8 +146,10 @@ impl<C: Carrier + Drop> Cluster<C> {
     /// Notes how far a line's search read, and deals with the line by that.
     fn note_fronts(&mut self, line: u32, fronts: Vec<u64>) -> Result<(), NoMemory>
         ensures ok { OnOk result (self.new ≡ record self.old {
-          dealt = line;
-          fronts = self.old.fronts ++ record { line = line; fronts = fronts.items } ∷ [];
+          cell = record self.old.cell {
+            dealt = line;
+            fronts = self.old.cell.fronts ++ record { line = line; fronts = fronts.items } ∷ [];
+          };
         }) }
         ensures err { OnErr result (self.new ≡ self.old) }
     {

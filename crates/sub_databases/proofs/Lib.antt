@@ -3,3 +3,4 @@ mod RowSteps
 mod PartLaws
 mod ListLaws
 mod ReadyLaws
+mod UniteLaws

@@ -34,7 +34,7 @@ none_found q (e ∷ es) h =
     let k = cond_none (same_id q e.id) e (found q es) h in
     ap₂ (λ a b. a || b) (other_id q e k.0) (none_found q es k.1)
 
-all_found : (m : Entries) (es : List Entry) → AreSingle (by_id es) → ((q : List ℕ) (x : Entry) → found q es ≡ Some x → fin.get m q ≡ Some x) → AllAt m es
+pub all_found : (m : Entries) (es : List Entry) → AreSingle (by_id es) → ((q : List ℕ) (x : Entry) → found q es ≡ Some x → fin.get m q ≡ Some x) → AllAt m es
 all_found m [] single in_m = tt
 all_found m (e ∷ es) single in_m = (in_m e.id e (ap (λ t. cond t (Some e) (found e.id es)) (same_id-refl e.id)), all_found m es single.1 (λ q x h. in_m q x (later q x h (same_id q e.id) refl)))
   where

@@ -10,18 +10,18 @@ use Rattle.documents.specs.declared.entry.Entry.{Entry}
 use Rattle.entry_maps.specs.EntryCodes.{Entries}
 use Rattle.entry_maps.specs.Entries.{in_bucket, by_id, AreSingle}
 use Rattle.entry_maps.proofs.SlotLists.{same_id, same_id-is}
-use Rattle.document_rows.specs.Rows.{Rows, has_row, has_entry, document_of, fitted, free_place, put_free, replaced, without, with_document, after_body, taken_into, AreDistinct}
+use Rattle.document_rows.specs.Rows.{Rows, is_of, has_row, has_entry, document_of, fitted, free_place, put_free, replaced, without, with_document, after_body, taken_into, AreDistinct}
 use Rattle.document_rows.specs.Reading.{row_at}
-use Rattle.document_rows.proofs.RowLaws.{same_id as same_text, own_id}
+use Rattle.document_rows.proofs.RowLaws.{same_id as same_text}
 use Rattle.node_rows.specs.TypedRows.{TypedRows, with_rows, AreNew, all_taken}
 use Rattle.view_changes.specs.Shown.{HasRoom, shown, body_shown}
 use Rattle.view_changes.specs.Room.{AllAt}
 use Rattle.view_changes.specs.Deeds.{RoomAlong}
 use Rattle.view_changes.proofs.ShownLaws.{body-is, turned}
-use Rattle.sub_databases.specs.Parts.{Parts, AreParts, AreShown, HasOwnId, entry_place, body_place}
+use Rattle.sub_databases.specs.Parts.{Parts, AreParts, AreShown, entry_place, body_place}
 use Rattle.sub_databases.specs.Changes.{with_both, is_waiting, made_ready, MakesReady}
 use Rattle.value_lists.specs.declared.no_memory.NoMemory.{NoMemory}
-use Rattle.sub_databases.proofs.RowSteps.{not_one, has_some}
+use Rattle.sub_databases.proofs.RowSteps.{not_one, has_some, shown_is}
 use Rattle.sub_databases.proofs.ListLaws.{found, other_id, own_entry, none_found, found_within, list_at}
 use Rattle.sub_databases.proofs.PartLaws.{FindRoom, parts_of, all_have}
 
@@ -60,13 +60,13 @@ module _ (rows : Rows) where
   waiting_new (e ∷ es) single = by_test (is_waiting rows e) refl (waiting_new es single.1)
     where
       by_test : (t : Bool) → is_waiting rows e ≡ t → AreNew rows (filter (is_waiting rows) es) → AreNew rows (cond t (e ∷ filter (is_waiting rows) es) (filter (is_waiting rows) es))
-      by_test true is ih = (second (is_some e.body) (has_row e.id rows) is, none_waiting e.id es (none_found e.id es single.0), ih)
+      by_test true is ih = (second (is_of e.id e.body) (has_row e.id rows) is, none_waiting e.id es (none_found e.id es single.0), ih)
       by_test false is ih = ih
 
   -- whether a document's entry waits
   abbrev waits : List ℕ → Option Entry → Bool
   waits q None = false
-  waits q (Some e) = is_some e.body && not (has_row q rows)
+  waits q (Some e) = is_of q e.body && not (has_row q rows)
 
   waiting_is : (q : List ℕ) (es : List Entry) → AreSingle (by_id es) → has_entry q (filter (is_waiting rows) es) ≡ waits q (found q es)
   waiting_is q [] single = refl
@@ -76,45 +76,34 @@ module _ (rows : Rows) where
           → has_entry q (cond w (e ∷ filter (is_waiting rows) es) (filter (is_waiting rows) es)) ≡ waits q (cond t (Some e) (found q es))
       by_tests true true same is ih =
           ap (λ a. a || has_entry q (filter (is_waiting rows) es)) (own_entry q e same)
-          ∙ sym (ap (λ i. is_some e.body && not (has_row i rows)) (same_id-is q e.id same) ∙ is)
+          ∙ sym (ap (λ i. is_of i e.body && not (has_row i rows)) (same_id-is q e.id same) ∙ is)
       by_tests true false same is ih =
           none_waiting q es (none_found q es (ap (λ i. found i es) (same_id-is q e.id same) ∙ single.0))
-          ∙ sym (ap (λ i. is_some e.body && not (has_row i rows)) (same_id-is q e.id same) ∙ is)
+          ∙ sym (ap (λ i. is_of i e.body && not (has_row i rows)) (same_id-is q e.id same) ∙ is)
       by_tests false true other is ih = ap (λ a. a || has_entry q (filter (is_waiting rows) es)) (other_id q e other) ∙ ih
       by_tests false false other is ih = ih
 
 -- each has a document of its id
 abbrev AreWhole : List Entry → Type 0
 AreWhole [] = Unit {0}
-AreWhole (e ∷ es) = ((is_some e.body ≡ true) × HasOwnId e) × AreWhole es
+AreWhole (e ∷ es) = (is_of e.id e.body ≡ true) × AreWhole es
 
-waiting_whole : (m : Entries) (rows : Rows) (es : List Entry) → AllAt m es → ((id : List ℕ) (e : Entry) → fin.get m id ≡ Some e → HasOwnId e) → AreWhole (filter (is_waiting rows) es)
-waiting_whole m rows [] h own = tt
-waiting_whole m rows (e ∷ es) h own = by_test (is_waiting rows e) refl (waiting_whole m rows es h.1 own)
+waiting_whole : (rows : Rows) (es : List Entry) → AreWhole (filter (is_waiting rows) es)
+waiting_whole rows [] = tt
+waiting_whole rows (e ∷ es) = by_test (is_waiting rows e) refl (waiting_whole rows es)
   where
     by_test : (t : Bool) → is_waiting rows e ≡ t → AreWhole (filter (is_waiting rows) es) → AreWhole (cond t (e ∷ filter (is_waiting rows) es) (filter (is_waiting rows) es))
-    by_test true is ih = ((first (is_some e.body) (not (has_row e.id rows)) is, own e.id e h.0), ih)
+    by_test true is ih = (first (is_of e.id e.body) (not (has_row e.id rows)) is, ih)
     by_test false is ih = ih
 
 -- ---- one document more
 
-shows_some : (types : Types) (e : Entry) → is_some e.body ≡ true → HasOwnId e → is_some (body_shown types e.id e.body) ≡ true
-shows_some types e some own = by_body e.body some own
-  where
-    by_test : (d : Contents) (t : Bool) → t ≡ true → is_some (cond t (Some (fitted types d)) None) ≡ true
-    by_test d true k = refl
-    by_test d false k = absurd (true≢false (sym k))
-
-    by_body : (o : Option Contents) → is_some o ≡ true → ((d : Contents) → o ≡ Some d → d.id ≡ e.id) → is_some (body_shown types e.id o) ≡ true
-    by_body None k own = absurd (true≢false (sym k))
-    by_body (Some d) k own = by_test d (bytes_eq d.id e.id) (subst (λ i. bytes_eq d.id i ≡ true) (own d refl) (own_id d.id))
-
-has_taken : (types : Types) (e : Entry) (q : List ℕ) (rows : Rows) → HasRoom rows → is_some e.body ≡ true → HasOwnId e → has_row q (taken_into types rows e) ≡ (bytes_eq e.id q || has_row q rows)
-has_taken types e q rows room some own =
+has_taken : (types : Types) (e : Entry) (q : List ℕ) (rows : Rows) → HasRoom rows → is_of e.id e.body ≡ true → has_row q (taken_into types rows e) ≡ (bytes_eq e.id q || has_row q rows)
+has_taken types e q rows room whole =
     has_some q (taken_into types rows e) ∙ (ap is_some (body-is types e.id e.body q rows room) ∙ by_test (bytes_eq e.id q))
   where
     by_test : (t : Bool) → is_some (cond t (body_shown types e.id e.body) (document_of q rows)) ≡ (t || has_row q rows)
-    by_test true = shows_some types e some own
+    by_test true = shown_is types e.id e.body ∙ whole
     by_test false = sym (has_some q rows)
 
 shown_taken : (types : Types) (m : Entries) (e : Entry) (rows : Rows) → HasRoom rows → fin.get m e.id ≡ Some e → AreShown types m rows → AreShown types m (taken_into types rows e)
@@ -131,8 +120,8 @@ put_keeps y (None ∷ rows) (suc n) d is = is
 put_keeps y (Some e ∷ rows) zero d is = is
 put_keeps y (Some e ∷ rows) (suc n) d is = put_keeps y rows n d is
 
-taken_keeps : (types : Types) (e : Entry) (rows : Rows) → is_some e.body ≡ true → HasOwnId e → has_row e.id rows ≡ false → (n : ℕ) (d : Contents) → row_at rows n ≡ Some d → row_at (taken_into types rows e) n ≡ Some d
-taken_keeps types e rows some own new n d is = by_body e.body some own
+taken_keeps : (types : Types) (e : Entry) (rows : Rows) → is_of e.id e.body ≡ true → has_row e.id rows ≡ false → (n : ℕ) (d : Contents) → row_at rows n ≡ Some d → row_at (taken_into types rows e) n ≡ Some d
+taken_keeps types e rows whole new n d is = by_body e.body whole
   where
     by_room : (x : Contents) (t : Bool) → row_at (cond t (put_free (fitted types x) rows) rows) n ≡ Some d
     by_room x true = put_keeps (fitted types x) rows n d is
@@ -142,22 +131,22 @@ taken_keeps types e rows some own new n d is = by_body e.body some own
     by_row x true k = absurd (true≢false k)
     by_row x false k = by_room x (nat_lt (free_place rows) 4294967295)
 
-    by_id : (x : Contents) → x.id ≡ e.id → (t : Bool) → t ≡ true → row_at (cond t (with_document (fitted types x) rows) (without e.id rows)) n ≡ Some d
-    by_id x same true k = by_row x (has_row x.id rows) (ap (λ i. has_row i rows) same ∙ new)
-    by_id x same false k = absurd (true≢false (sym k))
+    by_id : (x : Contents) (t : Bool) → bytes_eq x.id e.id ≡ t → t ≡ true → row_at (cond t (with_document (fitted types x) rows) (without e.id rows)) n ≡ Some d
+    by_id x true same k = by_row x (has_row x.id rows) (ap (λ i. has_row i rows) (same_text x.id e.id same) ∙ new)
+    by_id x false same k = absurd (true≢false (sym k))
 
-    by_body : (o : Option Contents) → is_some o ≡ true → ((x : Contents) → o ≡ Some x → x.id ≡ e.id) → row_at (after_body types e.id o rows) n ≡ Some d
-    by_body None k own = absurd (true≢false (sym k))
-    by_body (Some x) k own = by_id x (own x refl) (bytes_eq x.id e.id) (subst (λ i. bytes_eq x.id i ≡ true) (own x refl) (own_id x.id))
+    by_body : (o : Option Contents) → is_of e.id o ≡ true → row_at (after_body types e.id o rows) n ≡ Some d
+    by_body None k = absurd (true≢false (sym k))
+    by_body (Some x) k = by_id x (bytes_eq x.id e.id) refl k
 
 -- those behind are new still
-new_after : (types : Types) (e : Entry) (rows : Rows) → HasRoom rows → is_some e.body ≡ true → HasOwnId e → (es : List Entry) → has_entry e.id es ≡ false → AreNew rows es → AreNew (taken_into types rows e) es
-new_after types e rows room some own [] other new = tt
-new_after types e rows room some own (x ∷ es) other new = by_test (bytes_eq x.id e.id) refl other (new_after types e rows room some own es)
+new_after : (types : Types) (e : Entry) (rows : Rows) → HasRoom rows → is_of e.id e.body ≡ true → (es : List Entry) → has_entry e.id es ≡ false → AreNew rows es → AreNew (taken_into types rows e) es
+new_after types e rows room whole [] other new = tt
+new_after types e rows room whole (x ∷ es) other new = by_test (bytes_eq x.id e.id) refl other (new_after types e rows room whole es)
   where
     by_test : (t : Bool) → bytes_eq x.id e.id ≡ t → (t || has_entry e.id es) ≡ false → (has_entry e.id es ≡ false → AreNew rows es → AreNew (taken_into types rows e) es) → AreNew (taken_into types rows e) (x ∷ es)
     by_test true is k ih = absurd (true≢false k)
-    by_test false is k ih = (has_taken types e x.id rows room some own ∙ ap₂ (λ a b. a || b) (turned e.id x.id ∙ is) new.0, new.1, ih k new.2)
+    by_test false is k ih = (has_taken types e x.id rows room whole ∙ ap₂ (λ a b. a || b) (turned e.id x.id ∙ is) new.0, new.1, ih k new.2)
 
 -- ---- all of them
 
@@ -175,11 +164,11 @@ swapped false false c = refl
 fills : (types : Types) (m : Entries) (es : List Entry) (rows : Rows) → AllAt m es → AreWhole es → RoomAlong types es rows → AreNew rows es → AreShown types m rows → IsFilled types m es rows (all_taken types es rows)
 fills types m [] rows at whole room new shows = record { shown = shows; has = λ q. refl; kept = λ n d is. is }
 fills types m (e ∷ es) rows at whole room new shows =
-    let ih = fills types m es (taken_into types rows e) at.1 whole.1 room.1 (new_after types e rows room.0 whole.0.0 whole.0.1 es new.1 new.2) (shown_taken types m e rows room.0 at.0 shows) in
+    let ih = fills types m es (taken_into types rows e) at.1 whole.1 room.1 (new_after types e rows room.0 whole.0 es new.1 new.2) (shown_taken types m e rows room.0 at.0 shows) in
     record {
       shown = ih.shown;
-      has = λ q. ih.has q ∙ (ap (λ a. has_entry q es || a) (has_taken types e q rows room.0 whole.0.0 whole.0.1) ∙ swapped (has_entry q es) (bytes_eq e.id q) (has_row q rows));
-      kept = λ n d is. ih.kept n d (taken_keeps types e rows whole.0.0 whole.0.1 new.0 n d is);
+      has = λ q. ih.has q ∙ (ap (λ a. has_entry q es || a) (has_taken types e q rows room.0 whole.0) ∙ swapped (has_entry q es) (bytes_eq e.id q) (has_row q rows));
+      kept = λ n d is. ih.kept n d (taken_keeps types e rows whole.0 new.0 n d is);
     }
 
 -- ---- a bucket
@@ -195,32 +184,29 @@ module _ (p : Parts) (b : Low) (list : List Entry) (h : AreParts p) (listed : fi
   those_new = waiting_new p.rows list single
 
   filled : RoomAlong p.types those p.rows → IsFilled p.types p.entries those p.rows (all_taken p.types those p.rows)
-  filled room = fills p.types p.entries those p.rows those_at (waiting_whole p.entries p.rows list (list_at p.entries b list listed single) h.bodies) room those_new h.shown
+  filled room = fills p.types p.entries those p.rows those_at (waiting_whole p.rows list) room those_new h.shown
 
   pub parts_ready : RoomAlong p.types those p.rows → AreParts (with_both p.entries (all_taken p.types those p.rows) p)
-  parts_ready room = record { own = h.own; bodies = h.bodies; shown = (filled room).shown }
+  parts_ready room = record { shown = (filled room).shown }
 
   pub makes_ready : RoomAlong p.types those p.rows → MakesReady b p (with_both p.entries (all_taken p.types those p.rows) p)
   makes_ready room = record {
     types = refl;
     entries = refl;
     places = λ q.
-        ap (entry_place (fin.get p.entries q)) ((filled room).has q ∙ ap (λ a. a || has_row q p.rows) (waiting_is p.rows q list single ∙ ap (waits p.rows q) (found_within p.entries b list listed q)))
+        ap (entry_place q (fin.get p.entries q)) ((filled room).has q ∙ ap (λ a. a || has_row q p.rows) (waiting_is p.rows q list single ∙ ap (waits p.rows q) (found_within p.entries b list listed q)))
         ∙ place_of q (in_bucket b q) (fin.get p.entries q);
     kept = (filled room).kept;
   }
     where
-      by_mark : (d : Contents) (r : Bool) → body_place (Some d) ((true && not r) || r) ≡ made_ready true (body_place (Some d) r)
-      by_mark d true = refl
-      by_mark d false = refl
+      by_marks : (t r : Bool) → body_place t ((t && not r) || r) ≡ made_ready true (body_place t r)
+      by_marks true true = refl
+      by_marks true false = refl
+      by_marks false r = refl
 
-      by_body : (o : Option Contents) (r : Bool) → body_place o ((is_some o && not r) || r) ≡ made_ready true (body_place o r)
-      by_body None r = refl
-      by_body (Some d) r = by_mark d r
-
-      place_of : (q : List ℕ) (t : Bool) (o : Option Entry) → entry_place o (waits p.rows q (cond t o None) || has_row q p.rows) ≡ made_ready t (entry_place o (has_row q p.rows))
+      place_of : (q : List ℕ) (t : Bool) (o : Option Entry) → entry_place q o (waits p.rows q (cond t o None) || has_row q p.rows) ≡ made_ready t (entry_place q o (has_row q p.rows))
       place_of q true None = refl
-      place_of q true (Some e) = by_body e.body (has_row q p.rows)
+      place_of q true (Some e) = by_marks (is_of q e.body) (has_row q p.rows)
       place_of q false o = refl
 
 -- ---- the same of a call, be it done or not

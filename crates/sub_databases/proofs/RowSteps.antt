@@ -7,10 +7,10 @@ use Rattle.doc_types.specs.SchemaCodes.{Types}
 use Rattle.documents.specs.Fields.{Contents}
 use Rattle.documents.specs.declared.entry.Entry.{Entry}
 use Rattle.entry_maps.specs.Entries.{in_bucket}
-use Rattle.document_rows.specs.Rows.{Rows, has_row, document_of, without}
+use Rattle.document_rows.specs.Rows.{Rows, is_of, has_row, document_of, without, fitted}
 use Rattle.document_rows.specs.Reading.{row_at}
 use Rattle.document_rows.proofs.RowLaws.{same_id, own_id, without-is}
-use Rattle.node_rows.specs.TypedRows.{TypedRows, with_rows, without_in}
+use Rattle.node_rows.specs.TypedRows.{without_in}
 use Rattle.view_changes.specs.Shown.{body_shown, HasRoom}
 use Rattle.view_changes.proofs.ShownLaws.{body-is}
 use Rattle.sub_databases.specs.Changes.{rows_after}
@@ -31,10 +31,19 @@ has_some id (Some d ∷ rows) = by_test (bytes_eq d.id id) (has_some id rows)
     by_test true ih = refl
     by_test false ih = ih
 
+-- an entry shows a document exactly where it has that of the id
+pub shown_is : (types : Types) (id : List ℕ) (o : Option Contents) → is_some (body_shown types id o) ≡ is_of id o
+shown_is types id None = refl
+shown_is types id (Some d) = by_test (bytes_eq d.id id)
+  where
+    by_test : (t : Bool) → is_some (cond t (Some (fitted types d)) None) ≡ t
+    by_test true = refl
+    by_test false = refl
+
 -- of a newer entry
-pub rows_after-is : (types : Types) (ready : Bool) (e : Entry) (q : List ℕ) (rows : Rows) → HasRoom rows
+pub rows_after-is : (types : Types) (ready : Bool) (e : Entry) (q : List ℕ) (rows : Rows) → (ready ≡ true → HasRoom rows)
     → document_of q (rows_after types ready rows e) ≡ cond (bytes_eq e.id q) (cond ready (body_shown types e.id e.body) None) (document_of q rows)
-rows_after-is types true e q rows room = body-is types e.id e.body q rows room
+rows_after-is types true e q rows room = body-is types e.id e.body q rows (room refl)
 rows_after-is types false e q rows room = without-is e.id q rows
 
 -- of a bucket that is dropped
@@ -111,6 +120,3 @@ without_none id (Some d ∷ rows) h = by_test (bytes_eq d.id id) refl h (without
     by_test : (t : Bool) → bytes_eq d.id id ≡ t → (t || has_row id rows) ≡ false → (has_row id rows ≡ false → without id rows ≡ rows) → (cond t None (Some d)) ∷ without id rows ≡ Some d ∷ rows
     by_test true is k ih = absurd (true≢false k)
     by_test false is k ih = ap (λ l. Some d ∷ l) (ih k)
-
-pub nothing_left : (types : Types) (e : Entry) (t : TypedRows) → has_row e.id t.rows ≡ false → t ≡ with_rows (rows_after types false t.rows e) t
-nothing_left types e t none = ap (λ l. with_rows l t) (sym (without_none e.id t.rows none))

@@ -10,10 +10,11 @@ use Rattle.documents.specs.Fields.{Contents}
 use Rattle.documents.specs.declared.entry.Entry.{Entry}
 use Rattle.entry_maps.specs.Entries.{is_newer, in_bucket}
 use Rattle.entry_maps.specs.EntryCodes.{Entries}
-use Rattle.document_rows.specs.Rows.{Rows, has_row, without, taken_into}
+use Rattle.entry_maps.specs.Joins.{joined}
+use Rattle.document_rows.specs.Rows.{Rows, is_of, has_row, without, taken_into}
 use Rattle.document_rows.specs.Reading.{row_at}
 use Rattle.node_rows.specs.TypedRows.{TypedRows, with_rows, without_in}
-use Rattle.sub_databases.specs.Parts.{Parts, body_place, place_in}
+use Rattle.sub_databases.specs.Parts.{Parts, entry_place, place_in}
 use Rattle.sub_databases.specs.declared.place.Place.{Place}
 use Rattle.sub_databases.specs.declared.place.Place.TheVariants.{Ready, NotReady, Nowhere}
 
@@ -27,10 +28,6 @@ abbrev pub rows_after : Types → Bool → Rows → Entry → Rows
 rows_after types true rows e = taken_into types rows e
 rows_after types false rows e = without e.id rows
 
--- a remove of an entry's stamp and document
-abbrev pub removal : Entry → Entry
-removal e = record { stamp = e.stamp; id = e.id; body = None }
-
 -- a newer entry is kept, and its document in the ready part or not; or nothing changes
 abbrev pub IsTaken : Entry → Bool → Entries → TypedRows → Result (Unit {0}) NoMemory → Entries → TypedRows → Type 0
 IsTaken e ready m t (Ok _) n u = (n ≡ fin.insert m e.id e) × (u ≡ with_rows (rows_after t.types ready t.rows e) t)
@@ -42,7 +39,22 @@ after_take e ready p = if is_newer e (fin.get p.entries e.id) then with_both (fi
 
 -- a newer entry's document is where its body and its mark say, and every other document where it was
 abbrev pub place_after : Entry → Bool → Parts → List ℕ → Place
-place_after e ready p id = if bytes_eq e.id id && is_newer e (fin.get p.entries e.id) then body_place e.body ready else place_in p id
+place_after e ready p id = if bytes_eq e.id id && is_newer e (fin.get p.entries e.id) then entry_place id (Some e) ready else place_in p id
+
+-- ---- a map of entries comes
+
+-- an entry comes, and is newer than what was there
+abbrev pub is_fresh : Option Entry → Option Entry → Bool
+is_fresh None there = false
+is_fresh (Some e) there = is_newer e there
+
+-- of each document the newer entry is kept; a document whose entry came is where that and the mark say, and every other
+-- one where it was
+pub record Unites (es : Entries) (ready : Bool) (old new : Parts) : Type 0 where
+  pub types : new.types ≡ old.types
+  pub entries : new.entries ≡ joined old.entries es
+  pub places : (id : List ℕ) → place_in new id
+      ≡ (if is_fresh (fin.get es id) (fin.get old.entries id) then entry_place id (fin.get es id) ready else place_in old id)
 
 -- ---- a bucket becomes ready
 
@@ -50,9 +62,9 @@ abbrev pub made_ready : Bool → Place → Place
 made_ready true NotReady = Ready
 made_ready _ place = place
 
--- an entry has a document that isn't ready
+-- an entry has a document of its id, and that isn't ready
 abbrev pub is_waiting : Rows → Entry → Bool
-is_waiting rows e = is_some e.body && not (has_row e.id rows)
+is_waiting rows e = is_of e.id e.body && not (has_row e.id rows)
 
 -- the documents of the bucket that weren't ready are; those that were keep their local ids, and entries stay
 pub record MakesReady (b : Low) (old new : Parts) : Type 0 where

@@ -6,9 +6,9 @@ use Rattle.doc_types.specs.SchemaCodes.{Types, types_code}
 use Rattle.documents.specs.Fields.{Contents}
 use Rattle.documents.specs.declared.entry.Entry.{Entry}
 use Rattle.entry_maps.specs.EntryCodes.{Entries, entries_code}
-use Rattle.document_rows.specs.Rows.{Rows, has_row, document_of}
+use Rattle.document_rows.specs.Rows.{Rows, is_of, has_row, document_of}
 use Rattle.node_rows.specs.TypedRows.{rows_code}
-use Rattle.view_changes.specs.Shown.{AreOwn, shown}
+use Rattle.view_changes.specs.Shown.{shown}
 use Rattle.sub_databases.specs.declared.place.Place.{Place}
 use Rattle.sub_databases.specs.declared.place.Place.TheVariants.{Ready, NotReady, Removed, Nowhere}
 
@@ -27,32 +27,26 @@ no_parts types = record { types = types; entries = fin.empty; rows = [] }
 
 -- ---- where a document is
 
--- by its newest entry's body, and whether it is ready
-abbrev pub body_place : Option Contents → Bool → Place
-body_place None ready = Removed
-body_place (Some d) true = Ready
-body_place (Some d) false = NotReady
+-- by whether its newest entry has a document of its id, and whether that is ready
+abbrev pub body_place : Bool → Bool → Place
+body_place false ready = Removed
+body_place true true = Ready
+body_place true false = NotReady
 
-abbrev pub entry_place : Option Entry → Bool → Place
-entry_place None ready = Nowhere
-entry_place (Some e) ready = body_place e.body ready
+abbrev pub entry_place : List ℕ → Option Entry → Bool → Place
+entry_place id None ready = Nowhere
+entry_place id (Some e) ready = body_place (is_of id e.body) ready
 
 -- in one part, or nowhere
 abbrev pub place_in : Parts → List ℕ → Place
-place_in p id = entry_place (fin.get p.entries id) (has_row id p.rows)
+place_in p id = entry_place id (fin.get p.entries id) (has_row id p.rows)
 
 -- ---- what the parts keep
-
--- a document of an entry has the entry's id
-abbrev pub HasOwnId : Entry → Type 0
-HasOwnId e = (d : Contents) → e.body ≡ Some d → d.id ≡ e.id
 
 -- a document of the ready part is what its newest entry shows
 abbrev pub AreShown : Types → Entries → Rows → Type 0
 AreShown types m rows = (id : List ℕ) (d : Contents) → document_of id rows ≡ Some d → shown types id (fin.get m id) ≡ Some d
 
--- each entry stands at its document, and the ready part has nothing else
+-- the ready part has nothing else
 pub record AreParts (p : Parts) : Type 0 where
-  pub own : AreOwn p.entries
-  pub bodies : (id : List ℕ) (e : Entry) → fin.get p.entries id ≡ Some e → HasOwnId e
   pub shown : AreShown p.types p.entries p.rows

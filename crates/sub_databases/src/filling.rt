@@ -1,16 +1,17 @@
 ghost use Rattle.std.specs.Prelude.{◌≡◌, ◌++◌, ◌∷◌, [], filter, if◌then◌else◌, IfOk, OnOk};
 ghost use Rattle.sub_databases.specs.Changes.{is_waiting};
 
+use crate::place::{has_own, is_ready};
 use documents::SharedEntry;
 use node_rows::NodeRows;
 use std::alloc::Global;
 use value_lists::{NoMemory, TryCopy};
 
-/// Whether an entry has a document that isn't ready.
+/// Whether an entry has a document of its id, and that isn't ready.
 fn is_waiting(rows: &NodeRows, entry: &SharedEntry) -> bool
     ensures { result ≡ is_waiting rows.now.rows entry.now }
 {
-    entry.has_document() && rows.local(&entry.entry().id).is_none()
+    has_own(entry) && !is_ready(rows, entry)
 }
 
 /// Adds an entry where it has a document that isn't ready, shared.

@@ -1,4 +1,4 @@
-ghost use Rattle.std.specs.Prelude.{◌≡◌, ◌↔◌, ◌+◌, ◌-◌, ◌^◌, ◌<◌, ℕ, List, Some, option_map, is_some, IfOk, OnOk, OnErr};
+ghost use Rattle.std.specs.Prelude.{◌≡◌, ◌↔◌, ℕ, List, Some, option_map, is_some, IfOk, OnOk, OnErr};
 ghost use Rattle.std.specs.Option.{option_copied};
 ghost use Rattle.std.specs.FinMap as fin;
 ghost use Rattle.local_ids.specs.Rising.{IsRising};
@@ -6,17 +6,18 @@ ghost use Rattle.global_ids.specs.Keys as keys;
 ghost use Rattle.document_rows.specs.Rows.{has_row};
 ghost use Rattle.document_rows.specs.Reading.{row_at, places_where, has_token};
 ghost use Rattle.entry_maps.specs.Entries.{in_bucket};
-ghost use Rattle.sub_databases.specs.Parts.{no_parts, place_in, AreParts, HasOwnId};
-ghost use Rattle.sub_databases.specs.Changes.{after_take, place_after, MakesReady, after_drop, place_dropped, after_forget, place_forgotten};
+ghost use Rattle.sub_databases.specs.Parts.{no_parts, place_in, AreParts};
+ghost use Rattle.sub_databases.specs.Changes.{after_take, place_after, Unites, MakesReady, after_drop, place_dropped, after_forget, place_forgotten};
 
 use crate::dropping::{drop_rows, listed_in};
 use crate::filling::waiting;
-use crate::place::{Place, place_by};
+use crate::place::{Place, is_ready, place_by};
 use crate::taking::{is_newer, is_remove_of, take_first, take_newer};
+use crate::uniting::{MOST, has_room, unite_ready, unite_waiting};
 use bucket_ids::Bucket;
 use document_ids::DocId;
 use documents::{Entry, SharedEntry};
-use entry_maps::EntryMap;
+use entry_maps::{EntryMap, join};
 use global_ids::key_of;
 use node_rows::{NodeRows, SharedSchema};
 use stamps::Stamp;
@@ -60,7 +61,7 @@ impl SubDatabases {
         ensures place { result ≡ place_in self.now id.now }
         ensures valid { AreParts self.now }
     {
-        place_by(self.entries.get(id), self.ready.local(id).is_some())
+        place_by(id, self.entries.get(id), self.ready.local(id).is_some())
     }
 
     /// The newest entry of a document.
@@ -69,6 +70,14 @@ impl SubDatabases {
         ensures valid { AreParts self.now }
     {
         self.entries.get(id)
+    }
+
+    /// The newest entries of all three parts.
+    pub fn newest(&self) -> &EntryMap
+        ensures entries { result.now ≡ self.now.entries }
+        ensures valid { AreParts self.now }
+    {
+        &self.entries
     }
 
     /// How many entries there are, removes among them.
@@ -106,14 +115,19 @@ impl SubDatabases {
         ready: bool,
     ) -> Result<(), NoMemory>
         requires key { key ≡ keys.key_of entry.now.id }
-        requires own { HasOwnId entry.now }
-        requires room { fin.len self.old.entries + 1 < 2 ^ 32 - 1 }
         ensures ok { OnOk result (self.new ≡ after_take entry.now ready self.old) }
         ensures places { OnOk result ((id : List ℕ) → place_in self.new id ≡ place_after entry.now ready self.old id) }
         ensures err { OnErr result (self.new ≡ self.old) }
     {
         entries_find_room();
         let _ = self.ready.len();
+        if !has_room(&self.entries, ready) {
+            return Err(NoMemory);
+        }
+        if !ready && !is_ready(&self.ready, entry) {
+            self.entries.put_at(key, entry.copy(alloc)?)?;
+            return Ok(());
+        }
         let there = self.entries.get_at(key, &entry.entry().id);
         if there.is_none() {
             return take_first(&mut self.entries, &mut self.ready, alloc, key, entry, ready);
@@ -124,15 +138,37 @@ impl SubDatabases {
         take_newer(&mut self.entries, &mut self.ready, alloc, key, entry, ready)
     }
 
+    /// Takes the entries of a map, which come ready or not: of each document the newer entry is kept, and the mark decides
+    /// on those that are newer. Costs the map's entries, where one of them is newer; and where they come ready and one of
+    /// them is of a document that has an entry, a copy of the ready part.
+    pub fn unite(&mut self, alloc: Global, entries: &EntryMap, ready: bool) -> Result<(), NoMemory>
+        ensures ok { OnOk result (Unites entries.now ready self.old self.new) }
+        ensures err { OnErr result (self.new ≡ self.old) }
+    {
+        if !ready && self.ready.len() == 0 {
+            return join(&mut self.entries, entries);
+        }
+        let list = entries.listed()?;
+        if !entries.has_newer(&self.entries) {
+            return Ok(());
+        }
+        if ready {
+            return unite_ready(&mut self.entries, &mut self.ready, alloc, entries, list);
+        }
+        unite_waiting(&mut self.entries, &mut self.ready, entries, list)
+    }
+
     /// Makes a bucket ready: its documents are in the ready part from then on, or none is where memory doesn't serve.
     /// Costs the bucket's entries.
     pub fn make_ready(&mut self, alloc: Global, bucket: Bucket) -> Result<(), NoMemory>
-        requires room { fin.len self.old.entries < 2 ^ 32 - 1 }
         ensures ok { OnOk result (MakesReady bucket self.old self.new) }
         ensures err { OnErr result (self.new ≡ self.old) }
     {
         entries_find_room();
         let _ = self.ready.len();
+        if self.entries.entries() >= MOST {
+            return Err(NoMemory);
+        }
         let entries = listed_in(&self.entries, bucket)?;
         let waiting = waiting(alloc, &self.ready, &entries)?;
         self.ready.take_all(alloc, &waiting)

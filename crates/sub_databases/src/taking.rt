@@ -1,10 +1,10 @@
-ghost use Rattle.std.specs.Prelude.{◌≡◌, ◌&&◌, None, true, false, is_some, IfOk, OnOk, OnErr};
+ghost use Rattle.std.specs.Prelude.{◌≡◌, None, true, false, is_some, OnOk, OnErr};
 ghost use Rattle.std.specs.Option.{option_copied};
 ghost use Rattle.std.specs.FinMap as fin;
 ghost use Rattle.global_ids.specs.Keys.{key_of};
 ghost use Rattle.entry_maps.specs.Entries.{is_newer};
 ghost use Rattle.node_rows.specs.TypedRows.{with_rows};
-ghost use Rattle.sub_databases.specs.Changes.{rows_after, is_remove_of, removal, IsTaken};
+ghost use Rattle.sub_databases.specs.Changes.{rows_after, is_remove_of, IsTaken};
 
 use document_ids::DocId;
 use documents::{Entry, SharedEntry};
@@ -12,6 +12,7 @@ use entry_maps::EntryMap;
 use node_rows::NodeRows;
 use stamps::Stamp;
 use std::alloc::Global;
+use std::slice;
 use value_lists::{NoMemory, TryCopy};
 
 /// Whether an entry is newer than one that may be there.
@@ -38,20 +39,6 @@ pub fn is_remove_of(stamp: Stamp, newest: Option<&Entry>) -> bool
     }
 }
 
-/// A remove of an entry's stamp and document.
-fn removal(alloc: Global, entry: &Entry) -> Result<SharedEntry, NoMemory>
-    ensures { IfOk result (λ r. r ≡ removal entry.now) }
-{
-    SharedEntry::new(
-        alloc,
-        Entry {
-            stamp: entry.stamp,
-            id: entry.id.copy(alloc)?,
-            body: None,
-        },
-    )
-}
-
 /// Puts what a newer entry leaves into the ready part: its document where it comes ready, else none of its id.
 fn settle(
     rows: &mut NodeRows,
@@ -68,11 +55,8 @@ fn settle(
     if ready {
         return rows.take(alloc, key, entry);
     }
-    if rows.local(&entry.entry().id).is_none() {
-        return Ok(());
-    }
-    let gone = removal(alloc, entry.entry())?;
-    rows.take(alloc, key, &gone)
+    rows.leave_all(slice::from_ref(entry));
+    Ok(())
 }
 
 /// Takes the first entry of a document.

@@ -1,7 +1,7 @@
 //! Tables of texts and small values, told from outside: ids, keys, buckets, stamps, node sets and cluster states;
 //! schemas, documents and updates; the texts of the two languages; JSON values, the lines of a feed, the words of
-//! the command and reports. A file of `data/` is a table, and prints one line: how many of its cases came right,
-//! and each that didn't.
+//! the command and reports; what a node finds on its disk. A file of `data/` is a table, and prints one line: how many
+//! of its cases came right, and each that didn't.
 //!
 //! A line of a table is what is wanted, a tab, and what is asked; a line that begins with `#` is for the reader. In
 //! what is asked `\t`, `\r` and `\n` are a tab and the two ends of lines, `\\` is a backslash, `\u{a0}` the character
@@ -11,6 +11,7 @@
 mod fields;
 mod found;
 mod ids;
+mod journals;
 mod languages;
 mod lines;
 mod scanned;
@@ -25,10 +26,15 @@ use crate::world::World;
 use std::alloc::Global;
 use std::{fs, io};
 
+/// What the tables speak of; none where it can't be read.
+fn read_world(rt: &HostRuntime) -> io::Result<Option<World>> {
+    let schemas = fs::read_to_string(rt, "schemas")?;
+    let documents = fs::read_to_string(rt, "documents")?;
+    Ok(World::read(rt.alloc(), &schemas, &documents))
+}
+
 fn main(rt: HostRuntime) -> io::Result<()> {
-    let schemas = fs::read_to_string(&rt, "schemas")?;
-    let documents = fs::read_to_string(&rt, "documents")?;
-    match World::read(rt.alloc(), &schemas, &documents) {
+    match read_world(&rt)? {
         Some(mut world) => print_tables(&rt, &mut world),
         None => println!(rt; "schemas and documents: DIFFER"),
     }

@@ -1,5 +1,5 @@
 use crate::world::World;
-use crate::{fields, ids, languages, lines, scanned, states};
+use crate::{fields, ids, journals, languages, lines, scanned, states};
 use std::alloc::Global;
 
 /// What is asked of the lines of a file.
@@ -48,10 +48,11 @@ pub enum Table {
     Faults,
     Reports,
     MessageTexts,
+    Journals,
 }
 
 /// The tables with their files.
-pub const TABLES: [(Table, &str); 43] = [
+pub const TABLES: [(Table, &str); 44] = [
     (Table::Ids, "ids"),
     (Table::IdParts, "id_parts"),
     (Table::Digests, "digests"),
@@ -95,6 +96,7 @@ pub const TABLES: [(Table, &str); 43] = [
     (Table::Faults, "faults"),
     (Table::Reports, "reports"),
     (Table::MessageTexts, "message_texts"),
+    (Table::Journals, "journals"),
 ];
 
 /// What comes where a line of a table asks.
@@ -133,5 +135,6 @@ pub fn answer(alloc: Global, world: &mut World, table: Table, asked: &str) -> Op
         Table::Faults => lines::lines_read(alloc, asked),
         Table::Reports => lines::reported(alloc, asked),
         Table::MessageTexts => lines::message_read(alloc, &world.standard, asked),
+        Table::Journals => journals::journal_told(alloc, &world.standard, asked),
     }
 }

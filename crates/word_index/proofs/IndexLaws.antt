@@ -1,7 +1,7 @@
 -- What a map of words says as an index.
 use Rattle.std.proofs.Common.{◌≡◌, ◌≢◌, ◌↔◌, ◌⊎◌, inl, inr, ℕ, ◌<◌, ◌==◌, Bool, true, false, cond, List, [], ◌∷◌, ◌++◌, map, length, refl, sym, ap, ap₂, subst, ◌∙◌, arith, Option, None, Some, option_map, bytes_eq, String}
-use Rattle.std.specs.BTreeMap.{BTreeMap, UpdatesBy, get_by_text, is_at}
-use Rattle.std.specs.String.{string_bytes, string_cmp}
+use Rattle.std.specs.HashMap.{HashMap, UpdatesBy, get_by_text}
+use Rattle.std.specs.String.{string_bytes, string_eq}
 use Rattle.std.specs.Map.{lookup}
 use Rattle.std.specs.List.{Contains}
 use Rattle.std.specs.Option.{option_map_or, unwrap_or, IfSome}
@@ -10,7 +10,7 @@ use Rattle.std.specs.Cmp.{eq_by_cmp_equiv}
 use Rattle.std.specs.Cmp.Lexicographic.{slice_cmp, nat_list_cmp_total}
 use Rattle.std.specs.FinMap as fin
 use Rattle.std.specs.FinMap.{get-empty, get-from_entries, get-insert, get-remove, same_map, slice_cmp-IsAntisymmetric, nat_cmp-IsAntisymmetric}
-use Rattle.std.proofs.lemmas.Map.Text.{btree_map_updates_text, is_eq-slice_cmp}
+use Rattle.std.proofs.lemmas.Map.Text.{hash_map_updates_text, is_eq-slice_cmp}
 use Rattle.std.proofs.lemmas.Slice.Eq.{bytes_eq-Decides}
 use Rattle.std.proofs.lemmas.Bool.Decides.{nat_tests}
 use Rattle.proof_basics.proofs.Tests.{clash}
@@ -21,15 +21,17 @@ use Rattle.word_index.specs.Index.{Index, IsWordList, IsIndex, list_of, with_lis
 use Rattle.word_index.specs.Kept.{index_of, if_any}
 
 found : {X Y : Type 0} (items : X → List ℕ) (q : List ℕ) (es : List (String Y × X))
-    → fin.find (slice_cmp nat_cmp) q (map (λ e. (string_bytes e.0, items e.1)) es) ≡ option_map items (lookup (is_at (λ k. slice_cmp nat_cmp q (string_bytes k))) es)
+    → fin.find (slice_cmp nat_cmp) q (map (λ e. (string_bytes e.0, items e.1)) es) ≡ option_map items (lookup (λ k. bytes_eq q (string_bytes k)) es)
 found items q [] = refl
-found {X} items q (e ∷ es) = by_test (eq_by_cmp (slice_cmp nat_cmp) q (string_bytes e.0)) _ _ (found items q es)
+found {X} items q (e ∷ es) =
+    ap (λ t. cond t (Some (items e.1)) (fin.find (slice_cmp nat_cmp) q (map (λ e. (string_bytes e.0, items e.1)) es))) (is_eq-slice_cmp q (string_bytes e.0))
+    ∙ by_test (bytes_eq q (string_bytes e.0)) _ _ (found items q es)
   where
     by_test : (t : Bool) (o : Option (List ℕ)) (p : Option X) → o ≡ option_map items p → cond t (Some (items e.1)) o ≡ option_map items (cond t (Some e.1) p)
     by_test true o p h = refl
     by_test false o p h = h
 
-pub get_index : {X Y : Type 0} (items : X → List ℕ) (lists : BTreeMap (String Y) X) (q : List ℕ) → fin.get (index_of items lists) q ≡ option_map items (get_by_text lists q)
+pub get_index : {X Y S : Type 0} (items : X → List ℕ) (lists : HashMap (String Y) X S) (q : List ℕ) → fin.get (index_of items lists) q ≡ option_map items (get_by_text lists q)
 get_index items lists q = get-from_entries nat_list_cmp_total _ q ∙ found items q lists.entries
 
 same_test : (word q : List ℕ) → eq_by_cmp (slice_cmp nat_cmp) q word ≡ bytes_eq word q
@@ -40,9 +42,9 @@ same_index m n f = same_map nat_list_cmp_total (slice_cmp-IsAntisymmetric nat_cm
 
 -- ---- a map of words after a change at one
 
-pub updated : {X Y : Type 0} (items : X → List ℕ) (word : List ℕ) (m n : BTreeMap (String Y) X) (o : Option X) → UpdatesBy string_cmp (λ k. slice_cmp nat_cmp word (string_bytes k)) m n o
+pub updated : {X Y S : Type 0} (items : X → List ℕ) (word : List ℕ) (m n : HashMap (String Y) X S) (o : Option X) → UpdatesBy string_eq (λ k. bytes_eq word (string_bytes k)) m n o
     → (p : Option (List ℕ)) → option_map items o ≡ p → (q : List ℕ) → option_map items (get_by_text n q) ≡ cond (bytes_eq word q) p (option_map items (get_by_text m q))
-updated {X} items word m n o u p e q = ap (option_map items) (btree_map_updates_text word m n o u q) ∙ by_test (bytes_eq word q)
+updated {X} items word m n o u p e q = ap (option_map items) (hash_map_updates_text word m n o u q) ∙ by_test (bytes_eq word q)
   where
     by_test : (t : Bool) → option_map items (cond t o (get_by_text m q)) ≡ cond t p (option_map items (get_by_text m q))
     by_test true = e
@@ -61,13 +63,13 @@ listed : {X : Type 0} (items : X → List ℕ) (o : Option X) → option_map_or 
 listed items None = refl
 listed items (Some v) = refl
 
-pub list_is : {X Y : Type 0} (items : X → List ℕ) (lists : BTreeMap (String Y) X) (word : List ℕ) → option_map_or items (get_by_text lists word) [] ≡ list_of word (index_of items lists)
+pub list_is : {X Y S : Type 0} (items : X → List ℕ) (lists : HashMap (String Y) X S) (word : List ℕ) → option_map_or items (get_by_text lists word) [] ≡ list_of word (index_of items lists)
 list_is items lists word = listed items (get_by_text lists word) ∙ ap (λ o. unwrap_or o []) (sym (get_index items lists word))
 
-pub same_lists : {X Y : Type 0} (items : X → List ℕ) (old new : BTreeMap (String Y) X) → ((q : List ℕ) → option_map items (get_by_text new q) ≡ option_map items (get_by_text old q)) → index_of items new ≡ index_of items old
+pub same_lists : {X Y S : Type 0} (items : X → List ℕ) (old new : HashMap (String Y) X S) → ((q : List ℕ) → option_map items (get_by_text new q) ≡ option_map items (get_by_text old q)) → index_of items new ≡ index_of items old
 same_lists items old new f = same_index _ _ (λ q. get_index items new q ∙ f q ∙ sym (get_index items old q))
 
-pub added : {X Y : Type 0} (items : X → List ℕ) (old new : BTreeMap (String Y) X) (word : List ℕ) (x : ℕ)
+pub added : {X Y S : Type 0} (items : X → List ℕ) (old new : HashMap (String Y) X S) (word : List ℕ) (x : ℕ)
     → ((q : List ℕ) → option_map items (get_by_text new q) ≡ cond (bytes_eq word q) (Some (with_local x (option_map_or items (get_by_text old word) []))) (option_map items (get_by_text old q)))
     → index_of items new ≡ with_word word x (index_of items old)
 added items old new word x f = same_index _ _ (λ q. get_index items new q ∙ f q
@@ -79,7 +81,7 @@ some_left items h none None = sym (ap (λ l. if_any (Some l)) none)
 some_left items h none (Some v) = refl
 
 -- a word's list changed, and no empty one kept
-pub changed : {X Y : Type 0} (items : X → List ℕ) (old mid new : BTreeMap (String Y) X) (word : List ℕ) (h : List ℕ → List ℕ) → h [] ≡ []
+pub changed : {X Y S : Type 0} (items : X → List ℕ) (old mid new : HashMap (String Y) X S) (word : List ℕ) (h : List ℕ → List ℕ) → h [] ≡ []
     → ((q : List ℕ) → option_map items (get_by_text mid q) ≡ cond (bytes_eq word q) (option_map (λ v. h (items v)) (get_by_text old word)) (option_map items (get_by_text old q)))
     → ((q : List ℕ) → option_map items (get_by_text new q) ≡ cond (bytes_eq word q) (if_any (option_map items (get_by_text mid word))) (option_map items (get_by_text mid q)))
     → bytes_eq word word ≡ true
@@ -97,7 +99,7 @@ changed {X} items old mid new word h none f g own = same_index _ _ (λ q. get_in
     twice true a b o = refl
     twice false a b o = refl
 
-pub dropped : {X Y : Type 0} (items : X → List ℕ) (old mid new : BTreeMap (String Y) X) (word : List ℕ) (x : ℕ)
+pub dropped : {X Y S : Type 0} (items : X → List ℕ) (old mid new : HashMap (String Y) X S) (word : List ℕ) (x : ℕ)
     → ((q : List ℕ) → option_map items (get_by_text mid q) ≡ cond (bytes_eq word q) (option_map (λ v. without_local x (items v)) (get_by_text old word)) (option_map items (get_by_text old q)))
     → ((q : List ℕ) → option_map items (get_by_text new q) ≡ cond (bytes_eq word q) (if_any (option_map items (get_by_text mid word))) (option_map items (get_by_text mid q)))
     → bytes_eq word word ≡ true
@@ -142,7 +144,7 @@ pub empty_keeps : IsIndex fin.empty
 empty_keeps = λ q. subst (λ o. IfSome o IsWordList) (sym (get-empty (slice_cmp nat_cmp) q)) tt
 
 -- the ids at a word rise
-pub rises_at : {X Y : Type 0} (items : X → List ℕ) (lists : BTreeMap (String Y) X) → IsIndex (index_of items lists) → (word : List ℕ) → IfSome (get_by_text lists word) (λ v. IsRising (items v))
+pub rises_at : {X Y S : Type 0} (items : X → List ℕ) (lists : HashMap (String Y) X S) → IsIndex (index_of items lists) → (word : List ℕ) → IfSome (get_by_text lists word) (λ v. IsRising (items v))
 rises_at {X} items lists h word = each (get_by_text lists word) (subst (λ o. IfSome o IsWordList) (get_index items lists word) (h word))
   where
     each : (o : Option X) → IfSome (option_map items o) IsWordList → IfSome o (λ v. IsRising (items v))
@@ -166,7 +168,7 @@ any_same items (Some v) f = by_list (items v) f
 pub same_word : (word : List ℕ) → bytes_eq word word ≡ true
 same_word word = sym (is_eq-slice_cmp word word) ∙ (eq_by_cmp_equiv nat_list_cmp_total).refl word
 
-pub same_at : {X Y : Type 0} (items : X → List ℕ) (m : BTreeMap (String Y) X) (word q : List ℕ) → cond (bytes_eq word q) (option_map items (get_by_text m word)) (option_map items (get_by_text m q)) ≡ option_map items (get_by_text m q)
+pub same_at : {X Y S : Type 0} (items : X → List ℕ) (m : HashMap (String Y) X S) (word q : List ℕ) → cond (bytes_eq word q) (option_map items (get_by_text m word)) (option_map items (get_by_text m q)) ≡ option_map items (get_by_text m q)
 same_at items m word q = by_test (bytes_eq word q) refl
   where
     by_test : (t : Bool) → bytes_eq word q ≡ t → cond t (option_map items (get_by_text m word)) (option_map items (get_by_text m q)) ≡ option_map items (get_by_text m q)

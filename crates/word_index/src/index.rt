@@ -5,14 +5,14 @@ ghost use Rattle.word_index.specs.Index.{list_of, with_word, without_word, with_
 
 use crate::lists::{add_in, drop_in, list_in, move_in, tidy_in};
 use std::alloc::Global;
-use std::collections::BTreeMap;
+use std::collections::HashMap;
 use std::marker::Model;
 use value_lists::NoMemory;
 
 /// Of each word the documents that have it, by local id. Words are compared as bytes.
 #[derive(Drop)]
 pub struct WordIndex {
-    lists: BTreeMap<String, Vec<u32>>,
+    lists: HashMap<String, Vec<u32>>,
 }
 
 impl Model for WordIndex {
@@ -36,12 +36,12 @@ impl WordIndex {
         ensures { result ≡ fin.empty }
     {
         WordIndex {
-            lists: BTreeMap::new(alloc),
+            lists: HashMap::new(alloc),
         }
     }
 
-    /// A document has a word. Takes the logarithm of the words, a binary search in the word's list, and the move of the
-    /// ids above it by four bytes each.
+    /// A document has a word. Takes one look at the word, a binary search in its list, and the move of the ids above
+    /// it by four bytes each; now and then, where there are too many words for the table, a look at each.
     pub fn add(&mut self, alloc: Global, token: &str, local: u32) -> Result<(), NoMemory>
         ensures ok { OnOk result (self.new ≡ with_word token.now local self.old) }
         ensures err { OnErr result (self.new ≡ self.old) }

@@ -1,16 +1,16 @@
 ghost use Rattle.std.specs.Prelude.{◌≡◌, ℕ, List, [], Some, bytes_eq, if◌then◌else◌, option_map, IfSome, OnOk, OnErr};
 ghost use Rattle.std.specs.Option.{option_map_or};
-ghost use Rattle.std.specs.BTreeMap.{get_by_text};
+ghost use Rattle.std.specs.HashMap.{get_by_text};
 ghost use Rattle.local_ids.specs.Rising.{IsRising, with_local, without_local, moved_local};
 ghost use Rattle.word_index.specs.Kept.{if_any};
 
 use local_ids::{drop_local, move_local, put_local};
 use std::alloc::Global;
-use std::collections::BTreeMap;
+use std::collections::HashMap;
 use value_lists::NoMemory;
 
 /// The ids at a word.
-pub fn list_in<'a>(lists: &'a BTreeMap<String, Vec<u32>>, token: &str) -> &'a [u32]
+pub fn list_in<'a>(lists: &'a HashMap<String, Vec<u32>>, token: &str) -> &'a [u32]
     ensures { result.now ≡ option_map_or (λ v. v.items) (get_by_text lists.now token.now) [] }
 {
     match lists.get(token) {
@@ -22,7 +22,7 @@ pub fn list_in<'a>(lists: &'a BTreeMap<String, Vec<u32>>, token: &str) -> &'a [u
 /// An id more at a word.
 pub fn add_in(
     alloc: Global,
-    lists: &mut BTreeMap<String, Vec<u32>>,
+    lists: &mut HashMap<String, Vec<u32>>,
     token: &str,
     local: u32,
 ) -> Result<(), NoMemory>
@@ -44,7 +44,7 @@ pub fn add_in(
 }
 
 /// An id less at a word, whose list may then be empty.
-pub fn drop_in(lists: &mut BTreeMap<String, Vec<u32>>, token: &str, local: u32)
+pub fn drop_in(lists: &mut HashMap<String, Vec<u32>>, token: &str, local: u32)
     requires { IfSome (get_by_text lists.old token.now) (λ v. IsRising v.items) }
     ensures { (q : List ℕ) → option_map (λ v. v.items) (get_by_text lists.new q)
         ≡ (if bytes_eq token.now q
@@ -57,7 +57,7 @@ pub fn drop_in(lists: &mut BTreeMap<String, Vec<u32>>, token: &str, local: u32)
 }
 
 /// Puts an id in the place of another at a word.
-pub fn move_in(lists: &mut BTreeMap<String, Vec<u32>>, token: &str, from: u32, to: u32)
+pub fn move_in(lists: &mut HashMap<String, Vec<u32>>, token: &str, from: u32, to: u32)
     requires { IfSome (get_by_text lists.old token.now) (λ v. IsRising v.items) }
     ensures { (q : List ℕ) → option_map (λ v. v.items) (get_by_text lists.new q)
         ≡ (if bytes_eq token.now q
@@ -70,7 +70,7 @@ pub fn move_in(lists: &mut BTreeMap<String, Vec<u32>>, token: &str, from: u32, t
 }
 
 /// Takes a word out whose list is empty.
-pub fn tidy_in(lists: &mut BTreeMap<String, Vec<u32>>, token: &str)
+pub fn tidy_in(lists: &mut HashMap<String, Vec<u32>>, token: &str)
     ensures { (q : List ℕ) → option_map (λ v. v.items) (get_by_text lists.new q)
         ≡ (if bytes_eq token.now q then if_any (option_map (λ v. v.items) (get_by_text lists.old token.now))
         else option_map (λ v. v.items) (get_by_text lists.old q)) }

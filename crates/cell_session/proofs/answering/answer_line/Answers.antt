@@ -13,7 +13,7 @@ if_err (Err e) P Q h step = step e h
 pub returns-in_err-write_all-clause-stopped : goal.returns-in_err-write_all-clause-stopped
 returns-in_err-write_all-clause-stopped g c =
     if_err c.from_residual-in_err-write_all.result _ _ c.from_residual-in_err-write_all.ensures.1 (λ why is.
-    subst (λ w. StopsAs w c.args.setting.now c.args.line c.args.command c.args.cluster.now c.deal.new.self (g.K.Sink.written c.args.sink.now) (g.K.Sink.written c.write_all.new.sink)) (sym is) (
+    subst (λ w. StopsAs w c.args.setting.now c.args.line c.args.command c.args.session.now.cell c.deal.new.self.cell (g.K.Sink.written c.args.sink.now) (g.K.Sink.written c.write_all.new.sink)) (sym is) (
       c.in_ok-answer.ensures.ok.0,
       subst (AppendsFront (g.K.Sink.written c.args.sink.now) (g.K.Sink.written c.write_all.new.sink)) (c.deref.ensures.value ∙ c.in_ok-bytes.ensures ∙ ap (bytes_of c.args.line) c.in_ok-answer.ensures.ok.1) c.in_err-write_all.ensures.err,
     ))
@@ -26,5 +26,5 @@ pub returns-in_err-bytes-clause-stopped : goal.returns-in_err-bytes-clause-stopp
 returns-in_err-bytes-clause-stopped g c =
     let dealt = c.in_ok-answer.ensures.ok.0 in
     if_err c.from_residual-in_err-bytes.result _ _ c.from_residual-in_err-bytes.ensures.1 (λ why is.
-    subst (λ w. StopsAs w c.args.setting.now c.args.line c.args.command c.args.cluster.now c.deal.new.self (g.K.Sink.written c.args.sink.now) (g.K.Sink.written c.args.sink.now)) (sym is)
-    (inr (record { mid = dealt.mid; done = dealt.done.0; shown = dealt.shown }), keeps (g.K.Sink.written c.args.sink.now)))
+    subst (λ w. StopsAs w c.args.setting.now c.args.line c.args.command c.args.session.now.cell c.deal.new.self.cell (g.K.Sink.written c.args.sink.now) (g.K.Sink.written c.args.sink.now)) (sym is)
+    (inr dealt.0, keeps (g.K.Sink.written c.args.sink.now)))

@@ -1,8 +1,8 @@
 use Rattle.std.proofs.Common.{◌≡◌, get_or, sym, ap, subst, ◌∙◌}
 use Rattle.std.specs.Option.{option_copied}
-use Rattle.std.specs.Ordering.{int_cmp}
-use Rattle.std.specs.BTreeMap as tree
-use Rattle.std.specs.BTreeMap.{get_by_text}
+use Rattle.std.specs.Ordering.{int_eq}
+use Rattle.indexmap.specs.IndexMap as table
+use Rattle.indexmap.specs.IndexMap.{get_by_text}
 use Rattle.document_indexes.specs.Entering.{IsLent}
 use Rattle.document_rows.specs.Reading.{row_at, value_at}
 use Rattle.view_changes.specs.Serving.{rows_of}
@@ -17,7 +17,7 @@ returns-in_err-place_value-clause-numbers g c =
     let old = c.args.numbers.now in
     let now = c.loop-hit.numbers in
     let new = c.place_value.new.numbers in
-    places-both (c.args.by.now).outputs old.entries now.entries new.entries (tree.get int_cmp old) (tree.get int_cmp now) (tree.get int_cmp new) c.loop-hit.invariant.0 c.place_value.ensures.numbers
+    places-both (c.args.by.now).outputs old.entries now.entries new.entries (table.get int_eq old) (table.get int_eq now) (table.get int_eq new) c.loop-hit.invariant.0 c.place_value.ensures.numbers
 
 pub returns-in_err-place_value-clause-texts : goal.returns-in_err-place_value-clause-texts
 returns-in_err-place_value-clause-texts g c =
@@ -46,9 +46,9 @@ loop-hit-preserved g c =
     let field = c.text-field.result.now in
     let lent : IsLent name field (row_at rows) (option_copied c.lend-lent.result.column) = c.lend-lent.ensures.column in
     let is : value ≡ value_at rows hit.local by.field = c.value_at-value.ensures name lent ∙ ap (value_at rows hit.local) c.text-field.ensures in (
-      places-both by.outputs numbers.entries numbers_now.entries numbers_new.entries (tree.get int_cmp numbers) (tree.get int_cmp numbers_now) (tree.get int_cmp numbers_new) c.loop-hit.invariant.0 c.in_ok-place_value.ensures.numbers,
+      places-both by.outputs numbers.entries numbers_now.entries numbers_new.entries (table.get int_eq numbers) (table.get int_eq numbers_now) (table.get int_eq numbers_new) c.loop-hit.invariant.0 c.in_ok-place_value.ensures.numbers,
       places-both by.outputs texts.entries texts_now.entries texts_new.entries (get_by_text texts) (get_by_text texts_now) (get_by_text texts_new) c.loop-hit.invariant.1 c.in_ok-place_value.ensures.texts,
-      place-next v hits i first number_of by.field value (tree.get int_cmp numbers_now) (tree.get int_cmp numbers_new) c.loop-hit-test.true is (c.in_ok-place_value.ensures.numbers).stay c.loop-hit.invariant.2 c.in_ok-place_value.ensures.number,
+      place-next v hits i first number_of by.field value (table.get int_eq numbers_now) (table.get int_eq numbers_new) c.loop-hit-test.true is (c.in_ok-place_value.ensures.numbers).stay c.loop-hit.invariant.2 c.in_ok-place_value.ensures.number,
       place-next v hits i first text_of by.field value (get_by_text texts_now) (get_by_text texts_new) c.loop-hit-test.true is (c.in_ok-place_value.ensures.texts).stay c.loop-hit.invariant.3 c.in_ok-place_value.ensures.text,
       subst (λ n. IsLent name field (row_at (rows_of n v)) (option_copied c.lend-lent.result.column)) (sym c.lend-lent.ensures.node) lent,
     )

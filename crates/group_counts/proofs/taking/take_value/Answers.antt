@@ -6,8 +6,8 @@ use Rattle.std.proofs.lemmas.Int.{to_z-of_z}
 use Rattle.std.specs.Prelude.{IsSome}
 use Rattle.std.specs.Ordering.{int_cmp, nat_cmp, int_eq}
 use Rattle.std.specs.Cmp.Lexicographic.{slice_cmp}
-use Rattle.std.specs.BTreeMap as tree
-use Rattle.std.specs.BTreeMap.{get_by_text}
+use Rattle.indexmap.specs.IndexMap as table
+use Rattle.indexmap.specs.IndexMap.{get_by_text}
 use Rattle.group_counts.specs.Figures.{AreFigures}
 use Rattle.group_counts.specs.Keyed.{number_of, text_of, number_in, text_in}
 use Rattle.group_counts.specs.Tallies.{tally_with, HasPlace}
@@ -21,7 +21,7 @@ take_number-requires-clause-placed c =
     let fits : SFits w64 number = search rules in
     let own : number_of (option_copied c.args.value) ≡ Some number = search rules in
     let old = c.args.numbers.now in
-    subst (λ n. IsSome (tree.get int_cmp old n)) (sym (to_z-of_z w64 number fits)) (subst (λ o. HasPlace o (tree.get int_cmp old)) own c.requires.number)
+    subst (λ n. IsSome (table.get int_eq old n)) (sym (to_z-of_z w64 number fits)) (subst (λ o. HasPlace o (table.get int_eq old)) own c.requires.number)
 
 pub returns-in-Some-Int-clause-numbers : goal.returns-in-Some-Int-clause-numbers
 returns-in-Some-Int-clause-numbers c = λ d f is.
@@ -31,9 +31,9 @@ returns-in-Some-Int-clause-numbers c = λ d f is.
     let own : number_in by.field d ≡ Some number = ap number_of is ∙ (let e : number_of (option_copied c.args.value) ≡ Some number = search rules in e) in
     let old = c.args.numbers.now in
     let new = c.take_number.new.tallies in
-    taken-key int_cmp by.outputs (number_in by.field) same-number d number (int_eq number) 9223372036854775807 (tree.get int_cmp old) (tree.get int_cmp new) own (number-test number) c.requires.numbers
-    (subst (λ n. (z : ℤ) → tree.get int_cmp new z ≡ cond (int_eq n z) (Some (tally_with by.outputs d (tree.get int_cmp old n))) (tree.get int_cmp old z)) (to_z-of_z w64 number fits)
-    (subst (λ ks. (z : ℤ) → tree.get int_cmp new z ≡ cond (int_eq (to_z w64 (of_z w64 number)) z) (Some (tally_with ks d (tree.get int_cmp old (to_z w64 (of_z w64 number))))) (tree.get int_cmp old z)) c.items.ensures (c.take_number.ensures d (subst (λ ks. AreFigures ks d c.args.slots.now) (sym c.items.ensures) f))))
+    taken-key int_cmp by.outputs (number_in by.field) same-number d number (int_eq number) 9223372036854775807 (table.get int_eq old) (table.get int_eq new) own (number-test number) c.requires.numbers
+    (subst (λ n. (z : ℤ) → table.get int_eq new z ≡ cond (int_eq n z) (Some (tally_with by.outputs d (table.get int_eq old n))) (table.get int_eq old z)) (to_z-of_z w64 number fits)
+    (subst (λ ks. (z : ℤ) → table.get int_eq new z ≡ cond (int_eq (to_z w64 (of_z w64 number)) z) (Some (tally_with ks d (table.get int_eq old (to_z w64 (of_z w64 number))))) (table.get int_eq old z)) c.items.ensures (c.take_number.ensures d (subst (λ ks. AreFigures ks d c.args.slots.now) (sym c.items.ensures) f))))
 
 pub returns-in-Some-Text-clause-texts : goal.returns-in-Some-Text-clause-texts
 returns-in-Some-Text-clause-texts c = λ d f is.

@@ -1,10 +1,8 @@
 use Rattle.std.proofs.Common.{◌≡◌, sym, subst, ◌∙◌, None, Some, bytes_eq}
-use Rattle.std.specs.Ordering.{nat_cmp}
-use Rattle.std.specs.Cmp.Lexicographic.{slice_cmp}
 use Rattle.std.specs.Map.{lookup}
-use Rattle.std.specs.BTreeMap.{is_at, get_by_text}
-use Rattle.std.specs.String.{string_bytes, string_cmp}
-use Rattle.std.proofs.lemmas.Map.Text.{btree_map_updates_text}
+use Rattle.indexmap.specs.IndexMap.{get_by_text}
+use Rattle.std.specs.String.{string_bytes, string_eq}
+use Rattle.std.proofs.lemmas.Map.Text.{hash_map_updates_text}
 use Rattle.group_counts.proofs.PlaceLaws.{no_place, places-put}
 use Rattle.group_counts.proofs.tallies.place_text.Goals as goal
 
@@ -15,7 +13,7 @@ returns-in_ok-insert-clause-places c =
     let key = c.in_ok-key.key in
     let tally = c.in_ok-tally.tally in
     let absent : get_by_text old c.args.text.now ≡ None = no_place (get_by_text old c.args.text.now) (sym c.contains_key.ensures ∙ c.if-not-contains_key.true) in
-    places-put c.args.kinds.now string_cmp old.entries new.entries key tally (bytes_eq (string_bytes key)) (get_by_text old) (get_by_text new)
-    (subst (λ bs. lookup (is_at (λ k. slice_cmp nat_cmp bs (string_bytes k))) old.entries ≡ None) (sym c.in_ok-key.ensures.ok) absent)
+    places-put c.args.kinds.now string_eq old.entries new.entries key tally (bytes_eq (string_bytes key)) (get_by_text old) (get_by_text new)
+    (subst (λ bs. lookup (λ k. bytes_eq bs (string_bytes k)) old.entries ≡ None) (sym c.in_ok-key.ensures.ok) absent)
     c.in_ok-tally.ensures c.in_ok-insert.ensures.entries
-    (btree_map_updates_text (string_bytes key) old new (Some tally) c.in_ok-insert.ensures.updates)
+    (hash_map_updates_text (string_bytes key) old new (Some tally) c.in_ok-insert.ensures.updates)

@@ -77,3 +77,6 @@ returns-clause-stands g c =
 
 pub returns-clause-told : goal.returns-clause-told
 returns-clause-told g c = (c.in_ok-reply.reply, c.take_reply.ensures)
+
+pub returns-clause-one : goal.returns-clause-one
+returns-clause-one g c = let w = c.in_ok-reply.ensures.exchanged.went in (w.fate, w.fates)

@@ -1,4 +1,4 @@
-use Rattle.std.proofs.Common.{◌≡◌, ◌∙◌, ap, sym, subst}
+use Rattle.std.proofs.Common.{◌≡◌, ◌∙◌, inl, inr, refl, ap, sym, subst}
 use Rattle.op_machine.specs.declared.machine.Standing.{Standing}
 use Rattle.op_machine.specs.Outcomes.{Asks}
 use Rattle.op_machine.specs.Standings.{next_at}
@@ -122,3 +122,21 @@ returns-in_err-exchange_operation-clause-finds g c = finds-grown (place_of c.wri
 
 pub returns-clause-finds : goal.returns-clause-finds
 returns-clause-finds g c = finds-grown (place_of c.write_wanted.new.places) c.write_wanted.new.lane.journal.events.items c.exchange_operation.new.lane.journal.events.items c.exchange_operation.ensures.entries c.write_wanted.ensures.finds
+
+pub returns-clause-one : goal.returns-clause-one
+returns-clause-one g c = λ yes. c.in_ok-exchange_operation.ensures.one
+
+pub returns-in_err-message-clause-few : goal.returns-in_err-message-clause-few
+returns-in_err-message-clause-few g c = inl refl
+
+pub returns-in_default-clause-few : goal.returns-in_default-clause-few
+returns-in_default-clause-few g c = inl refl
+
+pub returns-in_err-ready-clause-few : goal.returns-in_err-ready-clause-few
+returns-in_err-ready-clause-few g c = inl refl
+
+pub returns-in_err-exchange_operation-clause-few : goal.returns-in_err-exchange_operation-clause-few
+returns-in_err-exchange_operation-clause-few g c = inl c.in_err-exchange_operation.ensures.given
+
+pub returns-clause-few : goal.returns-clause-few
+returns-clause-few g c = inr c.in_ok-exchange_operation.ensures.one

@@ -4,12 +4,12 @@ use Rattle.disks.specs.Moments.{weaker}
 use Rattle.node_journal.proofs.Openings.{empty_read, empty_moment, filled_read, cause_long}
 use Rattle.node_journal.proofs.replaying.read_all.Goals as goal
 
-pub returns-in-Ok-clause-read : goal.returns-in-Ok-clause-read
-returns-in-Ok-clause-read g c =
-    empty_read c.args.schema.now (g.D.Disk.state c.args.disk.now).seen (g.D.Disk.state c.keep.new.disk) c.new.result (omega (arith, c.requires.size, c.if-size-lt6.true)) c.in-Ok.ensures.written c.in-Ok.ensures.durable c.new.ensures
+pub returns-in-Ok-keep-clause-read : goal.returns-in-Ok-keep-clause-read
+returns-in-Ok-keep-clause-read g c =
+    empty_read c.args.schema.now (g.D.Disk.state c.args.disk.now).seen (g.D.Disk.state c.keep.new.disk) c.in-Ok.node (omega (arith, c.requires.size, c.if-size-lt6.true)) c.in-Ok-keep.ensures.written c.in-Ok-keep.ensures.durable c.in-Ok.ensures
 
-pub returns-in-Ok-clause-any_moment : goal.returns-in-Ok-clause-any_moment
-returns-in-Ok-clause-any_moment g c limit least size settled =
+pub returns-in-Ok-keep-clause-any_moment : goal.returns-in-Ok-keep-clause-any_moment
+returns-in-Ok-keep-clause-any_moment g c limit least size settled =
     weaker _ _ _ _ (c.keep.ensures.any_moment settled) (λ f torn. empty_moment c.args.schema.now (g.D.Disk.state c.args.disk.now).seen f limit (omega (arith, c.requires.size, c.if-size-lt6.true)) least size torn)
 
 pub returns-in-Err-clause-any_moment : goal.returns-in-Err-clause-any_moment

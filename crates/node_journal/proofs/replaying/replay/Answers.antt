@@ -1,10 +1,11 @@
 use Rattle.std.proofs.Common.{ℕ, List, drop, ◌∙◌, ap, subst, sym, arith}
-use Rattle.disks.specs.Moments.{rests_on}
+use Rattle.disks.specs.Moments.{rests_not, rests_on}
 use Rattle.message_texts.specs.Texts.{message_in}
 use Rattle.node_journal.specs.Files.{reading, onto}
-use Rattle.node_journal.specs.Opening.{FindsRecord, IsBehind}
+use Rattle.node_journal.specs.Opening.{FindsRecord, IsBehind, IsSoFar}
+use Rattle.service_layer.specs.Nodes.{Node}
 use Rattle.node_journal.proofs.Lives.{is_inside, has_room}
-use Rattle.node_journal.proofs.Openings.{so_far_more, rest_reads, cause_so_far}
+use Rattle.node_journal.proofs.Openings.{so_far_none, so_far_more, rest_reads, cause_so_far}
 use Rattle.node_journal.proofs.replaying.replay.Goals as goal
 
 pub take_found-requires-clause-inside : goal.take_found-requires-clause-inside
@@ -16,6 +17,15 @@ pub take_found-requires-clause-room : goal.take_found-requires-clause-room
 take_found-requires-clause-room g c =
     let s = c.records.invariant.so_far in
     has_room c.in-Ok-Some.found.message.body c.records.node.serial (omega (arith, s.few, s.within, c.requires.size, c.requires.few))
+
+pub records-init : goal.records-init
+records-init g c =
+    let file = (g.D.Disk.state c.args.disk.now).seen in
+    record {
+      so_far = subst (λ (n : Node). IsSoFar c.args.schema.now file n 0) (sym c.requires.new) (so_far_none c.args.schema.now file (omega (arith, c.requires.some, c.requires.size)));
+      rests = rests_not (g.D.Disk.state c.args.disk.now);
+      count = omega arith;
+    }
 
 pub records-preserved : goal.records-preserved
 records-preserved g c =
@@ -35,3 +45,12 @@ returns-in-Err-clause-cause g c =
     let file = (g.D.Disk.state c.args.disk.now).seen in
     let told = rest_reads c.args.schema.now file c.records.node c.records.end s ∙ ap (λ (f : List ℕ). onto s.messages (reading (message_in c.args.schema.now) 0 c.records.end (drop c.records.end f))) (sym c.records.invariant.rests.seen) in
     cause_so_far _ _ s.messages g.D.Disk.last (g.D.Disk.state c.args.disk.now) (g.D.Disk.state c.records.disk) (g.D.Disk.state c.record_at.new.disk) c.in-Err.cause told c.records.invariant.count c.in-Err.ensures.cause
+
+pub returns-in_default-clause-rests : goal.returns-in_default-clause-rests
+returns-in_default-clause-rests g c = rests_on _ _ _ (g.met.D.Disk.clock c.args.disk.now) c.records.invariant.rests c.record_at.ensures.rests
+
+pub returns-in-Ok-None-clause-rests : goal.returns-in-Ok-None-clause-rests
+returns-in-Ok-None-clause-rests g c = rests_on _ _ _ (g.met.D.Disk.clock c.args.disk.now) c.records.invariant.rests c.record_at.ensures.rests
+
+pub returns-in-Err-clause-rests : goal.returns-in-Err-clause-rests
+returns-in-Err-clause-rests g c = rests_on _ _ _ (g.met.D.Disk.clock c.args.disk.now) c.records.invariant.rests c.record_at.ensures.rests

@@ -1,11 +1,16 @@
-use Rattle.std.proofs.Common.{◌≤◌, length, map, refl, ◌∙◌, subst, rules, IfSome}
+use Rattle.std.proofs.Common.{◌<◌, ◌≤◌, length, map, refl, ◌∙◌, subst, rules, arith, IfSome}
 use Rattle.search_seats.specs.Searches.{ReadsAt, view_by}
 use Rattle.search_seats.proofs.Keeping.{keep_all, keep_on}
-use Rattle.search_seats.proofs.ReadLaws.{none_read, read_more, all_read}
+use Rattle.search_seats.proofs.ReadLaws.{none_read, read_more, all_read, few_read}
 use Rattle.search_seats.proofs.reading.read_all.Goals as goal
 
 pub loop-lane-init : goal.loop-lane-init
 loop-lane-init c = (keep_all c.args.seats.now.items, refl, none_read _ _ _ _ c.new-fronts.ensures.items c.new-sum.ensures)
+
+pub read_at-requires-clause-few : goal.read_at-requires-clause-few
+read_at-requires-clause-few c =
+    let below : c.loop-lane.lane < length c.loop-lane.seats.items = search rules in
+    few_read _ _ c.loop-lane.lane c.loop-lane.seats.items _ c.loop-lane.sum c.loop-lane.invariant.2 below (omega (arith, c.requires.few, c.loop-lane.invariant.1))
 
 pub returns-in_err-front-clause-keeps : goal.returns-in_err-front-clause-keeps
 returns-in_err-front-clause-keeps c = keep_on _ _ _ c.loop-lane.invariant.0 c.in_err-front.ensures.keeps

@@ -1,6 +1,6 @@
 use Rattle.std.proofs.Common.{◌≡◌, sym, ap, ◌∙◌, [], Some, option_map, rules, arith}
 use Rattle.std.specs.Option.{option_map_or}
-use Rattle.std.specs.BTreeMap.{get_by_text}
+use Rattle.std.specs.HashMap.{get_by_text}
 use Rattle.std.proofs.lemmas.Map.Text.{text_keys}
 use Rattle.proof_basics.proofs.Results.{on_ok, on_err}
 use Rattle.local_ids.specs.Rising.{with_local}

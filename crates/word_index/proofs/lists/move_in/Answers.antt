@@ -1,5 +1,5 @@
 use Rattle.std.proofs.Common.{◌≡◌, sym, ap, ◌∙◌, Some, option_map, rules}
-use Rattle.std.specs.BTreeMap.{get_by_text}
+use Rattle.std.specs.HashMap.{get_by_text}
 use Rattle.local_ids.specs.Rising.{moved_local}
 use Rattle.word_index.proofs.IndexLaws.{updated}
 use Rattle.word_index.proofs.lists.move_in.Goals as goal

@@ -1,5 +1,5 @@
 use Rattle.std.proofs.Common.{sym, ◌∙◌, None}
-use Rattle.std.specs.BTreeMap.{get_by_text}
+use Rattle.std.specs.HashMap.{get_by_text}
 use Rattle.word_index.proofs.IndexLaws.{updated, none_any, no_length}
 use Rattle.word_index.proofs.lists.tidy_in.Goals as goal
 

@@ -30,12 +30,16 @@ step-requires-clause-prepared g c =
 
 pub returns-then-is_begun-clause-advances : goal.returns-then-is_begun-clause-advances
 returns-then-is_begun-clause-advances g c =
-    let p : OfJob (λ (z : Job). z.line ≡ c.args.line) c.self.inside.work.jobs.items c.place_of-at.result = rw c.deref.ensures.value at c.place_of-at.ensures in
+    let x = c.self.inside.work in
+    let p : OfJob (λ (z : Job). z.line ≡ c.args.line) x.jobs.items c.place_of-at.result = rw c.deref.ensures.value at c.place_of-at.ensures in
+    let w = more-at x.jobs.items c.args.line x.state.lane x.state.rules (journal_of x.state) c.self.invariant.works.jobs_are (rw (← c.self.view_is) at c.requires) c.place_of-at.result p.0 p.1 p.2 in
     rw (← c.self.view_is, c.prepare.ensures.planned, c.prepare.ensures.kind)
-    (advance-at c.self.inside.work _ _ _ _ c.args.line c.place_of-at.result p.0 p.1 p.2 c.prepare.result (c.prepare.ensures.advances (planned_in c.self.inside.carrier.plans) (takes_plans c.self.inside.carrier.plans)))
+    (advance-at c.self.inside.work _ _ _ _ c.args.line c.place_of-at.result p.0 p.1 p.2 w c.prepare.result (c.prepare.ensures.advances (planned_in c.self.inside.carrier.plans) (takes_plans c.self.inside.carrier.plans)))
 
 pub returns-clause-advances : goal.returns-clause-advances
 returns-clause-advances g c =
-    let p : OfJob (λ (z : Job). z.line ≡ c.args.line) c.self.inside.work.jobs.items c.place_of-at.result = rw c.deref.ensures.value at c.place_of-at.ensures in
+    let x = c.self.inside.work in
+    let p : OfJob (λ (z : Job). z.line ≡ c.args.line) x.jobs.items c.place_of-at.result = rw c.deref.ensures.value at c.place_of-at.ensures in
+    let w = more-at x.jobs.items c.args.line x.state.lane x.state.rules (journal_of x.state) c.self.invariant.works.jobs_are (rw (← c.self.view_is) at c.requires) c.place_of-at.result p.0 p.1 p.2 in
     rw (← c.self.view_is, c.step.ensures.planned, c.step.ensures.kind)
-    (advance-at c.self.inside.work _ _ _ _ c.args.line c.place_of-at.result p.0 p.1 p.2 c.step.result (c.step.ensures.advances (planned_in c.self.inside.carrier.plans) (takes_plans c.self.inside.carrier.plans)))
+    (advance-at c.self.inside.work _ _ _ _ c.args.line c.place_of-at.result p.0 p.1 p.2 w c.step.result (c.step.ensures.advances (planned_in c.self.inside.carrier.plans) (takes_plans c.self.inside.carrier.plans)))

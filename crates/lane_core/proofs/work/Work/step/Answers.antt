@@ -59,4 +59,4 @@ returns-clause-advances g c = λ planned takes.
     let going : GoesIn s.new.state j.line p.0.plan = rw p.3 at s.ensures.going in
     let run : RunsIn x.state s.new.state j.line p.0 = rw p.3 at s.ensures.run in
     advances-stepped x (record { state = s.new.state; schema = x.schema; drawn = x.drawn; places = x.places; has_room = x.has_room; jobs = x.jobs }) c.args.at j p.0 p.1 p.2 c.requires.keeps found p.3 s.ensures.keeps s.ensures.after s.ensures.quiet
-    c.operations_end.ensures.ends c.operations_end.ensures.acked s.new.job.phase s.result comes going run (slice_set x.jobs.items c.args.at s.new.job) (ap (slice_set x.jobs.items c.args.at) s.ensures.job) _ _ planned takes
+    c.operations_end.ensures.ends c.operations_end.ensures.acked s.new.job.phase s.result comes going run (slice_set x.jobs.items c.args.at s.new.job) (ap (slice_set x.jobs.items c.args.at) s.ensures.job) _ _ planned takes s.ensures.one s.ensures.few

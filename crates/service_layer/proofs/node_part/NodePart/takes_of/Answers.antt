@@ -11,8 +11,8 @@ use Rattle.service_layer.proofs.node_part.NodePart.takes_of.Goals as goal
 pub returns-then-is_empty : goal.returns-then-is_empty
 returns-then-is_empty c = c.none.ensures ∙ none_told c.args.node (kept_of c.args.self.now) c.args.entries.now (no_items _ (search rules))
 
-pub returns-then-not-is_behind : goal.returns-then-not-is_behind
-returns-then-not-is_behind c = c.none-then-not-is_behind.ensures ∙ none_newer_told c.args.node (kept_of c.args.self.now) c.args.entries.now (search rules)
+pub returns-then-not-has_newer : goal.returns-then-not-has_newer
+returns-then-not-has_newer c = c.none-then-not-has_newer.ensures ∙ none_newer_told c.args.node (kept_of c.args.self.now) c.args.entries.now (search rules)
 
 pub returns : goal.returns
 returns c =

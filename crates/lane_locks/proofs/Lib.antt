@@ -1,0 +1,6 @@
+-- Of this crate alone.
+mod Calls
+mod Sparing
+mod Staging
+mod Turning
+mod Listing

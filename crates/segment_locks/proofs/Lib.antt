@@ -1,0 +1,3 @@
+-- Of this crate alone.
+mod Powers
+mod Numbered
