@@ -132,6 +132,7 @@ calm_state (Some why) state deaf base deeds not x = x
 calm_line : (s : Setting) (us : List LineSpans) (lane : ℕ) (told : Told) (line : ℕ) (c : Asked) (base deeds : List Deed) → IsCalmLine told c → IsCalmBehind base deeds → IsCalmBehind base (with_line s us lane told line c deeds)
 calm_line s us lane told line command.Blank base deeds calm x = x
 calm_line s us lane told line command.TooLong base deeds calm x = x
+calm_line s us lane told line command.Barrier base deeds calm x = x
 calm_line s us lane told line (command.Bad why) base deeds calm x = x
 calm_line s us lane told line (command.Feed op via) base deeds calm x = calm_operation (lane_of_id s.bits op.id == lane) line op via base deeds x
 calm_line s us lane told line (command.State state deaf) base deeds calm x = calm_state (publish_fault told state) state deaf base deeds calm x
@@ -254,7 +255,7 @@ front_there s deeds lane (suc k) (g ∷ gs) (v ∷ vs) (f ∷ fs) are low =
 -- ---- each search of a session
 
 abbrev pub StayCovered : Type 0
-StayCovered = (s : Setting) (lane : Low) (more deeds : List Deed) (J K later : List LaneEvent) (span : UpkeepSpan) → IsLegal (setting_of lane s.rules) J → SpanStands s lane deeds J span → span.answer ≡ Rested → AreCalm more
+StayCovered = (s : Setting) (lane : Low) (more deeds : List Deed) (given : List Fate) (J K later : List LaneEvent) (span : UpkeepSpan) → IsLegal (setting_of lane s.rules) J → SpanStands s lane deeds given J span → span.answer ≡ Rested → AreCalm more
     → IsLife s lane (more ++ Maintains (Some span) ∷ deeds) K → J ≡ later ++ K → (key : ℕ) → has_key lane key ≡ true → IsCovered key K
 
 module _ (laws : SearchLaws) (covers : StayCovered) (end : Status) (s : Setting) (setting : IsSetting s) (plans : ℕ → List Fate) (asked : List Asked) (c : Cell) (kept : IsKept s plans asked c) (few : length asked ≤ most_lines) (upkept : AreUpkept end s asked c)
@@ -312,7 +313,7 @@ module _ (laws : SearchLaws) (covers : StayCovered) (end : Status) (s : Setting)
         let low = slice_get_within asked at (command.Search q) x.searches in
         let calm = calm_since s c.upkeeps asked lane upkeep span.0 said.asks noted d (omega (arith, e, low)) (λ k line late early there. x.between k line late (omega (arith, early, e)) there) in
         let are : deeds lane ≡ calm.more ++ Maintains (Some span.0) ∷ deeds_of_lane s c.upkeeps lane (take upkeep asked) = ap (λ n. deeds_of_lane s c.upkeeps lane (take n asked)) (sym e) ∙ calm.are in
-        let y = covers s (bucket_in s lane) calm.more (deeds_of_lane s c.upkeeps lane (take upkeep asked)) v.journal stands.before stands.later span.0 (legal_in s plans asked c kept lane v here) rests (rested.rested lane span.0 span.1) calm.calm
+        let y = covers s (bucket_in s lane) calm.more (deeds_of_lane s c.upkeeps lane (take upkeep asked)) v.given v.journal stands.before stands.later span.0 (legal_in s plans asked c kept lane v here) rests (rested.rested lane span.0 span.1) calm.calm
         (subst (λ ds. IsLife s (bucket_in s lane) ds stands.before) are stands.behind) stands.whole key own in
         under_version lane stands.before stands.behind key y
 

@@ -115,6 +115,7 @@ maintain_counts counts counted states maintains (Some next) are is h =
 counts_by : (counts counted : Counts) (states maintains : ℕ) (c : Asked) → AreCounts counts states maintains → counts_with counts c ≡ Ok counted → AreCounts counted (states + (0 + one_if (is_state c))) (maintains + (0 + one_if (is_maintain c)))
 counts_by counts counted states maintains command.Blank are h = same_counts counts counted states maintains are h
 counts_by counts counted states maintains command.TooLong are h = same_counts counts counted states maintains are h
+counts_by counts counted states maintains command.Barrier are h = same_counts counts counted states maintains are h
 counts_by counts counted states maintains (command.Bad why) are h = same_counts counts counted states maintains are h
 counts_by counts counted states maintains (command.Feed op via) are h = same_counts counts counted states maintains are h
 counts_by counts counted states maintains (command.State state deaf) are h = state_counts counts counted states maintains (one_more most_states counts.states) are refl h
@@ -156,6 +157,7 @@ maintain_full counts c which None kind is h = subst (λ w. IsFull w counts c) (s
 counts_full : (counts : Counts) (c : Asked) (which : LimitKind) → counts_with counts c ≡ Err which → IsFull which counts c
 counts_full counts command.Blank which h = cc h
 counts_full counts command.TooLong which h = cc h
+counts_full counts command.Barrier which h = cc h
 counts_full counts (command.Bad why) which h = cc h
 counts_full counts (command.Feed op via) which h = cc h
 counts_full counts (command.State state deaf) which h = state_full counts (command.State state deaf) which (one_more most_states counts.states) refl refl h
@@ -309,11 +311,16 @@ module _ (s : Setting) (old new : Cell) (room : IsRoomier old new) where
       let found = element_seen without_room old.lanes new.lanes lane w room.lanes at in
       (found.0, (found.1.0, ap (λ (x : LaneValue). x.journal) found.1.1))
 
+  roomier_given : (lane : ℕ) (w : LaneValue) → slice_get new.lanes lane ≡ Some w → (v : LaneValue) × ((slice_get old.lanes lane ≡ Some v) × (w.journal ≡ v.journal) × (w.given ≡ v.given))
+  roomier_given lane w at =
+      let found = element_seen without_room old.lanes new.lanes lane w room.lanes at in
+      (found.0, (found.1.0, ap (λ (x : LaneValue). x.journal) found.1.1, ap (λ (x : LaneValue). x.given) found.1.1))
+
   read_then : (cs : List Asked) → AreRead s cs old → AreRead s cs new
   read_then cs so = read_roomier s cs old new (ap (λ (x : Cell). x.fronts) room.rest) (ap (λ (x : Cell). x.upkeeps) room.rest) roomier_seen so
 
   upkept_then : (end : Status) (cs : List Asked) → AreUpkept end s cs old → AreUpkept end s cs new
-  upkept_then end cs so = upkept_roomier end s cs old new (ap (λ (x : Cell). x.upkeeps) room.rest) roomier_seen so
+  upkept_then end cs so = upkept_roomier end s cs old new (ap (λ (x : Cell). x.upkeeps) room.rest) roomier_given so
 
 pub so_far_more : (s : Setting) (types : Types) (plans : ℕ → List Fate) (text left left' : Option (List ℕ)) (reader reader' : Reading) (counts counted : Counts) (old new : Cell) (before now now' : Option (List ℕ)) (number : ℕ) (c : Asked)
     → IsSoFar s types plans text reader left counts old before now → reader.max_lines ≡ most_lines → reader.max_bytes ≡ most_bytes

@@ -75,6 +75,7 @@ by_once law types (Ok (said.Stop node)) a b p q = p ∙ sym q
 by_once law types (Ok (said.Start node)) a b p q = p ∙ sym q
 by_once law types (Ok (said.Net lane fates)) a b p q = p ∙ sym q
 by_once law types (Ok said.Maintain) a b p q = p ∙ sym q
+by_once law types (Ok said.Barrier) a b p q = p ∙ sym q
 by_once law types (Err why) a b p q = p ∙ sym q
 
 pub asked_once : OneQuery → (types : Types) (bits : ℕ) (bytes : List ℕ) (a b : Asked) → IsAsked types bits bytes a → IsAsked types bits bytes b → a ≡ b

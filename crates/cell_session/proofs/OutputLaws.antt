@@ -67,6 +67,7 @@ report_stays : (s : Setting) (told : Told) (j k : ℕ) (c : Asked) (vs ws : Cell
     → report_in s told j c ws ≡ report_in s told j c vs
 report_stays s told j k command.Blank vs ws m spans fronts views legal h = refl
 report_stays s told j k command.TooLong vs ws m spans fronts views legal h = refl
+report_stays s told j k command.Barrier vs ws m spans fronts views legal h = refl
 report_stays s told j k (command.Bad why) vs ws m spans fronts views legal h = refl
 report_stays s told j k (command.Feed op via) vs ws m spans fronts views legal h = ap (bytes_of j) (operation_stays s j k op.id vs.lanes ws.lanes m legal h)
 report_stays s told j k (command.State state deaf) vs ws m spans fronts views legal h = refl

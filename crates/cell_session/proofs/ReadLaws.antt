@@ -120,7 +120,7 @@ module _ (s : Setting) (plans : ℕ → List Fate) (cs : List Asked) (c : Asked)
       let grown = grew_after s c old new k after lane w at in
       let same : grown.0 ≡ v = some_is (sym grown.1.0 ∙ was) in
       front_view s types (bucket_in s lane) (deeds_of_lane s old.upkeeps lane f.0) v.journal w.journal g (h.stand lane v g was (ap (λ xs. slice_get xs lane) f.1.1 ∙ there))
-      (subst (λ (x : LaneValue). Grown w.journal x.journal) same grown.1.1))
+      (subst (λ (x : LaneValue). Grown w.journal x.journal) same (grown.1.1).journal))
 
   read_on : (earlier : List Asked) (line : ℕ) → length earlier ≤ length cs → k ≢ line → HasRead s earlier line old → HasRead s earlier line new
   read_on earlier line low other h = record {
@@ -130,7 +130,7 @@ module _ (s : Setting) (plans : ℕ → List Fate) (cs : List Asked) (c : Asked)
     stand = λ lane w g at there.
         let grown = grew_after s c old new k after lane w at in
         subst (λ ds. FrontStands s (bucket_in s lane) ds w.journal g) (sym (deeds_same s old.upkeeps new.upkeeps k lane earlier (omega (arith, low, is)) (leaves_spans s c old new k after)))
-        (front_on s (bucket_in s lane) (deeds_of_lane s old.upkeeps lane earlier) (grown.0).journal w.journal g (h.stand lane grown.0 g grown.1.0 there) grown.1.1);
+        (front_on s (bucket_in s lane) (deeds_of_lane s old.upkeeps lane earlier) (grown.0).journal w.journal g (h.stand lane grown.0 g grown.1.0 there) (grown.1.1).journal);
   }
 
   -- ---- the line's own

@@ -1,5 +1,5 @@
 -- One line more keeps what was said of upkeep.
-use Rattle.std.proofs.Common.{◌≡◌, ◌≢◌, ◌⊎◌, ◌<◌, ◌≤◌, ◌+◌, ℕ, zero, suc, List, [], ◌∷◌, ◌++◌, Option, None, Some, option_and_then, inl, inr, refl, sym, ap, ◌∙◌, subst, arith, length, length-append, append_assoc, map, set, take, slice_get}
+use Rattle.std.proofs.Common.{◌≡◌, ◌≢◌, ◌⊎◌, ◌<◌, ◌≤◌, ◌+◌, ℕ, zero, suc, List, [], ◌∷◌, ◌++◌, Option, None, Some, option_and_then, inl, inr, refl, sym, ap, ◌∙◌, subst, arith, length, length-append, append_assoc, append-nil, map, set, take, slice_get}
 use Rattle.std.specs.Option.{IsSome}
 use Rattle.std.proofs.lemmas.Bool.{cases_eq, false≢true}
 use Rattle.std.proofs.Math.Seq.{take-length}
@@ -19,7 +19,9 @@ use Rattle.lane_lives.specs.Upkept.{IsLaneAtRest}
 use Rattle.lane_lives.specs.declared.setting.Setting.{Setting}
 use Rattle.lane_lives.specs.Lives.{Deed, Announces, Stops, Starts, Maintains, IsMaintained, IsLife}
 use Rattle.lane_lives.specs.Serving.{bucket_in}
-use Rattle.lane_lives.specs.Upkeep.{SpanStands}
+use Rattle.lane_carriage.specs.Carriage.{IsCarried}
+use Rattle.upkeep_spans.specs.Causes.{IsCause}
+use Rattle.lane_lives.specs.Upkeep.{WasCalm, SpanStands}
 use Rattle.lane_lives.specs.declared.spans.UpkeepSpan.{UpkeepSpan}
 use Rattle.lane_promises.proofs.Before.{Grown, grown_deed, grown_line}
 use Rattle.lane_lives.proofs.Upkept.{pass_made}
@@ -44,27 +46,45 @@ use Rattle.session_cluster.proofs.SpanLists.{spans_own}
 grown_itself : (J : List LaneEvent) → Grown J J
 grown_itself J = ([], refl)
 
--- a lane that was there, from whose journal this one grew
+-- these fates were given behind those
+abbrev GaveOn : List Fate → List Fate → Type 0
+GaveOn now given = (more : List Fate) × (now ≡ given ++ more)
+
+gave_none : (given : List Fate) → GaveOn given given
+gave_none given = ([], sym (append-nil given))
+
+-- a lane's journal grew, and its carrier gave further fates
+pub record Grew (w v : LaneValue) : Type 0 where
+  pub journal : Grown w.journal v.journal
+  pub fates : GaveOn w.given v.given
+
+grew_itself : (v : LaneValue) → Grew v v
+grew_itself v = record { journal = grown_itself v.journal; fates = gave_none v.given }
+
+-- a lane that was there, from which this one grew
 abbrev GrewFrom : List LaneValue → ℕ → LaneValue → Type 0
-GrewFrom vs lane w = (v : LaneValue) × ((slice_get vs lane ≡ Some v) × Grown w.journal v.journal)
+GrewFrom vs lane w = (v : LaneValue) × ((slice_get vs lane ≡ Some v) × Grew w v)
 
 grew_same : (vs ws : List LaneValue) (lane : ℕ) (w : LaneValue) → ws ≡ vs → slice_get ws lane ≡ Some w → GrewFrom vs lane w
-grew_same vs ws lane w same at = (w, (subst (λ us. slice_get us lane ≡ Some w) same at, grown_itself w.journal))
+grew_same vs ws lane w same at = (w, (subst (λ us. slice_get us lane ≡ Some w) same at, grew_itself w))
 
-grew_each : (f : LaneValue → LaneValue) → ((v : LaneValue) → Grown (f v).journal v.journal) → (vs ws : List LaneValue) (lane : ℕ) (w : LaneValue) → ws ≡ map f vs → slice_get ws lane ≡ Some w → GrewFrom vs lane w
+grew_each : (f : LaneValue → LaneValue) → ((v : LaneValue) → Grew (f v) v) → (vs ws : List LaneValue) (lane : ℕ) (w : LaneValue) → ws ≡ map f vs → slice_get ws lane ≡ Some w → GrewFrom vs lane w
 grew_each f grows vs ws lane w now at =
     let found = element_map f vs lane w (subst (λ us. slice_get us lane ≡ Some w) now at) in
-    (found.0, (found.1.0, subst (λ (x : LaneValue). Grown x.journal (found.0).journal) (sym found.1.1) (grows found.0)))
+    (found.0, (found.1.0, subst (λ (x : LaneValue). Grew x found.0) (sym found.1.1) (grows found.0)))
 
-grew_one : (vs ws : List LaneValue) (place lane : ℕ) (x y w : LaneValue) → ws ≡ set vs place y → slice_get vs place ≡ Some x → Grown y.journal x.journal → slice_get ws lane ≡ Some w → GrewFrom vs lane w
+grew_one : (vs ws : List LaneValue) (place lane : ℕ) (x y w : LaneValue) → ws ≡ set vs place y → slice_get vs place ≡ Some x → Grew y x → slice_get ws lane ≡ Some w → GrewFrom vs lane w
 grew_one vs ws place lane x y w now there grows at = elim (element_set vs place lane y w (subst (λ us. slice_get us lane ≡ Some w) now at)) [
-  | inl here ↦ (x, (subst (λ n. slice_get vs n ≡ Some x) here.0 there, subst (λ (z : LaneValue). Grown z.journal x.journal) here.1 grows))
-  | inr other ↦ (w, (other.1, grown_itself w.journal))
+  | inl here ↦ (x, (subst (λ n. slice_get vs n ≡ Some x) here.0 there, subst (λ (z : LaneValue). Grew z x) here.1 grows))
+  | inr other ↦ (w, (other.1, grew_itself w))
 ]
 
-grew_passed : (s : Setting) (v w : LaneValue) → MayHavePassed v w → Grown w.journal v.journal
-grew_passed s v w (inl same) = subst (λ (x : LaneValue). Grown x.journal v.journal) (sym same) (grown_itself v.journal)
-grew_passed s v w (inr m) = grown_deed w.journal s v.lane (Maintains None) v.journal w.journal (inr (pass_made v w m.0)) (grown_itself w.journal)
+grew_passed : (s : Setting) (v w : LaneValue) → MayHavePassed v w → Grew w v
+grew_passed s v w (inl same) = subst (λ (x : LaneValue). Grew x v) (sym same) (grew_itself v)
+grew_passed s v w (inr m) = record {
+  journal = grown_deed w.journal s v.lane (Maintains None) v.journal w.journal (inr (pass_made v w m.0)) (grown_itself w.journal);
+  fates = ((m.0).fates, (m.0).gives);
+}
 
 grew_all : (s : Setting) (vs ws : List LaneValue) (lane : ℕ) (w : LaneValue) → MayHaveAllPassed vs ws → slice_get ws lane ≡ Some w → GrewFrom vs lane w
 grew_all s vs ws lane w d at =
@@ -73,33 +93,34 @@ grew_all s vs ws lane w d at =
 
 grew_told : (s : Setting) (o : Option PublishFault) (state : ClusterState) (deaf : ℕ) (old new : Cell) (k : ℕ) → IsStateTold k o state deaf old new → (lane : ℕ) (w : LaneValue) → slice_get new.lanes lane ≡ Some w → GrewFrom old.lanes lane w
 grew_told s None state deaf old new k d lane w =
-    grew_each (after_state state deaf) (λ v. grown_deed _ s v.lane (Announces state deaf) v.journal (after_state state deaf v).journal refl (grown_itself _)) old.lanes new.lanes lane w (ap (λ (x : Cell). x.lanes) d.now)
-grew_told s (Some why) state deaf old new k d lane w = grew_each with_room (λ v. grown_itself v.journal) old.lanes new.lanes lane w (ap (λ (x : Cell). x.lanes) d)
+    grew_each (after_state state deaf) (λ v. record { journal = grown_deed _ s v.lane (Announces state deaf) v.journal (after_state state deaf v).journal refl (grown_itself _); fates = gave_none v.given }) old.lanes new.lanes lane w (ap (λ (x : Cell). x.lanes) d.now)
+grew_told s (Some why) state deaf old new k d lane w = grew_each with_room (λ v. record { journal = grown_itself v.journal; fates = gave_none v.given }) old.lanes new.lanes lane w (ap (λ (x : Cell). x.lanes) d)
 
 pub grew_after : (s : Setting) (c : Asked) (old new : Cell) (k : ℕ) → IsAfter s k c old new → (lane : ℕ) (w : LaneValue) → slice_get new.lanes lane ≡ Some w → GrewFrom old.lanes lane w
 grew_after s command.Blank old new k now lane w = grew_same old.lanes new.lanes lane w (ap (λ (x : Cell). x.lanes) now)
 grew_after s command.TooLong old new k now lane w = grew_same old.lanes new.lanes lane w (ap (λ (x : Cell). x.lanes) now)
+grew_after s command.Barrier old new k now lane w = grew_same old.lanes new.lanes lane w (ap (λ (x : Cell). x.lanes) now)
 grew_after s (command.Bad why) old new k now lane w = grew_same old.lanes new.lanes lane w (ap (λ (x : Cell). x.lanes) now)
 grew_after s (command.Feed op via) old new k now lane w =
     let d = now.1 in
     grew_one old.lanes new.lanes (lane_of_id s.bits op.id) lane d.before d.after w (ap (λ (x : Cell). x.lanes) d.now) d.there
-    (grown_line (d.after).journal (d.before).lane (d.before).rules (record { number = k; operation = op; via = via }) via (d.before).journal (d.after).journal (d.ran).done (grown_itself _))
+    (record { journal = grown_line (d.after).journal (d.before).lane (d.before).rules (record { number = k; operation = op; via = via }) via (d.before).journal (d.after).journal (d.ran).done (grown_itself _); fates = (d.ran).gives })
 grew_after s (command.State state deaf) old new k now lane w = grew_told s (publish_fault old.told state) state deaf old new k now lane w
 grew_after s (command.BadState offset) old new k now lane w = grew_same old.lanes new.lanes lane w (ap (λ (x : Cell). x.lanes) now)
 grew_after s (command.Stop node) old new k now lane w =
-    grew_each (after_stop node) (λ v. grown_deed _ s v.lane (Stops node) v.journal (after_stop node v).journal refl (grown_itself _)) old.lanes new.lanes lane w (ap (λ (x : Cell). x.lanes) now.now)
+    grew_each (after_stop node) (λ v. record { journal = grown_deed _ s v.lane (Stops node) v.journal (after_stop node v).journal refl (grown_itself _); fates = gave_none v.given }) old.lanes new.lanes lane w (ap (λ (x : Cell). x.lanes) now.now)
 grew_after s (command.Start node) old new k now lane w =
-    grew_each (after_start node) (λ v. grown_deed _ s v.lane (Starts node) v.journal (after_start node v).journal refl (grown_itself _)) old.lanes new.lanes lane w (ap (λ (x : Cell). x.lanes) now.now)
+    grew_each (after_start node) (λ v. record { journal = grown_deed _ s v.lane (Starts node) v.journal (after_start node v).journal refl (grown_itself _); fates = gave_none v.given }) old.lanes new.lanes lane w (ap (λ (x : Cell). x.lanes) now.now)
 grew_after s (command.Net at fates) old new k now lane w =
-    grew_one old.lanes new.lanes at lane now.before _ w (ap (λ (x : Cell). x.lanes) now.now) now.there (grown_itself _)
+    grew_one old.lanes new.lanes at lane now.before _ w (ap (λ (x : Cell). x.lanes) now.now) now.there (record { journal = grown_itself _; fates = gave_none _ })
 grew_after s command.Maintain old new k now lane w = grew_all s old.lanes new.lanes lane w now.lanes
 grew_after s (command.Search query) old new k now lane w = grew_same old.lanes new.lanes lane w (ap (λ (x : Cell). x.lanes) now)
 grew_after s (command.BadQuery offset) old new k now lane w = grew_same old.lanes new.lanes lane w (ap (λ (x : Cell). x.lanes) now)
 
 -- ---- a span stands on
 
-stands_on : (s : Setting) (lane : Low) (deeds : List Deed) (J K : List LaneEvent) (span : UpkeepSpan) → SpanStands s lane deeds J span → Grown K J → SpanStands s lane deeds K span
-stands_on s lane deeds J K span h g = record {
+stands_on : (s : Setting) (lane : Low) (deeds : List Deed) (given now : List Fate) (J K : List LaneEvent) (span : UpkeepSpan) → SpanStands s lane deeds given J span → GaveOn now given → Grown K J → SpanStands s lane deeds now K span
+stands_on s lane deeds given now J K span h more g = record {
   before = h.before;
   after = h.after;
   behind = h.behind;
@@ -110,6 +131,8 @@ stands_on s lane deeds J K span h g = record {
   whole = g.1 ∙ ap (λ L. g.0 ++ L) h.whole ∙ sym (append_assoc g.0 h.later h.after);
   earlier = h.earlier;
   fates = h.fates;
+  others = h.others ++ more.0;
+  all_given = more.1 ∙ ap (λ l. l ++ more.0) h.all_given ∙ append_assoc (h.earlier ++ h.fates) h.others more.0;
   carried_before = h.carried_before;
   carried = h.carried;
   cause = h.cause;
@@ -125,8 +148,8 @@ rest_in b r w lane rules h =
     (subst (λ (l : Low). IsAtRest (setting_of l w.rules) (w.rules).searchable (w.rules).split_at w.journal) lane h)
 
 -- it ends within the journal
-stands_within : (s : Setting) (lane : Low) (deeds : List Deed) (J : List LaneEvent) (span : UpkeepSpan) → SpanStands s lane deeds J span → span.to ≤ length J
-stands_within s lane deeds J span h = omega (arith, h.to, ap length h.whole, length-append h.later h.after)
+stands_within : (s : Setting) (lane : Low) (deeds : List Deed) (given : List Fate) (J : List LaneEvent) (span : UpkeepSpan) → SpanStands s lane deeds given J span → span.to ≤ length J
+stands_within s lane deeds given J span h = omega (arith, h.to, ap length h.whole, length-append h.later h.after)
 
 pub some_is : {A : Type 0} {x y : A} → Some x ≡ Some y → x ≡ y
 some_is e = cc
@@ -175,8 +198,8 @@ module _ (s : Setting) (plans : ℕ → List Fate) (cs : List Asked) (c : Asked)
     count = h.count;
     stand = λ lane w span at there.
         let g = grew_after s c old new k after lane w at in
-        subst (λ ds. SpanStands s (bucket_in s lane) ds w.journal span) (sym (deeds_same s old.upkeeps new.upkeeps k lane earlier (omega (arith, low, is)) same_as))
-        (stands_on s (bucket_in s lane) (deeds_of_lane s old.upkeeps lane earlier) (g.0).journal w.journal span (h.stand lane g.0 span g.1.0 there) g.1.1);
+        subst (λ ds. SpanStands s (bucket_in s lane) ds w.given w.journal span) (sym (deeds_same s old.upkeeps new.upkeeps k lane earlier (omega (arith, low, is)) same_as))
+        (stands_on s (bucket_in s lane) (deeds_of_lane s old.upkeeps lane earlier) (g.0).given w.given (g.0).journal w.journal span (h.stand lane g.0 span g.1.0 there) (g.1.1).fates (g.1.1).journal);
   }
 
   -- ---- the line's own
@@ -209,11 +232,13 @@ module _ (s : Setting) (plans : ℕ → List Fate) (cs : List Asked) (c : Asked)
             later = [];
             whole = refl;
             earlier = v.given;
-            fates = w.given;
+            fates = (made.pass).fates;
+            others = [];
+            all_given = (made.pass).gives ∙ sym (append-nil (v.given ++ (made.pass).fates));
             carried_before = (serving.holds).carried;
-            carried = (legal.1).carried;
-            cause = made.cause;
-            rests = made.rests;
+            carried = subst (λ (g : List Fate). IsCarried g w.journal) (made.pass).gives (legal.1).carried;
+            cause = subst (λ (g : List Fate). IsCause g span.from w.journal span.answer) (made.pass).gives made.cause;
+            rests = λ calm. made.rests (subst (WasCalm v.journal w.journal v.given) (sym (made.pass).gives) calm);
             run = made.run;
             at_rest = λ rested. rest_in (bucket_in s lane) s.rules w (ap (λ (z : LaneValue). z.lane) (made.pass).after ∙ serving.lane_is) (ap (λ (z : LaneValue). z.rules) (made.pass).after ∙ serving.rules_are) (made.at_rest rested);
           };
@@ -303,7 +328,7 @@ module _ (s : Setting) (plans : ℕ → List Fate) (cs : List Asked) (c : Asked)
         let was = so.others line (subst IsSome (sym found.1.0) refl) in
         let stood = earlier_answered was.0 was.1.1 in
         let same : stood.spans ≡ found.0 = some_is (sym stood.are ∙ ap (λ n. spans_of n old.upkeeps) (sym was.1.0) ∙ found.1.0) in
-        stands_within s (bucket_in s lane) (deeds_of_lane s old.upkeeps lane (take was.0 cs)) v.journal a (stood.stand lane v a there (ap (λ ss. slice_get ss lane) same ∙ found.1.1))
+        stands_within s (bucket_in s lane) (deeds_of_lane s old.upkeeps lane (take was.0 cs)) v.given v.journal a (stood.stand lane v a there (ap (λ ss. slice_get ss lane) same ∙ found.1.1))
 
     same_in : (lane line : ℕ) → k ≢ line → span_in lane line new.upkeeps ≡ span_in lane line old.upkeeps
     same_in lane line other = ap (λ o. option_and_then (λ spans. slice_get spans lane) o) (same_as line other)
@@ -389,7 +414,7 @@ upkept_at end s cs c so = record {
     not_done e = cc e
 
 -- room and what is shown change nothing of it
-pub upkept_roomier : (end : Status) (s : Setting) (cs : List Asked) (old new : Cell) → new.upkeeps ≡ old.upkeeps → ((lane : ℕ) (w : LaneValue) → slice_get new.lanes lane ≡ Some w → (v : LaneValue) × ((slice_get old.lanes lane ≡ Some v) × (w.journal ≡ v.journal)))
+pub upkept_roomier : (end : Status) (s : Setting) (cs : List Asked) (old new : Cell) → new.upkeeps ≡ old.upkeeps → ((lane : ℕ) (w : LaneValue) → slice_get new.lanes lane ≡ Some w → (v : LaneValue) × ((slice_get old.lanes lane ≡ Some v) × (w.journal ≡ v.journal) × (w.given ≡ v.given)))
     → AreUpkept end s cs old → AreUpkept end s cs new
 upkept_roomier end s cs old new same seen so = record {
   answered = λ at asks. elim (so.answered at asks) [
@@ -399,8 +424,9 @@ upkept_roomier end s cs old new same seen so = record {
       count = stood.count;
       stand = λ lane w span here there.
           let v = seen lane w here in
-          subst (λ us. SpanStands s (bucket_in s lane) (deeds_of_lane s us lane (take at cs)) w.journal span) (sym same)
-          (subst (λ J. SpanStands s (bucket_in s lane) (deeds_of_lane s old.upkeeps lane (take at cs)) J span) (sym v.1.1) (stood.stand lane v.0 span v.1.0 there));
+          subst (λ us. SpanStands s (bucket_in s lane) (deeds_of_lane s us lane (take at cs)) w.given w.journal span) (sym same)
+          (subst (λ g. SpanStands s (bucket_in s lane) (deeds_of_lane s old.upkeeps lane (take at cs)) g w.journal span) (sym v.1.2)
+          (subst (λ J. SpanStands s (bucket_in s lane) (deeds_of_lane s old.upkeeps lane (take at cs)) (v.0).given J span) (sym v.1.1) (stood.stand lane v.0 span v.1.0 there)));
     })
     | inr cut ↦ inr (record { memory = cut.memory; last = cut.last; none = ap (spans_of (suc at)) same ∙ cut.none })
   ];

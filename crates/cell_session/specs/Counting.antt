@@ -12,6 +12,7 @@ use Rattle.cell_session.specs.Limits.{most_lines, most_states, most_maintains}
 abbrev pub is_state : Asked → Bool
 is_state asked.Blank = false
 is_state asked.TooLong = false
+is_state asked.Barrier = false
 is_state (asked.Bad why) = false
 is_state (asked.Feed op via) = false
 is_state (asked.State state deaf) = true
@@ -27,6 +28,7 @@ is_state (asked.BadQuery offset) = false
 abbrev pub is_maintain : Asked → Bool
 is_maintain asked.Blank = false
 is_maintain asked.TooLong = false
+is_maintain asked.Barrier = false
 is_maintain (asked.Bad why) = false
 is_maintain (asked.Feed op via) = false
 is_maintain (asked.State state deaf) = false
@@ -68,6 +70,7 @@ maintains_with counts (Some maintains) = Ok (record { states = counts.states; ma
 abbrev pub counts_with : Counts → Asked → Result Counts LimitKind
 counts_with counts asked.Blank = Ok counts
 counts_with counts asked.TooLong = Ok counts
+counts_with counts asked.Barrier = Ok counts
 counts_with counts (asked.Bad why) = Ok counts
 counts_with counts (asked.Feed op via) = Ok counts
 counts_with counts (asked.State state deaf) = states_with counts (one_more most_states counts.states)

@@ -59,8 +59,8 @@ HasLanes status.Usage s c = ⊥
 abbrev pub IsReadTo : List ℕ → ℕ → List ℕ → Type 0
 IsReadTo text count left = (held : List ℕ) × (NoLineFeed held × (drop (end_of count text) text ≡ held ++ left))
 
--- what was read behind these lines is less than a piece: no call of the source came after the one that
--- gave the last line feed
+-- what was read behind these lines is less than a piece: a call of the source that came after the one that gave the last
+-- line feed, if one did, gave no more than was missing to a piece
 abbrev pub IsReadNear : List ℕ → ℕ → List ℕ → Type 0
 IsReadNear text count left =
     (held : List ℕ) × ((length held < PIECE) × (drop (end_of count text) text ≡ held ++ left))

@@ -15,14 +15,14 @@ use Rattle.cell_session.specs.declared.status.Status.{Status}
 use Rattle.cell_session.specs.declared.status.Status.TheVariants as status
 
 -- the line has one span a lane, which stands behind what the earlier lines did there, and before what came later; its
--- answer is what its events tell, so it is Rested, Blocked or Disturbed, and where it is Rested each node that serves ran,
+-- answer is what its events tell, by the fates that the lane's carrier gave, so it is Rested, Blocked or Disturbed, and where it is Rested each node that serves ran,
 -- and the lane was at rest as the span ended
 pub record HasStood (s : Setting) (earlier : List Asked) (line : ℕ) (c : Cell) : Type 0 where
   pub spans : List UpkeepSpan
   pub are : spans_of line c.upkeeps ≡ Some spans
   pub count : length spans ≡ lane_count s
   pub stand : (lane : ℕ) (v : LaneValue) (span : UpkeepSpan) → slice_get c.lanes lane ≡ Some v → slice_get spans lane ≡ Some span
-      → SpanStands s (bucket_in s lane) (deeds_of_lane s c.upkeeps lane earlier) v.journal span
+      → SpanStands s (bucket_in s lane) (deeds_of_lane s c.upkeeps lane earlier) v.given v.journal span
 
 -- memory wanted as it was the last line
 pub record WasCut (end : Status) (asked : List Asked) (line : ℕ) (c : Cell) : Type 0 where

@@ -60,6 +60,7 @@ pub fn counts_with(counts: Counts, command: &Asked) -> Result<Counts, LimitKind>
         Asked::Maintain => maintains_with(counts),
         Asked::Blank
         | Asked::TooLong
+        | Asked::Barrier
         | Asked::Bad { .. }
         | Asked::Feed { .. }
         | Asked::Stop { .. }

@@ -4,7 +4,7 @@ mod LineTests
 mod LineLaws
 mod SettingLaws
 mod SearchLaws
-mod UpkeepLaws
+mod TruthLaws
 mod CauseOrder
 mod BareLines
 mod RangeLaws

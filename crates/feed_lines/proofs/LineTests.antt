@@ -10,7 +10,7 @@ use Rattle.doc_selection.specs.Saying.{selection_in}
 use Rattle.doc_selection.specs.declared.terms.Term.{Term}
 use Rattle.feed_lines.specs.Lines.{SaysCondition, SaysCreate, SaysVia, IsLine}
 use Rattle.feed_lines.specs.Meaning.{feed_in, command_in, create_in, via_in, answer_by, verb_said, data_said}
-use Rattle.feed_lines.specs.Tests.{or_false, first_cause, verb_of, is_built, Beside, beside_of, has_wanted, has_right_keys, as_id, id_in, has_type, is_object_in, has_fields, has_values, has_size, is_text_if, is_truth_if, is_node_if, has_options, condition_in, has_condition, text_of, tests}
+use Rattle.feed_lines.specs.Tests.{or_false, first_cause, verb_of, Beside, beside_of, has_wanted, has_right_keys, as_id, id_in, has_type, is_object_in, has_fields, has_values, has_size, is_text_if, is_truth_if, is_node_if, has_options, condition_in, has_condition, text_of, tests}
 use Rattle.feed_lines.specs.declared.command.Cause.{Cause}
 use Rattle.feed_lines.specs.declared.command.Cause.TheVariants as cause
 use Rattle.feed_lines.specs.declared.command.Command.{Command}
@@ -134,18 +134,16 @@ id_from : (v : Verb) (d : Data) (id : List ℕ) → id_in v d ≡ Some id → (g
 unfolding id_in
 id_from v d id h = id_back (get (name_of v) d) id h
 
-each_holds : (a b c e f g h i : Bool) (p q r s t u w x : Cause) → first_cause ((a, p) ∷ (b, q) ∷ (c, r) ∷ (e, s) ∷ (f, t) ∷ (g, u) ∷ (h, w) ∷ (i, x) ∷ []) ≡ None
-    → (a ≡ true) × (b ≡ true) × (c ≡ true) × (e ≡ true) × (f ≡ true) × (g ≡ true) × (h ≡ true) × (i ≡ true)
-each_holds a b c e f g h i p q r s t u w x all =
-    let h1 = others_hold a p ((b, q) ∷ (c, r) ∷ (e, s) ∷ (f, t) ∷ (g, u) ∷ (h, w) ∷ (i, x) ∷ []) all in
-    let h2 = others_hold b q ((c, r) ∷ (e, s) ∷ (f, t) ∷ (g, u) ∷ (h, w) ∷ (i, x) ∷ []) h1 in
+each_holds : (b c e f g h i : Bool) (q r s t u w x : Cause) → first_cause ((b, q) ∷ (c, r) ∷ (e, s) ∷ (f, t) ∷ (g, u) ∷ (h, w) ∷ (i, x) ∷ []) ≡ None
+    → (b ≡ true) × (c ≡ true) × (e ≡ true) × (f ≡ true) × (g ≡ true) × (h ≡ true) × (i ≡ true)
+each_holds b c e f g h i q r s t u w x all =
+    let h2 = others_hold b q ((c, r) ∷ (e, s) ∷ (f, t) ∷ (g, u) ∷ (h, w) ∷ (i, x) ∷ []) all in
     let h3 = others_hold c r ((e, s) ∷ (f, t) ∷ (g, u) ∷ (h, w) ∷ (i, x) ∷ []) h2 in
     let h4 = others_hold e s ((f, t) ∷ (g, u) ∷ (h, w) ∷ (i, x) ∷ []) h3 in
     let h5 = others_hold f t ((g, u) ∷ (h, w) ∷ (i, x) ∷ []) h4 in
     let h6 = others_hold g u ((h, w) ∷ (i, x) ∷ []) h5 in
     let h7 = others_hold h w ((i, x) ∷ []) h6 in (
-      first_holds a p ((b, q) ∷ (c, r) ∷ (e, s) ∷ (f, t) ∷ (g, u) ∷ (h, w) ∷ (i, x) ∷ []) all,
-      first_holds b q ((c, r) ∷ (e, s) ∷ (f, t) ∷ (g, u) ∷ (h, w) ∷ (i, x) ∷ []) h1,
+      first_holds b q ((c, r) ∷ (e, s) ∷ (f, t) ∷ (g, u) ∷ (h, w) ∷ (i, x) ∷ []) all,
       first_holds c r ((e, s) ∷ (f, t) ∷ (g, u) ∷ (h, w) ∷ (i, x) ∷ []) h2,
       first_holds e s ((f, t) ∷ (g, u) ∷ (h, w) ∷ (i, x) ∷ []) h3,
       first_holds f t ((g, u) ∷ (h, w) ∷ (i, x) ∷ []) h4,
@@ -159,33 +157,33 @@ pub meets : (types : Types) (bits : ℕ) (v : Verb) (d : Data) → verb_of d ≡
 meets types bits v d verb h =
     let b = beside_of d in
     let id = text_of (id_in v d) in
-    let each = each_holds (is_built (line.Feed v)) (has_right_keys (line.Feed v) d) (is_some (id_in v d)) (has_type types id) (has_fields types v id b.fields)
+    let each = each_holds (has_right_keys (line.Feed v) d) (is_some (id_in v d)) (has_type types id) (has_fields types v id b.fields)
     (has_values types v id b.fields && has_options b) (has_size types v id b.fields) (has_condition types b.condition)
-    cause.Unbuilt cause.Key cause.Id cause.Type cause.Field cause.Value cause.Size cause.Condition h in
-    let some = some_from (id_in v d) each.2 in
+    cause.Key cause.Id cause.Type cause.Field cause.Value cause.Size cause.Condition h in
+    let some = some_from (id_in v d) each.1 in
     let text = ap text_of some.1 in
     let from = id_from v d some.0 some.1 in
-    let options = right _ _ each.5 in
+    let options = right _ _ each.4 in
     record {
-      wanted = right _ _ each.1;
+      wanted = right _ _ each.0;
       line = record {
-        has_verb = record { verb = verb; keys = left _ _ each.1 };
+        has_verb = record { verb = verb; keys = left _ _ each.0 };
         text = from.0 ∙ ap (λ t. Some (string t)) (sym text);
         is_id = ap (λ t. is_ok (parts_of t)) text ∙ from.1;
-        typed = each.3;
-        says_condition = says_condition types b.condition (left _ _ (left _ _ options)) each.7;
+        typed = each.2;
+        says_condition = says_condition types b.condition (left _ _ (left _ _ options)) each.6;
         says_create = says_create b.create (right _ _ (left _ _ options));
         says_via = says_via b.via (right _ _ options);
       };
       there = refl;
-      known = each.4;
-      values = left _ _ each.5;
-      size = each.6;
+      known = each.3;
+      values = left _ _ each.4;
+      size = each.5;
     }
 
-all_hold : (a b c e f g h i : Bool) (p q r s t u w x : Cause) → a ≡ true → b ≡ true → c ≡ true → e ≡ true → f ≡ true → g ≡ true → h ≡ true → i ≡ true
-    → first_cause ((a, p) ∷ (b, q) ∷ (c, r) ∷ (e, s) ∷ (f, t) ∷ (g, u) ∷ (h, w) ∷ (i, x) ∷ []) ≡ None
-all_hold a b c e f g h i p q r s t u w x ha hb hc he hf hg hh hi = rw (ha, hb, hc, he, hf, hg, hh, hi) refl
+all_hold : (b c e f g h i : Bool) (q r s t u w x : Cause) → b ≡ true → c ≡ true → e ≡ true → f ≡ true → g ≡ true → h ≡ true → i ≡ true
+    → first_cause ((b, q) ∷ (c, r) ∷ (e, s) ∷ (f, t) ∷ (g, u) ∷ (h, w) ∷ (i, x) ∷ []) ≡ None
+all_hold b c e f g h i q r s t u w x hb hc he hf hg hh hi = rw (hb, hc, he, hf, hg, hh, hi) refl
 
 -- each test holds, so the line says its command
 pub means : (types : Types) (bits : ℕ) (v : Verb) (d : Data) (id : List ℕ) (b : Beside) → Meets types v d id b → data_said types bits d ≡ Ok (feed_in types v id b)
@@ -195,10 +193,9 @@ means types bits v d id b m =
     let said = can_say types own.condition (condition_in types b.condition) m.line.says_condition in
     let made = can_create own.create (create_in b.create) m.line.says_create in
     let handed = can_via own.via (via_in b.via) m.line.says_via in
-    let all = all_hold (is_built (line.Feed v)) (has_right_keys (line.Feed v) d) (is_some (id_in v d)) (has_type types (text_of (id_in v d))) (has_fields types v (text_of (id_in v d)) own.fields)
+    let all = all_hold (has_right_keys (line.Feed v) d) (is_some (id_in v d)) (has_type types (text_of (id_in v d))) (has_fields types v (text_of (id_in v d)) own.fields)
     (has_values types v (text_of (id_in v d)) own.fields && has_options own) (has_size types v (text_of (id_in v d)) own.fields) (has_condition types own.condition)
-    cause.Unbuilt cause.Key cause.Id cause.Type cause.Field cause.Value cause.Size cause.Condition
-    refl
+    cause.Key cause.Id cause.Type cause.Field cause.Value cause.Size cause.Condition
     (ap₂ (λ a f. a && has_wanted v f.fields) m.line.has_verb.keys m.there ∙ m.wanted)
     (ap is_some i)
     (ap (λ o. has_type types (text_of o)) i ∙ m.line.typed)
@@ -251,7 +248,7 @@ fed_by types bits d o via line.Stop verb holds is = cc
 fed_by types bits d o via line.Start verb holds is = cc
 fed_by types bits d o via line.Net verb holds is = cc
 fed_by types bits d o via line.Maintain verb holds is = cc
-fed_by types bits d o via line.Later verb holds is = cc
+fed_by types bits d o via line.Barrier verb holds is = cc
 
 pub fed : (types : Types) (bits : ℕ) (d : Data) (o : Operation) (via : Option ℕ) → data_said types bits d ≡ Ok (command.Feed o via) → Fed types d (command.Feed o via)
 fed types bits d o via h = let s = said types bits d _ h in fed_by types bits d o via s.v s.verb s.holds s.command

@@ -23,7 +23,7 @@ search_is types bits d = search_by (search_in d)
 
 search_parts : (types : Types) (bits : ℕ) (d : Data) (text : List ℕ) → verb_of d ≡ Some line.Search → first_cause (tests types bits line.Search d) ≡ None → text_of (search_in d) ≡ text → IsSearch d text
 search_parts types bits d text verb holds is =
-    let each = each_of_two (all_stand line.Search (members_of d) && true) (is_some (search_in d)) cause.Unbuilt cause.Key cause.Value holds in
+    let each = each_of_two (all_stand line.Search (members_of d) && true) (is_some (search_in d)) cause.Key cause.Value holds in
     let words = some_from (search_in d) each.1 in
     record {
       has_verb = record { verb = verb; keys = left _ _ each.0 };
@@ -39,7 +39,7 @@ search_by_verb types bits line.Stop d text verb holds is = cc
 search_by_verb types bits line.Start d text verb holds is = cc
 search_by_verb types bits line.Net d text verb holds is = cc
 search_by_verb types bits line.Maintain d text verb holds is = cc
-search_by_verb types bits line.Later d text verb holds is = cc
+search_by_verb types bits line.Barrier d text verb holds is = cc
 
 pub search_means : (types : Types) (bits : ℕ) (d : Data) (text : List ℕ) → data_said types bits d ≡ Ok (command.Search text) → IsSearch d text
 search_means types bits d text h = let s = said types bits d _ h in search_by_verb types bits s.v d text s.verb s.holds s.command
@@ -48,5 +48,5 @@ pub means_search : (types : Types) (bits : ℕ) (d : Data) (text : List ℕ) →
 means_search types bits d text p =
     let words = ap (option_and_then as_str) p.says_text in
     says types bits line.Search d p.has_verb.verb
-    (two_hold (all_stand line.Search (members_of d) && true) (is_some (search_in d)) cause.Unbuilt cause.Key cause.Value (with_true _ p.has_verb.keys) (ap is_some words))
+    (two_hold (all_stand line.Search (members_of d) && true) (is_some (search_in d)) cause.Key cause.Value (with_true _ p.has_verb.keys) (ap is_some words))
     ∙ ap (λ t. Ok (command.Search (text_of t))) words

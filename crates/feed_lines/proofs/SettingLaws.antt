@@ -50,13 +50,13 @@ net_is types bits d = net_by (lane_in bits d) (fates_in d)
 
 -- ---- each test holds, and back
 
-pub two_hold : (a b : Bool) (p q r : Cause) → a ≡ true → b ≡ true → first_cause ((true, p) ∷ (a, q) ∷ (b, r) ∷ []) ≡ None
-two_hold a b p q r h k = rw (h, k) refl
+pub two_hold : (a b : Bool) (p q : Cause) → a ≡ true → b ≡ true → first_cause ((a, p) ∷ (b, q) ∷ []) ≡ None
+two_hold a b p q h k = rw (h, k) refl
 
-pub each_of_two : (a b : Bool) (p q r : Cause) → first_cause ((true, p) ∷ (a, q) ∷ (b, r) ∷ []) ≡ None → (a ≡ true) × (b ≡ true)
-each_of_two true true p q r h = (refl, refl)
-each_of_two true false p q r h = cc
-each_of_two false b p q r h = cc
+pub each_of_two : (a b : Bool) (p q : Cause) → first_cause ((a, p) ∷ (b, q) ∷ []) ≡ None → (a ≡ true) × (b ≡ true)
+each_of_two true true p q h = (refl, refl)
+each_of_two true false p q h = cc
+each_of_two false b p q h = cc
 
 pub with_true : (a : Bool) → a ≡ true → (a && true) ≡ true
 with_true a h = rw h refl
@@ -90,7 +90,7 @@ same_state t u a b h = (cc, cc)
 state_parts : (types : Types) (bits : ℕ) (d : Data) (text : List ℕ) (deaf : ℕ) → verb_of d ≡ Some line.State → first_cause (tests types bits line.State d) ≡ None
     → command_in types bits line.State d ≡ command.State text deaf → IsState d text deaf
 state_parts types bits d text deaf verb holds is =
-    let each = each_of_two (all_stand line.State (members_of d) && true) (is_some (state_in d) && is_some (deaf_in d)) cause.Unbuilt cause.Key cause.Value holds in
+    let each = each_of_two (all_stand line.State (members_of d) && true) (is_some (state_in d) && is_some (deaf_in d)) cause.Key cause.Value holds in
     let words = some_from (state_in d) (left _ _ each.1) in
     let set = some_from (deaf_in d) (right _ _ each.1) in
     let same = same_state _ text _ deaf is in
@@ -112,7 +112,7 @@ state_by_verb types bits line.Stop d text deaf verb holds is = cc
 state_by_verb types bits line.Start d text deaf verb holds is = cc
 state_by_verb types bits line.Net d text deaf verb holds is = cc
 state_by_verb types bits line.Maintain d text deaf verb holds is = cc
-state_by_verb types bits line.Later d text deaf verb holds is = cc
+state_by_verb types bits line.Barrier d text deaf verb holds is = cc
 
 pub state_means : (types : Types) (bits : ℕ) (d : Data) (text : List ℕ) (deaf : ℕ) → data_said types bits d ≡ Ok (command.State text deaf) → IsState d text deaf
 state_means types bits d text deaf h = let s = said types bits d _ h in state_by_verb types bits s.v d text deaf s.verb s.holds s.command
@@ -122,7 +122,7 @@ means_state types bits d text deaf p =
     let words = ap (option_and_then as_str) p.says_text in
     let set = deaf_from (get (codes "deaf") d) p.nodes p.says_deaf in
     says types bits line.State d p.has_verb.verb
-    (two_hold (all_stand line.State (members_of d) && true) (is_some (state_in d) && is_some (deaf_in d)) cause.Unbuilt cause.Key cause.Value
+    (two_hold (all_stand line.State (members_of d) && true) (is_some (state_in d) && is_some (deaf_in d)) cause.Key cause.Value
     (with_true _ p.has_verb.keys) (ap₂ (λ a b. is_some a && is_some b) words set))
     ∙ ap₂ (λ t s. Ok (command.State (text_of t) (number_of s))) words set ∙ ap (λ s. Ok (command.State text s)) (sym p.is_set)
 
@@ -147,12 +147,12 @@ stop_by_verb types bits (line.Feed v) d node verb holds is = cc
 stop_by_verb types bits line.Search d node verb holds is = cc
 stop_by_verb types bits line.State d node verb holds is = cc
 stop_by_verb types bits line.Stop d node verb holds is =
-    let each = each_of_two (all_stand line.Stop (members_of d) && true) (is_some (node_in (codes "stop") d)) cause.Unbuilt cause.Key cause.Value holds in
+    let each = each_of_two (all_stand line.Stop (members_of d) && true) (is_some (node_in (codes "stop") d)) cause.Key cause.Value holds in
     node_line line.Stop (codes "stop") d node verb (left _ _ each.0) each.1 cc
 stop_by_verb types bits line.Start d node verb holds is = cc
 stop_by_verb types bits line.Net d node verb holds is = cc
 stop_by_verb types bits line.Maintain d node verb holds is = cc
-stop_by_verb types bits line.Later d node verb holds is = cc
+stop_by_verb types bits line.Barrier d node verb holds is = cc
 
 start_by_verb : (types : Types) (bits : ℕ) (v : LineVerb) (d : Data) (node : ℕ) → verb_of d ≡ Some v → first_cause (tests types bits v d) ≡ None → command_in types bits v d ≡ command.Start node
     → IsNodeLine line.Start (codes "start") d node
@@ -161,11 +161,11 @@ start_by_verb types bits line.Search d node verb holds is = cc
 start_by_verb types bits line.State d node verb holds is = cc
 start_by_verb types bits line.Stop d node verb holds is = cc
 start_by_verb types bits line.Start d node verb holds is =
-    let each = each_of_two (all_stand line.Start (members_of d) && true) (is_some (node_in (codes "start") d)) cause.Unbuilt cause.Key cause.Value holds in
+    let each = each_of_two (all_stand line.Start (members_of d) && true) (is_some (node_in (codes "start") d)) cause.Key cause.Value holds in
     node_line line.Start (codes "start") d node verb (left _ _ each.0) each.1 cc
 start_by_verb types bits line.Net d node verb holds is = cc
 start_by_verb types bits line.Maintain d node verb holds is = cc
-start_by_verb types bits line.Later d node verb holds is = cc
+start_by_verb types bits line.Barrier d node verb holds is = cc
 
 pub stop_means : (types : Types) (bits : ℕ) (d : Data) (node : ℕ) → data_said types bits d ≡ Ok (command.Stop node) → IsNodeLine line.Stop (codes "stop") d node
 stop_means types bits d node h = let s = said types bits d _ h in stop_by_verb types bits s.v d node s.verb s.holds s.command
@@ -177,14 +177,14 @@ pub means_stop : (types : Types) (bits : ℕ) (d : Data) (node : ℕ) → IsNode
 means_stop types bits d node p =
     let there = node_there line.Stop (codes "stop") d node p in
     says types bits line.Stop d p.has_verb.verb
-    (two_hold (all_stand line.Stop (members_of d) && true) (is_some (node_in (codes "stop") d)) cause.Unbuilt cause.Key cause.Value (with_true _ p.has_verb.keys) (ap is_some there))
+    (two_hold (all_stand line.Stop (members_of d) && true) (is_some (node_in (codes "stop") d)) cause.Key cause.Value (with_true _ p.has_verb.keys) (ap is_some there))
     ∙ ap (λ o. Ok (command.Stop (number_of o))) there
 
 pub means_start : (types : Types) (bits : ℕ) (d : Data) (node : ℕ) → IsNodeLine line.Start (codes "start") d node → data_said types bits d ≡ Ok (command.Start node)
 means_start types bits d node p =
     let there = node_there line.Start (codes "start") d node p in
     says types bits line.Start d p.has_verb.verb
-    (two_hold (all_stand line.Start (members_of d) && true) (is_some (node_in (codes "start") d)) cause.Unbuilt cause.Key cause.Value (with_true _ p.has_verb.keys) (ap is_some there))
+    (two_hold (all_stand line.Start (members_of d) && true) (is_some (node_in (codes "start") d)) cause.Key cause.Value (with_true _ p.has_verb.keys) (ap is_some there))
     ∙ ap (λ o. Ok (command.Start (number_of o))) there
 
 -- ---- plans of messages
@@ -199,7 +199,7 @@ same_net l k f g h = (cc, cc)
 net_parts : (types : Types) (bits : ℕ) (d : Data) (lane : ℕ) (fates : List Fate) → verb_of d ≡ Some line.Net → first_cause (tests types bits line.Net d) ≡ None
     → command_in types bits line.Net d ≡ command.Net lane fates → IsNet bits d lane fates
 net_parts types bits d lane fates verb holds is =
-    let each = each_of_two (all_stand line.Net (members_of d) && has_net_keys (net_of d)) (is_some (lane_in bits d) && is_some (fates_in d)) cause.Unbuilt cause.Key cause.Value holds in
+    let each = each_of_two (all_stand line.Net (members_of d) && has_net_keys (net_of d)) (is_some (lane_in bits d) && is_some (fates_in d)) cause.Key cause.Value holds in
     let some_lane = some_from (lane_in bits d) (left _ _ each.1) in
     let some_fates = some_from (fates_in d) (right _ _ each.1) in
     let same = same_net _ lane _ fates is in
@@ -225,7 +225,7 @@ net_by_verb types bits line.Stop d lane fates verb holds is = cc
 net_by_verb types bits line.Start d lane fates verb holds is = cc
 net_by_verb types bits line.Net d lane fates verb holds is = net_parts types bits d lane fates verb holds is
 net_by_verb types bits line.Maintain d lane fates verb holds is = cc
-net_by_verb types bits line.Later d lane fates verb holds is = cc
+net_by_verb types bits line.Barrier d lane fates verb holds is = cc
 
 pub net_means : (types : Types) (bits : ℕ) (d : Data) (lane : ℕ) (fates : List Fate) → data_said types bits d ≡ Ok (command.Net lane fates) → IsNet bits d lane fates
 net_means types bits d lane fates h = let s = said types bits d _ h in net_by_verb types bits s.v d lane fates s.verb s.holds s.command
@@ -235,6 +235,6 @@ means_net types bits d lane fates p =
     let lane_there = ap (option_and_then (lane_of bits)) p.lane_there ∙ p.says_lane in
     let fates_there = ap (option_and_then fates_of) p.fates_there ∙ p.says_fates in
     says types bits line.Net d p.has_verb.verb
-    (two_hold (all_stand line.Net (members_of d) && has_net_keys (net_of d)) (is_some (lane_in bits d) && is_some (fates_in d)) cause.Unbuilt cause.Key cause.Value
+    (two_hold (all_stand line.Net (members_of d) && has_net_keys (net_of d)) (is_some (lane_in bits d) && is_some (fates_in d)) cause.Key cause.Value
     (ap₂ (λ a b. a && b) p.has_verb.keys p.object) (ap₂ (λ a b. is_some a && is_some b) lane_there fates_there))
     ∙ ap₂ (λ l f. Ok (command.Net (number_of l) (list_of f))) lane_there fates_there

@@ -11,7 +11,7 @@ use Rattle.feed_lines.specs.declared.keys.LineVerb.TheVariants as line
 unfoldable pub other_verb : List ℕ → Option LineVerb
 other_verb key = if bytes_eq key (codes "search") then Some line.Search else (if bytes_eq key (codes "state") then Some line.State else (if bytes_eq key (codes "stop") then Some line.Stop
     else (if bytes_eq key (codes "start") then Some line.Start else (if bytes_eq key (codes "net") then Some line.Net
-    else (if bytes_eq key (codes "maintain") then Some line.Maintain else (if bytes_eq key (codes "barrier") then Some line.Later else None))))))
+    else (if bytes_eq key (codes "maintain") then Some line.Maintain else (if bytes_eq key (codes "barrier") then Some line.Barrier else None))))))
 
 unfoldable pub verb_named : List ℕ → Option LineVerb
 verb_named key = if bytes_eq key (codes "put") then Some (line.Feed verb.Put) else (if bytes_eq key (codes "update") then Some (line.Feed verb.Update)
@@ -63,7 +63,7 @@ may_stand line.Stop key = bytes_eq key (codes "stop")
 may_stand line.Start key = bytes_eq key (codes "start")
 may_stand line.Net key = bytes_eq key (codes "net")
 may_stand line.Maintain key = bytes_eq key (codes "maintain")
-may_stand line.Later key = true
+may_stand line.Barrier key = bytes_eq key (codes "barrier")
 
 abbrev pub all_stand : LineVerb → Members → Bool
 all_stand v no_members = true

@@ -104,10 +104,10 @@ pub record IsNodeLine (v : LineVerb) (key : List ℕ) (d : Data) (node : ℕ) : 
   pub value : get key d ≡ Some said
   pub number : node_of said ≡ Some node
 
--- the truth value true as the value of the verb
-pub record IsMaintain (d : Data) : Type 0 where
-  pub has_verb : HasVerb line.Maintain d
-  pub value : get (codes "maintain") d ≡ Some (boolean true)
+-- the truth value true as the value of this verb
+pub record IsBareLine (v : LineVerb) (key : List ℕ) (d : Data) : Type 0 where
+  pub has_verb : HasVerb v d
+  pub value : get key d ≡ Some (boolean true)
 
 -- the lane whose coming messages are planned, and their fates, in an object with just these two
 pub record IsNet (bits : ℕ) (d : Data) (lane : ℕ) (fates : List Fate) : Type 0 where

@@ -76,7 +76,7 @@ command_in types bits line.Stop d = command.Stop (number_of (node_in (codes "sto
 command_in types bits line.Start d = command.Start (number_of (node_in (codes "start") d))
 command_in types bits line.Net d = command.Net (number_of (lane_in bits d)) (list_of (fates_in d))
 command_in types bits line.Maintain d = command.Maintain
-command_in types bits line.Later d = command.Blank
+command_in types bits line.Barrier d = command.Barrier
 
 abbrev pub answer_by : {A : Type 0} → Option Cause → A → Result A Cause
 answer_by None c = Ok c
@@ -115,7 +115,7 @@ fault_by right fault.NoMemory = fault.NoMemory
 abbrev pub id_said : Types → Verb → List ℕ → Beside → Result Command Cause
 id_said types v id b = answer_by (first_cause (id_tests types v id b)) (feed_in types v id b)
 
--- what an operation, a search, a state, a stop, a start, a plan of messages and upkeep say behind their keys
+-- what an operation, a search, a state, a stop, a start, a plan of messages, upkeep and a barrier say behind their keys
 abbrev pub feed_said : Types → Verb → Data → Result Command Cause
 feed_said types v d = answer_by (first_cause (feed_tests types v d)) (feed_in types v (text_of (id_in v d)) (beside_of d))
 
@@ -144,6 +144,10 @@ net_said None fates = Err cause.Value
 abbrev pub maintain_said : Bool → Result Command Cause
 maintain_said true = Ok command.Maintain
 maintain_said false = Err cause.Value
+
+abbrev pub barrier_said : Bool → Result Command Cause
+barrier_said true = Ok command.Barrier
+barrier_said false = Err cause.Value
 
 -- what a line of a verb says that has the right keys
 abbrev pub own_said : Types → ℕ → LineVerb → Data → Result Command Cause

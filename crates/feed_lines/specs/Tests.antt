@@ -37,17 +37,6 @@ members_of d = members_in (as_object d)
 abbrev pub verb_of : Data → Option LineVerb
 verb_of d = only_verb (members_of d)
 
--- the verb is none of lines that aren't built yet
-abbrev pub is_built : LineVerb → Bool
-is_built (line.Feed v) = true
-is_built line.Search = true
-is_built line.State = true
-is_built line.Stop = true
-is_built line.Start = true
-is_built line.Net = true
-is_built line.Maintain = true
-is_built line.Later = false
-
 -- the value of `fields`
 abbrev pub fields_of : Data → Option Data
 fields_of d = get (codes "fields") d
@@ -82,7 +71,7 @@ has_own_keys line.Stop d = true
 has_own_keys line.Start d = true
 has_own_keys line.Net d = has_net_keys (net_of d)
 has_own_keys line.Maintain d = true
-has_own_keys line.Later d = true
+has_own_keys line.Barrier d = true
 
 -- no key but the verb's own, and those that are wanted
 abbrev pub has_right_keys : LineVerb → Data → Bool
@@ -232,8 +221,8 @@ own_tests types bits line.Stop d = (is_some (node_in (codes "stop") d), cause.Va
 own_tests types bits line.Start d = (is_some (node_in (codes "start") d), cause.Value) ∷ []
 own_tests types bits line.Net d = (is_some (lane_in bits d) && is_some (fates_in d), cause.Value) ∷ []
 own_tests types bits line.Maintain d = (is_true_in (codes "maintain") d, cause.Value) ∷ []
-own_tests types bits line.Later d = []
+own_tests types bits line.Barrier d = (is_true_in (codes "barrier") d, cause.Value) ∷ []
 
 -- what a line of a verb has to meet
 abbrev pub tests : Types → ℕ → LineVerb → Data → List (Bool × Cause)
-tests types bits v d = (is_built v, cause.Unbuilt) ∷ (has_right_keys v d, cause.Key) ∷ own_tests types bits v d
+tests types bits v d = (has_right_keys v d, cause.Key) ∷ own_tests types bits v d

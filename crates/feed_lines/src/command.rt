@@ -42,6 +42,8 @@ pub enum Command {
     },
     /// Every lane is kept in order: upkeep.
     Maintain,
+    /// What was asked before is answered before what comes behind begins.
+    Barrier,
 }
 
 /// Why a line is bad; of the causes that a line has, the first in this order.
@@ -51,8 +53,6 @@ pub enum Cause {
     Json,
     /// The value isn't an object with exactly one verb.
     Object,
-    /// The verb is of lines that aren't built yet.
-    Unbuilt,
     /// A key isn't the verb's, or `fields`, `lane` or `fates` is missing.
     Key,
     /// The id isn't a text, or is no document id.

@@ -13,7 +13,7 @@ pub enum Verb {
     Get,
 }
 
-/// What a line does; `Later` is the verb that isn't built yet.
+/// What a line does.
 #[derive(Clone, Copy, PartialEq, Eq)]
 pub enum LineVerb {
     Feed(Verb),
@@ -23,7 +23,7 @@ pub enum LineVerb {
     Start,
     Net,
     Maintain,
-    Later,
+    Barrier,
 }
 
 /// The verb that a key is, if it is one that asks for no document.
@@ -44,7 +44,7 @@ fn other_verb(key: &str) -> Option<LineVerb>
     } else if key == "maintain" {
         Some(LineVerb::Maintain)
     } else if key == "barrier" {
-        Some(LineVerb::Later)
+        Some(LineVerb::Barrier)
     } else {
         None
     }
@@ -129,7 +129,7 @@ fn may_stand(verb: LineVerb, key: &str) -> bool
         LineVerb::Start => key == "start",
         LineVerb::Net => key == "net",
         LineVerb::Maintain => key == "maintain",
-        LineVerb::Later => true,
+        LineVerb::Barrier => key == "barrier",
     }
 }
 

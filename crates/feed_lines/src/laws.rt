@@ -12,7 +12,7 @@ ghost use Rattle.conditions.specs.Formulas.{Formula};
 ghost use Rattle.doc_selection.specs.declared.terms.Term.{Term};
 ghost use Rattle.messages.specs.declared.operation.OpKind.TheVariants as kind;
 ghost use Rattle.messages.specs.declared.operation.Operation.{Operation};
-ghost use Rattle.feed_lines.specs.Lines.{Asks, IsLine, IsPut, IsUpdate, IsSearch, IsState, IsNodeLine, IsNet, IsMaintain};
+ghost use Rattle.feed_lines.specs.Lines.{Asks, IsLine, IsPut, IsUpdate, IsSearch, IsState, IsNodeLine, IsNet, IsBareLine};
 ghost use Rattle.feed_lines.specs.Meaning.{data_said, line_said};
 ghost use Rattle.feed_lines.specs.Values.{set_of, most_fates, IsFate};
 ghost use Rattle.feed_lines.specs.declared.command.Command.TheVariants as command;
@@ -48,7 +48,7 @@ pub fn lines_are_searches()
         → (data_said types bits d ≡ Ok (command.Search text)) ↔ IsSearch d text }
 {}
 
-/// A line asks for a state, a stop, a start, a plan of messages or upkeep exactly where all that its verb wants
+/// A line asks for a state, a stop, a start, a plan of messages, upkeep or a barrier exactly where all that its verb wants
 /// holds of it. The set of the distributors that don't hear has just the numbers of its list.
 pub fn other_lines_are_settings()
     ensures state { (types : Types) (bits : ℕ) (d : Data) (text : List ℕ) (deaf : ℕ)
@@ -60,7 +60,9 @@ pub fn other_lines_are_settings()
     ensures net { (types : Types) (bits : ℕ) (d : Data) (lane : ℕ) (fates : List Fate)
         → (data_said types bits d ≡ Ok (command.Net lane fates)) ↔ IsNet bits d lane fates }
     ensures maintain { (types : Types) (bits : ℕ) (d : Data)
-        → (data_said types bits d ≡ Ok command.Maintain) ↔ IsMaintain d }
+        → (data_said types bits d ≡ Ok command.Maintain) ↔ IsBareLine line.Maintain (codes "maintain") d }
+    ensures barrier { (types : Types) (bits : ℕ) (d : Data)
+        → (data_said types bits d ≡ Ok command.Barrier) ↔ IsBareLine line.Barrier (codes "barrier") d }
 
     ensures members { (nodes : List ℕ) (n : ℕ) → n < 32
         → has_node (set_of nodes) n ≡ list_any (λ node. n == node) nodes }

@@ -17,6 +17,7 @@
 //! {"start":3}
 //! {"net":{"lane":0,"fates":["deliver","lose_request","lose_reply","twice",{"late":2}]}}
 //! {"maintain":true}
+//! {"barrier":true}
 //! ```
 #![tactic(auto)]
 

@@ -9,9 +9,10 @@ use crate::keys::LineVerb;
 use crate::operations::feed_command;
 use crate::options::bad;
 use crate::settings::{
-    maintain_command, net_command, search_command, start_command, state_command, stop_command,
+    barrier_command, maintain_command, net_command, search_command, start_command, state_command,
+    stop_command,
 };
-use crate::shape::{has_right_keys, is_built, verb_of};
+use crate::shape::{has_right_keys, verb_of};
 use doc_types::Schema;
 use io_ends::LONGEST;
 use line_values::{ReadFault, ValueReader};
@@ -56,7 +57,7 @@ fn own_command(
         LineVerb::Start => start_command(line),
         LineVerb::Net => net_command(alloc, line, bits),
         LineVerb::Maintain => maintain_command(line),
-        LineVerb::Later => Ok(Command::Blank),
+        LineVerb::Barrier => barrier_command(line),
     }
 }
 
@@ -70,9 +71,6 @@ fn verb_command(
 ) -> Result<Command, LineFault>
     ensures { Gives result (verb_said schema.now bits (view line.now) (Some verb)) }
 {
-    if !is_built(verb) {
-        return Err(bad(Cause::Unbuilt));
-    }
     if !has_right_keys(verb, line) {
         return Err(bad(Cause::Key));
     }

@@ -1,6 +1,6 @@
 ghost use Rattle.std.specs.Prelude.{◌≡◌, codes, IfOk};
 ghost use Rattle.serde_json.specs.View.{view};
-ghost use Rattle.feed_lines.specs.Meaning.{search_said, state_said, stop_said, start_said, net_said, maintain_said, Gives};
+ghost use Rattle.feed_lines.specs.Meaning.{search_said, state_said, stop_said, start_said, net_said, maintain_said, barrier_said, Gives};
 ghost use Rattle.feed_lines.specs.Tests.{search_in, state_in, deaf_in, node_in, lane_in, fates_in, is_true_in};
 
 use crate::command::{Cause, Command, LineFault};
@@ -117,6 +117,17 @@ pub fn maintain_command(line: &Value) -> Result<Command, LineFault>
 {
     if is_true_in("maintain", line) {
         Ok(Command::Maintain)
+    } else {
+        Err(bad(Cause::Value))
+    }
+}
+
+/// A barrier, which a line asks for.
+pub fn barrier_command(line: &Value) -> Result<Command, LineFault>
+    ensures { Gives result (barrier_said (is_true_in (codes "barrier") (view line.now))) }
+{
+    if is_true_in("barrier", line) {
+        Ok(Command::Barrier)
     } else {
         Err(bad(Cause::Value))
     }

@@ -2,7 +2,7 @@ ghost use Rattle.std.specs.Prelude.{◌≡◌, Some, IfOk, option_map, option_an
 ghost use Rattle.serde_json.specs.Find.{get, as_str};
 ghost use Rattle.serde_json.specs.View.{view};
 ghost use Rattle.feed_lines.specs.Keys.{all_stand, are_net_keys};
-ghost use Rattle.feed_lines.specs.Tests.{members_of, verb_of, is_built, fields_of, has_wanted, net_of, net_members, in_net, has_net_keys, has_own_keys, has_right_keys, as_id, id_in};
+ghost use Rattle.feed_lines.specs.Tests.{members_of, verb_of, fields_of, has_wanted, net_of, net_members, in_net, has_net_keys, has_own_keys, has_right_keys, as_id, id_in};
 
 use crate::keys::{LineVerb, Verb, all_stand, are_net_keys, name_of, only_verb};
 use document_ids::{DocId, IdFault};
@@ -17,22 +17,6 @@ pub fn verb_of(line: &Value) -> Option<LineVerb>
     match line.as_object() {
         Some(members) => only_verb(members),
         None => None,
-    }
-}
-
-/// Whether a verb is none of lines that aren't built yet.
-pub fn is_built(verb: LineVerb) -> bool
-    ensures { result ≡ is_built verb }
-{
-    match verb {
-        LineVerb::Feed(_)
-        | LineVerb::Search
-        | LineVerb::State
-        | LineVerb::Stop
-        | LineVerb::Start
-        | LineVerb::Net
-        | LineVerb::Maintain => true,
-        LineVerb::Later => false,
     }
 }
 
@@ -96,7 +80,7 @@ fn has_own_keys(verb: LineVerb, line: &Value) -> bool
         | LineVerb::Stop
         | LineVerb::Start
         | LineVerb::Maintain
-        | LineVerb::Later => true,
+        | LineVerb::Barrier => true,
     }
 }
 

@@ -17,8 +17,8 @@ use Rattle.messages.specs.declared.noted.NotedBody.{NotedBody}
 use Rattle.messages.specs.declared.noted.NotedBody.TheVariants.{Ask, Read, Store, Apply, Delete, Split, Join, Ready, Activate}
 use Rattle.messages.specs.Noting.{noted_reply}
 use Rattle.replica_store.specs.Replicas.{LieIn}
-use Rattle.service_layer.specs.Nodes.{Node}
-use Rattle.service_layer.specs.Takes.{IsInside}
+use Rattle.node_model.specs.Nodes.{Node}
+use Rattle.node_model.specs.Takes.{IsInside}
 use Rattle.view_changes.specs.Shown.{Keeping, adopt}
 use Rattle.view_changes.specs.Deeds.{NodeDeed, Looks, Unites, Drops, Activates, adoption, changes_of as changes_told}
 use Rattle.view_changes.specs.declared.change.LaneChange.{LaneChange}
@@ -35,7 +35,7 @@ use Rattle.lane_keeping.specs.Replaying.{delivered}
 use Rattle.lane_keeping.proofs.Words.{inside-is}
 use Rattle.lane_changes.specs.Deliveries.{NotedMessage, entries_named, storing, deed_of, deed_by, keeping}
 use Rattle.lane_changes.specs.Changes.{changes_at, changes_of}
-use Rattle.service_layer.specs.Telling.{kept_of, deed_in, deed_replied, changes_taken}
+use Rattle.node_model.specs.Telling.{kept_of, deed_in, deed_replied, changes_taken}
 use Rattle.lane_changes.proofs.Noted.{NotedAs, sent-noted}
 use Rattle.lane_changes.proofs.Kept.{KeptAs, kept, AreStamped, inside-lie, inside-written, inside-stamps}
 

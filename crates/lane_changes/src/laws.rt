@@ -4,8 +4,8 @@ ghost use Rattle.std.specs.Prelude.{◌≡◌, ◌++◌, ℕ, List, [], ◌∷�
 ghost use Rattle.view_changes.specs.declared.change.LaneChange.TheVariants as change;
 ghost use Rattle.messages.specs.declared.message.Message.{Message};
 ghost use Rattle.messages.specs.declared.reply.Reply.{Reply};
-ghost use Rattle.service_layer.specs.Nodes.{Node};
-ghost use Rattle.service_layer.specs.Telling.{kept_of, changes_taken};
+ghost use Rattle.node_model.specs.Nodes.{Node};
+ghost use Rattle.node_model.specs.Telling.{kept_of, changes_taken};
 ghost use Rattle.lane_journals.specs.Places.{Setting};
 ghost use Rattle.lane_journals.specs.KeptJournals.{IsLegal};
 ghost use Rattle.lane_journals.specs.declared.event.LaneEvent.{LaneEvent};

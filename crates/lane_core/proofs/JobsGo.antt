@@ -45,6 +45,7 @@ use Rattle.lane_lives.specs.declared.answers.Advance.{Advance}
 use Rattle.lane_lives.specs.declared.answers.Advance.TheVariants as advance
 use Rattle.lane_core.specs.declared.work.Work.{Work}
 use Rattle.lane_states.specs.LaneStates.{journal_of, IsKept, HasRoom, AreResting}
+use Rattle.lane_core.proofs.Giving.{gives_few}
 use Rattle.lane_lives.specs.LaneValues.{LaneValue, with_run, under_way_of}
 use Rattle.lane_core.specs.Advancing.{IsFree, WentOn, Advances, AdvancesAt}
 use Rattle.stamps.specs.Places.{place_of}
@@ -355,7 +356,7 @@ module _ (x w : Work) (at : ℕ) (j : Job) (t : Standing) (row : Low) (written :
     free by h = let wrong : progress.Runs ≡ progress.Begun = sym (ap progress_of stage) ∙ h.begun in cc
 
     went : WentOn at (under_way_at j) (progress_of p) before later
-    went = record { free = free; left = j.left - 1; fewer = (let calls = some in omega (arith, calls)); after = value; few = λ runs. few; run = run }
+    went = record { free = free; left = j.left - 1; fewer = (let calls = some in omega (arith, calls)); after = value; gives = gives_few given fates few; few = λ runs. few; run = run }
 
     pub advances-stepped : AdvancesAt at before later a
     advances-stepped = (under_way_at j, get-map under_way_at x.jobs.items at j found, by p a refl refl comes)
@@ -403,6 +404,7 @@ module _ (x w : Work) (at : ℕ) (j : Job) (t : Standing) (row : Low) (written :
         by phase.Short advance.NoMemory is says h = record {
           left = j.left - 1;
           after = value ∙ ap (λ (z : Phase). with_run before (journal_of y) fates at (under_way_of j.line j.operation j.distributor (progress_of z) (j.left - 1))) is;
+          gives = gives_few given fates few;
           few = λ runs. few;
           run = (journal_of y, run, inl refl);
         }

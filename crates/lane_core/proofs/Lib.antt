@@ -12,6 +12,7 @@ mod JobEnds
 mod Stamps
 mod Working
 mod Fitting
+mod Giving
 mod Shortfalls
 mod Stepping
 mod JobsGo

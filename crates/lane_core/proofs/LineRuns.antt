@@ -7,6 +7,7 @@ use Rattle.lane_journals.specs.declared.event.LaneEvent.{LaneEvent}
 use Rattle.lane_journals.specs.declared.event.LaneEvent.TheVariants.{Refused}
 use Rattle.lane_keeping.specs.Lines.{IsFresh}
 use Rattle.lane_keeping.specs.Tidings.{heard_next}
+use Rattle.lane_states.proofs.Giving.{gives_same}
 use Rattle.lane_lives.specs.LaneValues.{LaneValue, IsLaneValue, Begins, BeginsAtOwner, Refuses, IsDocumentHeld, IsOwnerHeld, under_way_of}
 use Rattle.lane_lives.specs.declared.progress.Progress.TheVariants as progress
 use Rattle.lane_lives.specs.declared.progress.UnderWay.{UnderWay}
@@ -48,6 +49,7 @@ at_owner n o old begun new x idle fresh b f holds =
       done = record { state = b.state; newest = b.newest; owner = b.owner; owns = (b.acting).owner; run = r.ran };
       outcome_is = ran_outcome (feed_line n o None) b.owner b.state J old new x ((passes_next b.owner b.state old.journal).outcome_is n ∙ fresh_none n old.journal fresh) r;
       after = only_ran old new idle r.after;
+      gives = r.gives;
       holds = holds;
     }
 
@@ -71,6 +73,7 @@ at_via n d o old begun new x idle fresh b f holds =
       done = record { state = b.state; holds = (b.acting).holds; published = (b.acting).published; ends = inl ((b.acting).owner, r.ran) };
       outcome_is = ran_outcome (feed_line n o (Some d)) d b.state old.journal old new x (fresh_none n old.journal fresh) r;
       after = only_ran old new idle r.after;
+      gives = r.gives;
       holds = holds;
     }
 
@@ -87,5 +90,6 @@ refused_via n d o old new x fresh r holds =
       };
       outcome_is = ap (outcome_in n) journal ∙ outcome_refused n d x old.journal (fresh_none n old.journal fresh);
       after = r.after ∙ (λ i. record old { journal = sym journal i; given = sym given i });
+      gives = gives_same old.given new.given given;
       holds = holds;
     }

@@ -13,6 +13,8 @@ use Rattle.lane_journals.specs.Meanings.{history}
 use Rattle.lane_journals.specs.declared.event.LaneEvent.{LaneEvent}
 use Rattle.lane_journals.specs.declared.event.LaneEvent.TheVariants.{Closed}
 use Rattle.lane_lives.specs.LaneValues.{LaneValue, under_way_of, with_run, IsPlace, OfFirst, WantsMore, MayAdvance, WantsEnd, MayClose, EndsAs, Closes, drawn}
+use Rattle.lane_states.specs.LaneStates.{GivesOn}
+use Rattle.lane_states.proofs.Giving.{gives_then}
 use Rattle.lane_core.specs.Advancing.{IsHindered, WentOn, IsAdvance}
 use Rattle.operation_keeping.specs.Wants.{IsRunSince, IsCutRunSince, IsEndSince}
 use Rattle.operation_keeping.proofs.Since.{run-sent, run-then, run-of-search, end-of-search, cut-of-search, run-anew, end-anew, cut-anew}
@@ -187,10 +189,19 @@ module _ (line : ℕ) (u : UnderWay) (old now : LaneValue) (a : IsAlone line old
   after-call next progress left after = after-now next (under_way_of w.line w.operation w.distributor progress left) after
       ∙ (λ i. record old { journal = next.journal; given = next.given; under_way = under_way_of (line-same i) (operation-same i) (distributor-same i) progress left ∷ [] })
 
+  -- what was given since the beginning
+  gives-on : (next : LaneValue) → GivesOn now.given next.given → GivesOn old.given next.given
+  gives-on next more = by_going g
+    where
+      by_going : IsGoing u old now → GivesOn old.given next.given
+      by_going (inl same) = subst (λ (v : LaneValue). GivesOn v.given next.given) same more
+      by_going (inr went) = gives_then old.given now.given next.given went.gives more
+
   more : (next : LaneValue) (went : WentOn at w Runs now next) → IsSome (prepared w.line (history next.journal)) → GoesOn u old next
   more next went is_prepared = record {
     left = went.left;
     after = after-call next Runs went.left went.after;
+    gives = gives-on next went.gives;
     run = run-on next.journal went.run;
     prepared_is = subst (λ (n : ℕ). IsSome (prepared n (history next.journal))) line-same is_prepared;
   }
@@ -254,6 +265,7 @@ finish_over line u old now next new outcome a g h c = let d = h.advances in (
           (end-on line u old now a g h.at h.operation h.place next.journal d.0 (d.1).run d.2),
     );
     after = closed-after line u old now a g h.at h.operation h.place next new (Over d.0) (d.1).left (d.1).after outcome c;
+    gives = subst (GivesOn old.given) (sym (given-same line u old now a g h.at h.operation h.place next new (Over d.0) (d.1).left (d.1).after outcome c)) (gives-on line u old now a g h.at h.operation h.place next (d.1).gives);
   },
 )
 
@@ -265,6 +277,7 @@ finish_short line u old now next new outcome a g h c = let d = h.advances in (
     run = next.journal;
     runs = inr (cut-on line u old now a g h.at h.operation h.place next.journal d.run, ends line u old now a g h.at h.operation h.place next new Short d.left d.after outcome c);
     after = closed-after line u old now a g h.at h.operation h.place next new Short d.left d.after outcome c;
+    gives = subst (GivesOn old.given) (sym (given-same line u old now a g h.at h.operation h.place next new Short d.left d.after outcome c)) (gives-on line u old now a g h.at h.operation h.place next d.gives);
   },
 )
 
@@ -279,6 +292,7 @@ pub record HasRun (line : FeedLine) (d : ℕ) (state : ClusterState) (J : List L
   pub ran : IsRunAt old.lane old.rules line d state J new.journal
   pub outcome_is : ran.outcome ≡ x
   pub after : new ≡ record old { journal = new.journal; given = new.given; under_way = [] }
+  pub gives : GivesOn old.given new.given
 
 -- a search that began as the line did is its run
 runs-to : (lane : Low) (rules : Rules) (line : FeedLine) (d : ℕ) (state : ClusterState) (J K : List LaneEvent) (x : Outcome)
@@ -308,4 +322,5 @@ has_run line d state J old begun new x b f =
       outcome_is = refl;
       after = done.after ∙ (λ i. record (b i) { journal = Closed line.number x ∷ done.run; given = new.given; under_way = [] })
           ∙ (λ i. record old { journal = sym closed i; given = new.given; under_way = [] });
+      gives = subst (λ (v : LaneValue). GivesOn v.given new.given) b done.gives;
     }

@@ -27,7 +27,7 @@ use Rattle.lane_lives.specs.declared.answers.Advance.TheVariants as advance
 use Rattle.lane_lines.specs.declared.readying.Shortage.{Shortage}
 use Rattle.lane_lines.specs.declared.readying.Shortage.TheVariants as shortage
 use Rattle.lane_core.specs.declared.work.Work.{Work}
-use Rattle.lane_states.specs.LaneStates.{journal_of, IsKept, HasRoom, part_of, IsResting, AreResting}
+use Rattle.lane_states.specs.LaneStates.{journal_of, IsKept, HasRoom, GivesOn, part_of, IsResting, AreResting}
 use Rattle.lane_lives.specs.LaneValues.{LaneValue, WantsMore, with_run, under_way_of}
 use Rattle.lane_core.specs.Advancing.{IsFree, AdvancesAt}
 use Rattle.lane_core.specs.Works.{value_of, under_way_at, progress_of, IsItsRow, IsUnprepared, PhaseKeeps, PhaseLasts, IsJob, AreJobs, IsWork}
@@ -247,8 +247,8 @@ module _ (x : Work) (at : ℕ) (j : Job) (w : IsWork x) (found : slice_get x.job
         same-journal : (value_of m now planned takes).journal ≡ journal_of y
         same-journal = ap journal_of state
 
-        pub went-searched : IsFree (under_way_at j) (value_of x given planned takes) → OfOwn (λ line o s stamp. GoesOnWith (search_from x.state) x.state y line o j.distributor s stamp) → WentAt at (value_of x given planned takes) (value_of m now planned takes)
-        went-searched free h = (
+        pub went-searched : GivesOn given now → IsFree (under_way_at j) (value_of x given planned takes) → OfOwn (λ line o s stamp. GoesOnWith (search_from x.state) x.state y line o j.distributor s stamp) → WentAt at (value_of x given planned takes) (value_of m now planned takes)
+        went-searched gives free h = (
           under_way_at j,
           get-map under_way_at x.jobs.items at j found,
           record {
@@ -256,19 +256,21 @@ module _ (x : Work) (at : ℕ) (j : Job) (w : IsWork x) (found : slice_get x.job
             left = j.left - 1;
             fewer = (let all = calls in omega (arith, all));
             after = subst (λ (K : List LaneEvent). value_of m now planned takes ≡ with_run (value_of x given planned takes) K now at (under_way_at (spent j))) (sym same-journal) value-is;
+            gives = gives;
             few = λ runs. absurd (not-runs (under_way_at j).progress (ap progress_of (begun-so j.phase begun)) runs);
             run = subst (λ (K : List LaneEvent). IsRunSince x.state.lane x.state.rules j.line j.operation (history J) J K) (sym same-journal) (of-own (λ line o s stamp. GoesOnWith (search_from x.state) x.state y line o j.distributor s stamp) h).run;
           },
           ap progress_of (begun-so j.phase begun),
         )
 
-        pub cut-searched : OfOwn (λ line o s stamp. IsCutOffWith (search_from x.state) x.state y line o j.distributor s stamp) → AdvancesAt at (value_of x given planned takes) (value_of m now planned takes) advance.NoMemory
-        cut-searched h = (
+        pub cut-searched : GivesOn given now → OfOwn (λ line o s stamp. IsCutOffWith (search_from x.state) x.state y line o j.distributor s stamp) → AdvancesAt at (value_of x given planned takes) (value_of m now planned takes) advance.NoMemory
+        cut-searched gives h = (
           under_way_at j,
           get-map under_way_at x.jobs.items at j found,
           record {
             left = j.left - 1;
             after = subst (λ (K : List LaneEvent). value_of m now planned takes ≡ with_run (value_of x given planned takes) K now at (under_way_at (spent j))) (sym same-journal) value-is;
+            gives = gives;
             few = λ runs. absurd (not-runs (under_way_at j).progress (ap progress_of (begun-so j.phase begun)) runs);
             run = subst (λ (K : List LaneEvent). IsCutRunSince x.state.lane x.state.rules j.line j.operation (history J) J K) (sym same-journal) (of-own (λ line o s stamp. IsCutOffWith (search_from x.state) x.state y line o j.distributor s stamp) h).run;
           },
@@ -297,6 +299,7 @@ prepared-so at a b c h p = (
       left = (h.2).left;
       fewer = (h.2).fewer;
       after = settled a c at (under_way_of h.0.line h.0.operation h.0.distributor progress.Runs (h.2).left) _ b.given whole;
+      gives = subst (GivesOn a.given) (sym (ap (λ (v : LaneValue). v.given) whole)) (h.2).gives;
       few = λ runs. absurd (not-runs h.0.progress h.3 runs);
       run = subst (λ (K : List LaneEvent). IsRunSince a.lane a.rules h.0.line h.0.operation (history a.journal) a.journal K) (sym grown)
           (Longer (Prepared h.0.line (q).row.bucket (q).row.complete) b.journal (h.2).run (inr wanted));
@@ -325,7 +328,7 @@ prepared-so at a b c h p = (
 
 -- memory was wanted
 pub cut-so : (at : ℕ) (a b c : LaneValue) → WentAt at a b → c ≡ b → AdvancesAt at a c advance.NoMemory
-cut-so at a b c h e = subst (λ (z : LaneValue). AdvancesAt at a z advance.NoMemory) (sym e) (h.0, h.1, record { left = (h.2).left; after = (h.2).after; few = λ runs. absurd (not-runs h.0.progress h.3 runs); run = (b.journal, (h.2).run, inl refl) })
+cut-so at a b c h e = subst (λ (z : LaneValue). AdvancesAt at a z advance.NoMemory) (sym e) (h.0, h.1, record { left = (h.2).left; after = (h.2).after; gives = (h.2).gives; few = λ runs. absurd (not-runs h.0.progress h.3 runs); run = (b.journal, (h.2).run, inl refl) })
 
 -- it is over
 pub fell-so : (at : ℕ) (a b c : LaneValue) (x : Outcome) → WentAt at a b → ((u : UnderWay) → slice_get a.under_way at ≡ Some u → IsEndSince a.lane a.rules u.line u.operation (history a.journal) b.journal x) → OverAt at x b c → AdvancesAt at a c advance.Done
@@ -339,6 +342,7 @@ fell-so at a b c x h end o = (
       left = (h.2).left;
       fewer = (h.2).fewer;
       after = settled a c at (under_way_of h.0.line h.0.operation h.0.distributor (progress.Over x) (h.2).left) b.journal b.given whole;
+      gives = subst (GivesOn a.given) (sym (ap (λ (v : LaneValue). v.given) whole)) (h.2).gives;
       few = λ runs. absurd (not-runs h.0.progress h.3 runs);
       run = subst (λ (K : List LaneEvent). IsRunSince a.lane a.rules h.0.line h.0.operation (history a.journal) a.journal K) (sym same) (h.2).run;
     },

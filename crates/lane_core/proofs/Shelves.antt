@@ -2,7 +2,7 @@
 use Rattle.std.proofs.Common.{◌≡◌, ◌++◌, ◌∙◌, List, sym, ap, subst, arith, append_assoc}
 use Rattle.carriers.specs.declared.fate.Fate.{Fate}
 use Rattle.bucket_ids.specs.Buckets.{IsBucket}
-use Rattle.service_layer.specs.Nodes.{Node}
+use Rattle.node_model.specs.Nodes.{Node}
 use Rattle.view_changes.specs.declared.change.LaneChange.{LaneChange}
 use Rattle.shelves.specs.Shelves.{Holds, ShowsSame, ShowsFirst}
 use Rattle.journal_views.specs.JournalViews.{FindRoom}

@@ -20,7 +20,7 @@ use Rattle.lane_carriage.specs.Readers.{fate_of}
 use Rattle.lane_rest.specs.Rest.{IsAtRest}
 use Rattle.lane_states.specs.declared.lane_state.LaneState.{LaneState}
 use Rattle.lane_keeping.specs.Tidings.{is_older, heard_next, last_state}
-use Rattle.lane_states.specs.LaneStates.{journal_of, part_of, IsCarriedBy, IsResting, AreResting, IsSetUp}
+use Rattle.lane_states.specs.LaneStates.{journal_of, part_of, IsCarriedBy, GivesOn, IsResting, AreResting, IsSetUp}
 use Rattle.lane_states.specs.Written.{writes_entry, AddsNoEntry}
 use Rattle.lane_lines.proofs.Entries.{adds-none, adds-one, finds-grown}
 use Rattle.upkeep_spans.specs.Spans.{IsUpkeepEvent, AreUpkeep, Nothing, More, OfUpkeep, later}
@@ -142,13 +142,15 @@ between-work x o given w idle carried there acting = record {
 pub maintains-by : (x h y : Work) (o : Owner) (given now : List Fate) → last_state (journal_of x.state) ≡ Some o.state → IsOwner x.state.lane o.state o.distributor
     → ((g p : List Fate) (t : Bool) → value_of h g p t ≡ record (value_of x g p t) { journal = heard_next o.distributor (Some o.state) (journal_of x.state) })
     → journal_of h.state ≡ heard_next o.distributor (Some o.state) (journal_of x.state)
-    → y ≡ record h { state = y.state } → PassesOn h.state y.state o → MaintainsBy x y given now
-maintains-by x h y o given now newest owner heard grows after on = λ planned takes. record {
+    → y ≡ record h { state = y.state } → PassesOn h.state y.state o → GivesOn given now → MaintainsBy x y given now
+maintains-by x h y o given now newest owner heard grows after on gives = λ planned takes. record {
   state = o.state;
   newest = newest;
   owner = o.distributor;
   owns = owner;
   pass = subst (λ (J : List LaneEvent). AreUpkeep o.distributor (o.state).version J (journal_of y.state)) grows on.grows;
+  fates = gives.0;
+  gives = gives.1;
   after = value-after planned takes ∙ ap (λ (v : LaneValue). record v { journal = journal_of y.state; given = now }) (heard given planned takes);
 }
   where

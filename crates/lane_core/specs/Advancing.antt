@@ -17,6 +17,7 @@ use Rattle.lane_lives.specs.declared.progress.Progress.TheVariants.{Begun, Runs,
 use Rattle.lane_lives.specs.declared.answers.Advance.{Advance}
 use Rattle.lane_lives.specs.declared.answers.Advance.TheVariants as advance
 use Rattle.messages.specs.declared.outcome.Outcome.{Outcome}
+use Rattle.lane_states.specs.LaneStates.{GivesOn}
 use Rattle.lane_lines.specs.Steps.{GivesOne, GivesFew}
 use Rattle.operation_keeping.specs.Wants.{Adds, WantsSince, IsRunSince, IsCutRunSince, IsEndSince}
 
@@ -42,6 +43,7 @@ pub record WentOn (at : ℕ) (u : UnderWay) (progress : Progress) (old new : Lan
   pub left : ℕ
   pub fewer : left < u.left
   pub after : new ≡ with_run old new.journal new.given at (under_way_of u.line u.operation u.distributor progress left)
+  pub gives : GivesOn old.given new.given
   -- one message at most is sent for what is prepared
   pub few : u.progress ≡ Runs → GivesFew old.given new.given
   pub run : IsRunSince old.lane old.rules u.line u.operation (history old.journal) old.journal new.journal
@@ -50,6 +52,7 @@ pub record WentOn (at : ℕ) (u : UnderWay) (progress : Progress) (old new : Lan
 pub record WasCut (at : ℕ) (u : UnderWay) (old new : LaneValue) : Type 0 where
   pub left : ℕ
   pub after : new ≡ with_run old new.journal new.given at (under_way_of u.line u.operation u.distributor Short left)
+  pub gives : GivesOn old.given new.given
   pub few : u.progress ≡ Runs → GivesFew old.given new.given
   pub run : IsCutRunSince old.lane old.rules u.line u.operation (history old.journal) old.journal new.journal
 

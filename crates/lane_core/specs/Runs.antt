@@ -5,6 +5,7 @@ use Rattle.messages.specs.declared.outcome.Outcome.{Outcome}
 use Rattle.lane_journals.specs.declared.event.LaneEvent.{LaneEvent}
 use Rattle.lane_journals.specs.declared.event.LaneEvent.TheVariants.{Closed}
 use Rattle.lane_lives.specs.LaneValues.{LaneValue, IsLaneValue, under_way_of}
+use Rattle.lane_states.specs.LaneStates.{GivesOn}
 use Rattle.messages.specs.declared.outcome.Outcome.TheVariants.{NoMemory}
 use Rattle.lane_journals.specs.Readers.{prepared}
 use Rattle.lane_journals.specs.Meanings.{history}
@@ -19,6 +20,7 @@ pub record Finishes (u : UnderWay) (old new : LaneValue) (outcome : Outcome) : T
   pub runs : (IsRunSince old.lane old.rules u.line u.operation (history old.journal) old.journal run × IsEndSince old.lane old.rules u.line u.operation (history old.journal) run outcome)
       ⊎ (IsCutRunSince old.lane old.rules u.line u.operation (history old.journal) old.journal run × (outcome ≡ NoMemory))
   pub after : new ≡ record old { journal = Closed u.line outcome ∷ run; given = new.given; under_way = [] }
+  pub gives : GivesOn old.given new.given
 
 -- the line's operation was begun, and is alone under way
 pub record IsAlone (line : ℕ) (v : LaneValue) (u : UnderWay) : Type 0 where
@@ -36,6 +38,7 @@ IsFinish line old new outcome = (u : UnderWay) × IsAlone line old u × Finishes
 pub record GoesOn (u : UnderWay) (old new : LaneValue) : Type 0 where
   pub left : ℕ
   pub after : new ≡ record old { journal = new.journal; given = new.given; under_way = under_way_of u.line u.operation u.distributor Runs left ∷ [] }
+  pub gives : GivesOn old.given new.given
   pub run : IsRunSince old.lane old.rules u.line u.operation (history old.journal) old.journal new.journal
   pub prepared_is : IsSome (prepared u.line (history new.journal))
 
@@ -58,5 +61,6 @@ pub record IsLineRun (line : FeedLine) (old new : LaneValue) (outcome : Outcome)
   pub outcome_is : outcome_in line.number new.journal ≡ Some outcome
   -- nothing else changed
   pub after : new ≡ record old { journal = new.journal; given = new.given }
+  pub gives : GivesOn old.given new.given
   -- its journal is legal, and each message had the events of its fate
   pub holds : IsLaneValue new

@@ -14,7 +14,7 @@ use Rattle.lane_lives.specs.declared.progress.UnderWay.{UnderWay}
 use Rattle.lane_lines.specs.declared.readying.Shortage.{Shortage}
 use Rattle.lane_core.specs.declared.work.Work.{Work}
 use Rattle.lane_states.specs.LaneStates.{journal_of, part_of}
-use Rattle.lane_rounds.specs.FreeRows.{IsRowFree}
+use Rattle.lane_states.specs.FreeRows.{IsRowFree}
 use Rattle.lane_lives.specs.LaneValues.{LaneValue}
 use Rattle.lane_core.specs.Advancing.{IsHindered, IsFree, WentOn, AdvancesAt}
 use Rattle.lane_core.specs.Works.{value_of, under_way_at, OfValues, OfJob}

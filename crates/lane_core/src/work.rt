@@ -1,7 +1,7 @@
 ghost use Rattle.std.specs.Prelude.{◌≡◌, Some, ◌<◌, ◌≤◌, ◌+◌, [], ◌∷◌, ◌++◌, ℕ, Bool, true, false, IsSome, IfSome, IfNone, IfOk, OnOk, OnErr, List, length, vec_len, vec_capacity};
 ghost use Rattle.lane_lives.specs.LaneValues.{Closes, IsHearing, new_value};
 ghost use Rattle.lane_core.specs.Works.{IsWork, OfValues, OfNoJob, OfFirstJob, IsToClosePhase, HasJobToClose, IsEndedBy, value_of, SameValue, SameHanded};
-ghost use Rattle.lane_states.specs.LaneStates.{StaysCarried, journal_of, handed_of, IsCarriedBy, HasRoom, IsSetUp};
+ghost use Rattle.lane_states.specs.LaneStates.{StaysCarried, journal_of, handed_of, IsCarriedBy, GivesOn, HasRoom, IsSetUp};
 ghost use Rattle.lane_states.specs.Told.{ShowsOn};
 ghost use Rattle.lane_changes.specs.Changes.{changes_of};
 ghost use Rattle.shelves.specs.Shelves.{Holds};
@@ -452,6 +452,7 @@ impl Work {
         ensures carried { IsCarriedBy self.new.state (C.given carrier.new) }
         ensures planned { C.planned carrier.new ≡ C.planned carrier.old }
         ensures kind { C.takes_plans carrier.new ≡ C.takes_plans carrier.old }
+        ensures gives { GivesOn (C.given carrier.old) (C.given carrier.new) }
         ensures on { PassesOn self.old.state self.new.state owner.now }
         ensures opened { OnOk result (AreReturned self.old.state self.new.state → HasOpened self.new.state owner.now) }
         ensures run { OnOk result (AreReturned self.old.state self.new.state → HaveRun self.new.state owner.now) }

@@ -15,8 +15,8 @@ use Rattle.messages.specs.declared.reply.Reply.{Reply}
 use Rattle.messages.specs.declared.reply.Reply.TheVariants as reply
 use Rattle.messages.specs.Noting.{noted_reply}
 use Rattle.entry_maps.specs.Stamps.{stamps_of}
-use Rattle.service_layer.specs.Nodes.{Node, new_node, adopt, stored}
-use Rattle.service_layer.specs.Takes.{Takes, Treats}
+use Rattle.node_model.specs.Nodes.{Node, new_node, adopt, stored}
+use Rattle.node_model.specs.Takes.{Takes, Treats}
 use Rattle.distributor_part.specs.declared.rules.Rules.{Rules}
 use Rattle.distributor_part.specs.declared.stage.Stage.{Stage}
 use Rattle.node_sets.specs.Members.{has_node}

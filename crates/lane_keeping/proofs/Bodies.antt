@@ -10,7 +10,7 @@ use Rattle.pieces.specs.declared.piece.Piece.{Piece}
 use Rattle.pieces.specs.Pieces.{has_key_of, does_meet, renewed, ready_at, split_at, join_at, apply_at, without}
 use Rattle.messages.specs.declared.body.Body.{Body}
 use Rattle.messages.specs.declared.body.Body.TheVariants as body
-use Rattle.service_layer.specs.Nodes.{Node, adopt, after_body}
+use Rattle.node_model.specs.Nodes.{Node, adopt, after_body}
 use Rattle.lane_keeping.specs.NodeKeeping.{activated_regions}
 use Rattle.lane_keeping.specs.Flights.{meant}
 

@@ -12,7 +12,7 @@ use Rattle.messages.specs.declared.outcome.Outcome.TheVariants.{Acked}
 use Rattle.messages.specs.declared.decision.Decision.{Decision}
 use Rattle.messages.specs.declared.decision.Decision.TheVariants as choice
 use Rattle.messages.specs.Noting.{noted_reply}
-use Rattle.service_layer.specs.Nodes.{Node}
+use Rattle.node_model.specs.Nodes.{Node}
 use Rattle.distributor_part.specs.declared.rules.Rules.{Rules}
 use Rattle.distributor_part.specs.Parts.{Part}
 use Rattle.lane_journals.specs.Events as plain

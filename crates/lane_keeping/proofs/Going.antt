@@ -2,8 +2,8 @@
 use Rattle.std.proofs.Common.{◌≡◌, ◌++◌, ℕ, List, [], ◌∷◌, refl, sym, ap, ◌∙◌, subst}
 use Rattle.std.proofs.lemmas.List.{append_assoc}
 use Rattle.messages.specs.declared.noted.NotedReply.{NotedReply}
-use Rattle.service_layer.specs.Nodes.{Node}
-use Rattle.service_layer.specs.Takes.{Takes}
+use Rattle.node_model.specs.Nodes.{Node}
+use Rattle.node_model.specs.Takes.{Takes}
 use Rattle.lane_journals.specs.declared.event.LaneEvent.{LaneEvent}
 use Rattle.lane_journals.specs.declared.event.LaneEvent.TheVariants.{Delivered}
 use Rattle.lane_keeping.specs.Replaying.{IsNoDelivery}

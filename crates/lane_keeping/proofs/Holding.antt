@@ -2,7 +2,7 @@
 use Rattle.std.proofs.Common.{◌≡◌, ◌↔◌, ◌||◌, ◌+◌, ◌≤◌, ℕ, true, length, arith, Option, List, [], ◌∷◌, refl, sym, ap, ap₂, ◌∙◌, subst}
 use Rattle.std.specs.List.{list_any}
 use Rattle.bucket_ids.specs.Buckets.{has_key}
-use Rattle.service_layer.specs.Nodes.{Node}
+use Rattle.node_model.specs.Nodes.{Node}
 use Rattle.lane_journals.specs.Buckets.{Bucket}
 use Rattle.lane_journals.specs.Events.{Reply}
 use Rattle.lane_journals.specs.Readers.{Message, sent}

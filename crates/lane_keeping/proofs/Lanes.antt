@@ -5,8 +5,8 @@ use Rattle.pieces.specs.Runs.{AreRuns}
 use Rattle.messages.specs.declared.message.Message.{Message}
 use Rattle.messages.specs.declared.reply.Reply.{Reply}
 use Rattle.messages.specs.Noting.{noted_reply}
-use Rattle.service_layer.specs.Nodes.{Node, new_node}
-use Rattle.service_layer.specs.Takes.{Takes}
+use Rattle.node_model.specs.Nodes.{Node, new_node}
+use Rattle.node_model.specs.Takes.{Takes}
 use Rattle.lane_journals.specs.Readers.{stopped}
 use Rattle.lane_journals.specs.Meanings.{history}
 use Rattle.lane_journals.specs.Places.{Setting}

@@ -9,7 +9,7 @@ use Rattle.bucket_db.specs.Changes.{at_row}
 use Rattle.bucket_db.specs.declared.row.Row.{Row}
 use Rattle.messages.specs.declared.outcome.Outcome.TheVariants.{Acked}
 use Rattle.messages.specs.declared.decision.Decision.TheVariants.{RoundEnded}
-use Rattle.service_layer.specs.Nodes.{Node}
+use Rattle.node_model.specs.Nodes.{Node}
 use Rattle.distributor_part.specs.declared.rules.Rules.{Rules}
 use Rattle.distributor_part.specs.declared.stage.Stage.{Stage}
 use Rattle.distributor_part.specs.declared.stage.Stage.TheVariants.{Ended}

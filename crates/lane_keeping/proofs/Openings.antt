@@ -10,7 +10,7 @@ use Rattle.pieces.specs.declared.piece.Piece.{Piece}
 use Rattle.node_sets.proofs.Bits.{has_none}
 use Rattle.bucket_db.specs.Rows.{Rows, buckets_of}
 use Rattle.bucket_db.specs.Answers.{new_row}
-use Rattle.service_layer.specs.Nodes.{Node}
+use Rattle.node_model.specs.Nodes.{Node}
 use Rattle.distributor_part.specs.declared.rules.Rules.{Rules}
 use Rattle.distributor_part.specs.Parts.{Part, rows_of}
 use Rattle.distributor_part.specs.Steps.{HasRows, buckets_shown}

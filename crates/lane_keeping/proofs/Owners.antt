@@ -7,7 +7,7 @@ use Rattle.cluster_states.specs.Publishing.{serves}
 use Rattle.ideal_nodes.specs.Placement.{IsOwner}
 use Rattle.bucket_db.specs.Rows.{Rows, buckets_of}
 use Rattle.bucket_db.specs.declared.row.Row.{Row}
-use Rattle.service_layer.specs.Nodes.{Node}
+use Rattle.node_model.specs.Nodes.{Node}
 use Rattle.distributor_part.specs.declared.rules.Rules.{Rules}
 use Rattle.distributor_part.specs.Parts.{Part, rows_of}
 use Rattle.distributor_part.specs.Steps as steps

@@ -20,8 +20,8 @@ use Rattle.pieces.specs.Runs.{AreRuns}
 use Rattle.pieces.specs.Told.{Told, Accepted, NoBucket, Differs, where_some}
 use Rattle.messages.specs.declared.body.Body.{Body}
 use Rattle.messages.specs.declared.body.Body.TheVariants as body
-use Rattle.service_layer.specs.Nodes.{Node, only_entry}
-use Rattle.service_layer.specs.Takes.{told, shown_entries, shown_pieces}
+use Rattle.node_model.specs.Nodes.{Node, only_entry}
+use Rattle.node_model.specs.Takes.{told, shown_entries, shown_pieces}
 use Rattle.lane_journals.specs.Stamps.{Stamp}
 use Rattle.lane_journals.specs.Buckets as words
 use Rattle.lane_journals.specs.Buckets.{Bucket, Id, key_of}

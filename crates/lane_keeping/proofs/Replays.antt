@@ -16,8 +16,8 @@ use Rattle.messages.specs.declared.body.Body.TheVariants as body
 use Rattle.messages.specs.declared.noted.NotedReply.{NotedReply}
 use Rattle.messages.specs.declared.noted.NotedReply.TheVariants as noted
 use Rattle.replica_store.specs.Replicas.{Replica, IsReplica}
-use Rattle.service_layer.specs.Nodes.{Node, new_node, adopt, after_body, stored}
-use Rattle.service_layer.specs.Takes.{told, shown_pieces, IsInside}
+use Rattle.node_model.specs.Nodes.{Node, new_node, adopt, after_body, stored}
+use Rattle.node_model.specs.Takes.{told, shown_pieces, IsInside}
 use Rattle.lane_journals.specs.Stamps.{Stamp}
 use Rattle.lane_journals.specs.Buckets.{Bucket, Id}
 use Rattle.lane_journals.specs.Events as plain

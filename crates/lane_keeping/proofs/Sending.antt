@@ -17,8 +17,8 @@ use Rattle.messages.specs.declared.reply.Reply.{Reply}
 use Rattle.messages.specs.declared.reply.Reply.TheVariants as reply
 use Rattle.messages.specs.Noting.{noted_body}
 use Rattle.replica_store.specs.Replicas.{LieIn}
-use Rattle.service_layer.specs.Nodes.{Node, adopt}
-use Rattle.service_layer.specs.Takes.{Treats, shown_entries}
+use Rattle.node_model.specs.Nodes.{Node, adopt}
+use Rattle.node_model.specs.Takes.{Treats, shown_entries}
 use Rattle.lane_journals.specs.Stamps.{Stamp, newer}
 use Rattle.lane_journals.specs.Buckets.{Bucket, Id}
 use Rattle.lane_journals.specs.Legal.{MaySend}

@@ -15,7 +15,7 @@ use Rattle.pieces.proofs.Laid.{none_past}
 use Rattle.pieces.specs.Told.{Accepted}
 use Rattle.messages.specs.declared.body.Body.{Body as Message}
 use Rattle.messages.specs.declared.body.Body.TheVariants as message
-use Rattle.service_layer.specs.Takes.{told}
+use Rattle.node_model.specs.Takes.{told}
 use Rattle.global_ids.specs.Keys.{key_of}
 use Rattle.lane_journals.specs.Buckets.{Bucket, contains, same_bucket, covers, meets, first_child}
 use Rattle.lane_journals.specs.Events.{Body, Ask, Read, ReadDoc, Store, Apply, Delete, Split, Join, Ready, Activate}

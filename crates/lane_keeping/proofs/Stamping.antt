@@ -19,7 +19,7 @@ use Rattle.entry_maps.proofs.JoinLaws.{get-joined}
 use Rattle.replica_store.specs.Replicas.{LieIn}
 use Rattle.messages.specs.declared.body.Body.{Body}
 use Rattle.messages.specs.declared.body.Body.TheVariants as body
-use Rattle.service_layer.specs.Takes.{IsInside}
+use Rattle.node_model.specs.Takes.{IsInside}
 use Rattle.lane_journals.specs.Stamps.{Stamp, newer, is_older}
 use Rattle.lane_journals.specs.Buckets.{Bucket, Id, same_id, contains, key_of}
 use Rattle.lane_journals.specs.Readers.{after_body}

@@ -22,7 +22,7 @@ use Rattle.pieces.proofs.KeptLaws.{kept-renewed, kept-apply, kept-split, kept-jo
 use Rattle.pieces.proofs.KeyLaws.{holds-delete}
 use Rattle.messages.specs.declared.body.Body.{Body}
 use Rattle.messages.specs.declared.body.Body.TheVariants as body
-use Rattle.service_layer.specs.Takes.{told}
+use Rattle.node_model.specs.Takes.{told}
 use Rattle.lane_journals.specs.Buckets as words
 use Rattle.lane_journals.specs.Buckets.{Bucket}
 use Rattle.lane_journals.specs.Events as plain

@@ -11,8 +11,8 @@ use Rattle.messages.specs.declared.noted.NotedReply.{NotedReply}
 use Rattle.messages.specs.declared.noted.NotedReply.TheVariants as noted
 use Rattle.messages.specs.Noting.{noted_reply}
 use Rattle.replica_store.specs.Replicas.{IsReplica}
-use Rattle.service_layer.specs.Nodes.{Node, adopt, stored}
-use Rattle.service_layer.specs.Takes.{Treats, told, shown_entries, shown_pieces}
+use Rattle.node_model.specs.Nodes.{Node, adopt, stored}
+use Rattle.node_model.specs.Takes.{Treats, told, shown_entries, shown_pieces}
 use Rattle.lane_journals.specs.Readers as readers
 use Rattle.lane_journals.specs.Readers.{sent, stopped, version}
 use Rattle.lane_journals.specs.Legal.{Replies}

@@ -17,8 +17,8 @@ use Rattle.messages.specs.declared.reply.Reply.TheVariants as reply
 use Rattle.messages.specs.declared.message.Message.{Message}
 use Rattle.replica_store.specs.Replicas.{Replica, IsReplica}
 use Rattle.replica_store.proofs.HeldEntries.{AreHeld-store, AreHeld-more, AreHeld-join, AreHeld-delete}
-use Rattle.service_layer.specs.Nodes.{Node, adopt, after_body, stored}
-use Rattle.service_layer.specs.Takes.{Takes, Treats, told}
+use Rattle.node_model.specs.Nodes.{Node, adopt, after_body, stored}
+use Rattle.node_model.specs.Takes.{Takes, Treats, told}
 use Rattle.std.proofs.lemmas.Bool.{cases_lt}
 use Rattle.lane_keeping.specs.Flights.{IsWhole}
 use Rattle.lane_keeping.proofs.Words.{or-last}

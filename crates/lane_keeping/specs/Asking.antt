@@ -9,8 +9,8 @@ use Rattle.messages.specs.declared.message.Message.{Message}
 use Rattle.messages.specs.declared.body.Body.TheVariants as body
 use Rattle.messages.specs.declared.reply.Reply.{Reply}
 use Rattle.messages.specs.declared.reply.Reply.TheVariants as reply
-use Rattle.service_layer.specs.Nodes.{Node}
-use Rattle.service_layer.specs.Takes.{Takes}
+use Rattle.node_model.specs.Nodes.{Node}
+use Rattle.node_model.specs.Takes.{Takes}
 use Rattle.distributor_part.specs.declared.rules.Rules.{Rules}
 use Rattle.distributor_part.specs.Parts.{Part}
 use Rattle.distributor_part.specs.Steps.{buckets_shown}

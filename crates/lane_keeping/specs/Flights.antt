@@ -9,7 +9,7 @@ use Rattle.messages.specs.declared.message.Message.{Message}
 use Rattle.messages.specs.declared.reply.Reply.{Reply}
 use Rattle.messages.specs.declared.reply.Reply.TheVariants as reply
 use Rattle.replica_store.specs.Replicas.{LieIn}
-use Rattle.service_layer.specs.Takes.{IsInside}
+use Rattle.node_model.specs.Takes.{IsInside}
 use Rattle.lane_journals.specs.Buckets.{key_of}
 use Rattle.lane_journals.specs.Naming.{exact_bucket}
 use Rattle.lane_journals.specs.Stamps.{Stamp}

@@ -11,7 +11,7 @@ use Rattle.bucket_db.specs.declared.row.Deleting.{Deleting}
 use Rattle.bucket_db.specs.Rows.{buckets_of}
 use Rattle.distributor_part.specs.declared.rules.Rules.{Rules}
 use Rattle.distributor_part.specs.Parts.{Part, new_part, rows_of}
-use Rattle.service_layer.specs.Nodes.{Node, new_node}
+use Rattle.node_model.specs.Nodes.{Node, new_node}
 use Rattle.lane_journals.specs.Buckets.{contains}
 use Rattle.lane_journals.specs.Readers as readers
 use Rattle.lane_journals.specs.Readers.{Message, Given, Beginning, sent, published, held, asked, opened}

@@ -9,7 +9,7 @@ use Rattle.pieces.specs.declared.piece.Piece.{Piece}
 use Rattle.pieces.specs.Pieces.{is_piece}
 use Rattle.replica_store.specs.Replicas.{IsReplica}
 use Rattle.view_changes.specs.Shown.{with_region}
-use Rattle.service_layer.specs.Nodes.{Node, stored}
+use Rattle.node_model.specs.Nodes.{Node, stored}
 use Rattle.lane_journals.specs.Stamps.{Stamp}
 use Rattle.lane_journals.specs.Buckets.{Bucket, Id}
 use Rattle.lane_journals.specs.Events.{Body, Activate, Reply, Answer, Delivered}

@@ -7,7 +7,7 @@ use Rattle.bucket_db.specs.Rows.{AreRows, buckets_of}
 use Rattle.bucket_db.specs.declared.row.Row.{Row}
 use Rattle.distributor_part.specs.declared.rules.Rules.{Rules}
 use Rattle.distributor_part.specs.Parts.{Part, rows_of}
-use Rattle.service_layer.specs.Nodes.{Node, new_node}
+use Rattle.node_model.specs.Nodes.{Node, new_node}
 use Rattle.lane_journals.specs.Buckets.{Id}
 use Rattle.lane_journals.specs.Readers.{store}
 use Rattle.lane_journals.specs.Meanings.{history}

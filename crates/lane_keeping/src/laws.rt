@@ -13,7 +13,7 @@ ghost use Rattle.messages.specs.declared.reply.Reply.{Reply};
 ghost use Rattle.messages.specs.declared.body.Body.TheVariants as body;
 ghost use Rattle.messages.specs.declared.decision.Decision.TheVariants.{RoundEnded};
 ghost use Rattle.messages.specs.declared.outcome.Outcome.TheVariants.{Acked};
-ghost use Rattle.service_layer.specs.Nodes.{Node};
+ghost use Rattle.node_model.specs.Nodes.{Node};
 ghost use Rattle.distributor_part.specs.declared.rules.Rules.{Rules};
 ghost use Rattle.distributor_part.specs.declared.stage.Stage.{Stage};
 ghost use Rattle.distributor_part.specs.Parts.{Part, new_part};

@@ -2,7 +2,7 @@
 
 ghost use Rattle.std.specs.Prelude.{◌≡◌, ℕ, List, ◌∷◌};
 ghost use Rattle.messages.specs.declared.noted.NotedReply.{NotedReply};
-ghost use Rattle.service_layer.specs.Nodes.{Node};
+ghost use Rattle.node_model.specs.Nodes.{Node};
 ghost use Rattle.lane_journals.specs.declared.event.LaneEvent.{LaneEvent};
 ghost use Rattle.lane_journals.specs.declared.event.LaneEvent.TheVariants.{Delivered};
 ghost use Rattle.lane_keeping.specs.Replaying.{IsNoDelivery};

@@ -5,7 +5,7 @@ use Rattle.documents.specs.declared.entry.Entry.{Entry}
 use Rattle.messages.specs.Noting.{message_of}
 use Rattle.messages.specs.declared.body.Body.TheVariants.{Store}
 use Rattle.messages.specs.declared.message.Message.{Message}
-use Rattle.service_layer.specs.Takes.{IsKeyOf}
+use Rattle.node_model.specs.Takes.{IsKeyOf}
 use Rattle.op_machine.specs.declared.machine.Standing.{Standing}
 use Rattle.op_machine.specs.declared.plan.Plan.{Plan}
 use Rattle.op_machine.specs.declared.verdict.Verdict.{Verdict}

@@ -11,7 +11,7 @@ use Rattle.lane_keeping.specs.Asking.{OthersStay}
 use Rattle.lane_journals.specs.Readers.{Journal}
 use Rattle.lane_journals.specs.Facts.{Idle}
 use Rattle.lane_journals.specs.Meanings.{history}
-use Rattle.lane_rounds.specs.FreeRows.{IsRowFree}
+use Rattle.lane_states.specs.FreeRows.{IsRowFree}
 use Rattle.operation_keeping.specs.Wants.{IsRunSince, IsCutRunSince}
 use Rattle.lane_states.specs.declared.lane_state.LaneState.{LaneState}
 use Rattle.lane_states.specs.LaneStates.{journal_of, part_of}

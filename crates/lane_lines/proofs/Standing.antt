@@ -10,7 +10,7 @@ use Rattle.distributor_part.specs.declared.rules.Rules.{Rules}
 use Rattle.op_machine.specs.declared.plan.Plan.{Plan}
 use Rattle.op_machine.specs.declared.machine.Standing.{Standing}
 use Rattle.op_machine.specs.Standings.{IsAnswered}
-use Rattle.service_layer.specs.Nodes.{Node}
+use Rattle.node_model.specs.Nodes.{Node}
 use Rattle.lane_journals.specs.Readers.{stopped}
 use Rattle.lane_journals.specs.Meanings.{history}
 use Rattle.lane_journals.specs.KeptJournals.{IsLegal}

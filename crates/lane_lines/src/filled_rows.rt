@@ -1,8 +1,8 @@
 ghost use Rattle.std.specs.Prelude.{◌≡◌, ◌<◌, Some, IsSome, IfOk, OnErr, vec_len};
 ghost use Rattle.cluster_states.specs.declared.cluster_state.ClusterState.{ClusterState};
-ghost use Rattle.lane_rounds.specs.FreeRows.{IsRowFree};
+ghost use Rattle.lane_states.specs.FreeRows.{IsRowFree};
 ghost use Rattle.lane_keeping.specs.Asking.{OthersStay};
-ghost use Rattle.lane_states.specs.LaneStates.{journal_of, IsKept, HasRoom, part_of, IsResting, IsCarriedBy, IsSetUp};
+ghost use Rattle.lane_states.specs.LaneStates.{journal_of, IsKept, HasRoom, part_of, IsResting, IsCarriedBy, GivesOn, IsSetUp};
 ghost use Rattle.round_keeping.specs.RoundRuns.{NoneRuns};
 ghost use Rattle.lane_lines.specs.Steps.{IsUneventful};
 ghost use Rattle.lane_states.specs.Written.{AddsNoEntry};
@@ -80,6 +80,7 @@ pub fn fill_row<C: Carrier>(
     ensures carried { IsCarriedBy lane.new (C.given carrier.new) }
     ensures planned { C.planned carrier.new ≡ C.planned carrier.old }
     ensures kind { C.takes_plans carrier.new ≡ C.takes_plans carrier.old }
+    ensures gives { GivesOn (C.given carrier.old) (C.given carrier.new) }
     ensures goes_on { IfOk result (λ end. OfSearches lane.old distributor key (λ from line o s stamp.
         GoesOnWith from lane.old lane.new line o distributor s stamp)) }
     ensures finds { IfOk result (λ end. OfSearches lane.old distributor key (λ from line o s stamp.

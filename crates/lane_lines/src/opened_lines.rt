@@ -1,7 +1,7 @@
 ghost use Rattle.std.specs.Prelude.{◌≡◌, ◌<◌, None, IfOk, OnErr, vec_len};
 ghost use Rattle.node_sets.specs.Members.{has_node};
 ghost use Rattle.lane_keeping.specs.Asking.{OthersStay};
-ghost use Rattle.lane_states.specs.LaneStates.{journal_of, IsKept, HasRoom, part_of, IsResting, IsCarriedBy};
+ghost use Rattle.lane_states.specs.LaneStates.{journal_of, IsKept, HasRoom, part_of, IsResting, IsCarriedBy, GivesOn};
 ghost use Rattle.round_keeping.specs.RoundRuns.{NoneRuns};
 ghost use Rattle.lane_lines.specs.Steps.{IsUneventful};
 ghost use Rattle.lane_states.specs.Written.{AddsNoEntry};
@@ -65,6 +65,7 @@ pub fn open_for_line<C: Carrier>(
     ensures carried { IsCarriedBy lane.new (C.given carrier.new) }
     ensures planned { C.planned carrier.new ≡ C.planned carrier.old }
     ensures kind { C.takes_plans carrier.new ≡ C.takes_plans carrier.old }
+    ensures gives { GivesOn (C.given carrier.old) (C.given carrier.new) }
     ensures goes_on { IfOk result (λ end. OfUnprepared lane.old distributor key (λ line o s stamp.
         GoesOnWith (search_from lane.old) lane.old lane.new line o distributor s stamp)) }
     ensures opens { IfOk result (λ end. OfUnprepared lane.old distributor key (λ line o s stamp.

@@ -1,6 +1,6 @@
 ghost use Rattle.std.specs.Prelude.{◌≡◌, ◌∷◌, true, false, None, OnOk, OnErr, IfOk};
 ghost use Rattle.global_ids.specs.Keys.{key_of};
-ghost use Rattle.service_layer.specs.Takes.{IsKeyOf};
+ghost use Rattle.node_model.specs.Takes.{IsKeyOf};
 ghost use Rattle.op_machine.specs.Outcomes.{Asks, message_in};
 ghost use Rattle.op_machine.specs.Standings.{next_at};
 ghost use Rattle.lane_journals.specs.KeptJournals.{IsLegalStep};

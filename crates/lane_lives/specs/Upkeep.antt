@@ -48,8 +48,9 @@ pub record IsSpan (span : UpkeepSpan) (old new : LaneValue) : Type 0 where
 
 -- ---- in the whole journal
 
--- the span of an upkeep stands behind all that these earlier deeds made, and before all that came later
-pub record SpanStands (s : Setting) (lane : Low) (deeds : List Deed) (J : List LaneEvent) (span : UpkeepSpan) : Type 0 where
+-- the span of an upkeep stands behind all that these earlier deeds made, and before all that came later, in a journal to
+-- whose messages the carrier gave these fates
+pub record SpanStands (s : Setting) (lane : Low) (deeds : List Deed) (given : List Fate) (J : List LaneEvent) (span : UpkeepSpan) : Type 0 where
   -- the journal as upkeep was asked for, and as it was made
   pub before : List LaneEvent
   pub after : List LaneEvent
@@ -60,14 +61,16 @@ pub record SpanStands (s : Setting) (lane : Low) (deeds : List Deed) (J : List L
   -- what came later
   pub later : List LaneEvent
   pub whole : J ≡ later ++ after
-  -- its answer is what its events tell, by the fates of the messages until then; these can differ from those that the
-  -- carrier gave only in what no event shows
+  -- the carrier gave some fates before the pass, some in it, and others later, one for each message
   pub earlier : List Fate
   pub fates : List Fate
+  pub others : List Fate
+  pub all_given : given ≡ (earlier ++ fates) ++ others
   pub carried_before : IsCarried earlier before
-  pub carried : IsCarried fates after
-  pub cause : IsCause fates span.from after span.answer
-  pub rests : WasCalm before after earlier fates → span.answer ≡ Rested
+  pub carried : IsCarried (earlier ++ fates) after
+  -- its answer is what its events tell, by the fates that the carrier had given as it ended
+  pub cause : IsCause (earlier ++ fates) span.from after span.answer
+  pub rests : WasCalm before after earlier (earlier ++ fates) → span.answer ≡ Rested
   -- where that is Rested, each node that serves under the newest state ran, and the lane was at rest as the span ended
   pub run : span.answer ≡ Rested → HaveRun after
   pub at_rest : span.answer ≡ Rested → RestsIn s lane after

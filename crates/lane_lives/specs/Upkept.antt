@@ -1,5 +1,6 @@
 -- What an upkeep makes of a lane.
-use Rattle.std.specs.Prelude.{◌≡◌, ◌⊎◌, ℕ, true, false, List, [], length, Some, IfSome}
+use Rattle.std.specs.Prelude.{◌≡◌, ◌⊎◌, ℕ, true, false, List, [], ◌++◌, length, Some, IfSome}
+use Rattle.carriers.specs.declared.fate.Fate.{Fate}
 use Rattle.cluster_states.specs.Publishing.{serves}
 use Rattle.cluster_states.specs.declared.cluster_state.ClusterState.{ClusterState}
 use Rattle.ideal_nodes.specs.Placement.{IsOwner}
@@ -22,6 +23,9 @@ pub record Maintains (old new : LaneValue) : Type 0 where
   pub owner : ℕ
   pub owns : IsOwner old.lane state owner
   pub pass : AreUpkeep owner state.version (heard_next owner (Some state) old.journal) new.journal
+  -- the fates that the carrier gave meanwhile
+  pub fates : List Fate
+  pub gives : new.given ≡ old.given ++ fates
   pub after : new ≡ record old { journal = new.journal; given = new.given }
 
 -- the newest state is opened

@@ -15,6 +15,7 @@
 #![tactic(auto)]
 
 pub mod laws;
+pub mod line_turns;
 pub mod lines;
 pub mod names;
 pub mod slot;

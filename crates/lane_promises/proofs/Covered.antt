@@ -1,6 +1,7 @@
 -- What an upkeep that rested leaves covered stays covered while no state is announced and no node stops.
 use Rattle.std.proofs.Common.{◌≡◌, ◌==◌, ◌≤◌, ◌++◌, ℕ, Bool, true, false, cond, List, [], ◌∷◌, length, Some, refl, sym, ap, ◌∙◌, subst, arith, if◌then◌else◌}
 use Rattle.std.proofs.lemmas.List.{append_assoc}
+use Rattle.carriers.specs.declared.fate.Fate.{Fate}
 use Rattle.bucket_ids.specs.Buckets.{Low, has_key}
 use Rattle.lane_journals.specs.Events as plain
 use Rattle.lane_journals.specs.Facts.{InRegion}
@@ -110,9 +111,9 @@ module _ (s : Setting) (lane : Low) (more deeds : List Deed) (calm : AreCalm mor
 abbrev pub RestCovers : Type 0
 RestCovers = (s : Setting) (lane : Low) (J : List LaneEvent) → IsLegal (setting_of lane s.rules) J → RestsIn s lane J → HaveRun J → (key : ℕ) → has_key lane key ≡ true → IsCovered key J
 
-pub rested_covered : RestCovers → (s : Setting) (lane : Low) (more deeds : List Deed) (J K later : List LaneEvent) (span : UpkeepSpan) → IsLegal (setting_of lane s.rules) J → SpanStands s lane deeds J span → span.answer ≡ Rested → AreCalm more
+pub rested_covered : RestCovers → (s : Setting) (lane : Low) (more deeds : List Deed) (given : List Fate) (J K later : List LaneEvent) (span : UpkeepSpan) → IsLegal (setting_of lane s.rules) J → SpanStands s lane deeds given J span → span.answer ≡ Rested → AreCalm more
     → IsLife s lane (more ++ Maintains (Some span) ∷ deeds) K → J ≡ later ++ K → (key : ℕ) → has_key lane key ≡ true → IsCovered key K
-rested_covered covers s lane more deeds J K later span legal stands rested calm life whole key has =
+rested_covered covers s lane more deeds given J K later span legal stands rested calm life whole key has =
     let was = was_before K s lane more (Maintains (Some span) ∷ deeds) K life ([], refl) in
     let N = (was.grown).0 in
     let M = was.journal in

@@ -90,8 +90,9 @@ pub fn lines_fall_short_with_cause()
 /// Behind an upkeep that rested each key of the lane is covered, whatever was done since, while no state was announced
 /// and no node stopped.
 pub fn rested_lanes_stay_covered()
-    ensures { (s : Setting) (lane : Low) (more deeds : List Deed) (J K later : List LaneEvent) (span : UpkeepSpan)
-        → IsLegal (setting_of lane s.rules) J → SpanStands s lane deeds J span → span.answer ≡ Rested → AreCalm more
+    ensures { (s : Setting) (lane : Low) (more deeds : List Deed) (given : List Fate) (J K later : List LaneEvent)
+        (span : UpkeepSpan) → IsLegal (setting_of lane s.rules) J → SpanStands s lane deeds given J span
+        → span.answer ≡ Rested → AreCalm more
         → IsLife s lane (more ++ Maintains (Some span) ∷ deeds) K → J ≡ later ++ K
         → (key : ℕ) → has_key lane key ≡ true → IsCovered key K }
 {

@@ -9,7 +9,7 @@ use Rattle.messages.specs.Noting.{noted_reply}
 use Rattle.messages.specs.declared.message.Message.{Message}
 use Rattle.messages.specs.declared.reply.Reply.{Reply}
 use Rattle.node_sets.specs.Members.{has_node}
-use Rattle.service_layer.specs.Nodes.{Node}
+use Rattle.node_model.specs.Nodes.{Node}
 use Rattle.distributor_part.specs.Parts.{Part}
 use Rattle.distributor_part.specs.Steps as steps
 use Rattle.distributor_part.specs.Steps.{IsAfterAnswer}

@@ -13,7 +13,7 @@ use Rattle.lane_journals.specs.Facts.{Idle}
 use Rattle.lane_journals.specs.Meanings.{history}
 use Rattle.lane_journals.specs.declared.event.LaneEvent.{LaneEvent}
 use Rattle.lane_keeping.specs.Acting.{IsKnownRow}
-use Rattle.lane_rounds.specs.FreeRows.{IsRowFree}
+use Rattle.lane_states.specs.FreeRows.{IsRowFree}
 
 pub idle-begun : (J : List LaneEvent) (s : ClusterState) (rules : Rules) (p q : Part) (key : ℕ) (bucket : Low) (receivers : ℕ) → IsRowFree J s rules.acks key → p.rules ≡ rules → BeginsRound p q key bucket receivers
     → ((rows : Rows) (key at : ℕ) (row : Row) → p.rows ≡ Some rows → IsRowOf rows key at row → IsKnownRow s.version (history J) row) → ((rows : Rows) (key at : ℕ) (row : Row) → IsRowOf rows key at row → contains row.bucket key ≡ true)

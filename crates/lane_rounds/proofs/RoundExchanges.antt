@@ -6,7 +6,7 @@ use Rattle.carriers.specs.declared.fate.Fate.{Fate}
 use Rattle.messages.specs.Noting.{noted_reply}
 use Rattle.messages.specs.declared.message.Message.{Message}
 use Rattle.messages.specs.declared.reply.Reply.{Reply}
-use Rattle.service_layer.specs.Nodes.{Node}
+use Rattle.node_model.specs.Nodes.{Node}
 use Rattle.distributor_part.specs.declared.rules.Rules.{Rules}
 use Rattle.distributor_part.specs.Parts.{Part}
 use Rattle.merge_rounds.specs.Rounds.{RoundState, after_send, after_read, IsAfterApply}

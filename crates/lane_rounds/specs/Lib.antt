@@ -1,5 +1,4 @@
 -- `Openings` says how the owner's part opens its state, and what becomes of the journal meanwhile, and `RoundSteps` what a
--- round is told, `FreeRows` in which rows one may be run.
-pub mod FreeRows
+-- round is told.
 pub mod Openings
 pub mod RoundSteps

@@ -1,6 +1,6 @@
 ghost use Rattle.std.specs.Prelude.{◌≡◌, ℕ, ◌<◌, ◌+◌, ◌||◌, false, Some, OnOk, OnErr, IfOk, vec_len};
 ghost use Rattle.lane_keeping.specs.Asking.{OthersStay};
-ghost use Rattle.lane_states.specs.LaneStates.{journal_of, IsKept, HasRoom, part_of, Asks, IsCarriedBy, IsResting, Stays, Went, NodesOn};
+ghost use Rattle.lane_states.specs.LaneStates.{journal_of, IsKept, HasRoom, part_of, Asks, IsCarriedBy, GivesOn, IsResting, Stays, Went, NodesOn};
 ghost use Rattle.lane_states.specs.Growing.{HasHeard, IsSettled};
 ghost use Rattle.lane_rounds.specs.Openings.{came_short, IsOpening, IsNext, AsksOn, StopsAsking, EndsAsking, StopsAfter, GivesUp, EndsOpening, StopsOpening};
 ghost use Rattle.bucket_ids.specs.Buckets.{Low, IsIn};
@@ -83,6 +83,7 @@ fn ask<C: Carrier>(
     requires part { distributor < vec_len lane.old.parts }
     ensures planned { C.planned carrier.new ≡ C.planned carrier.old }
     ensures kind { C.takes_plans carrier.new ≡ C.takes_plans carrier.old }
+    ensures gives { GivesOn (C.given carrier.old) (C.given carrier.new) }
     ensures keeps { IsKept lane.new }
     ensures took { NodesOn lane.old lane.new }
     ensures spare { HasRoom 0 lane.new }
@@ -165,6 +166,7 @@ fn ask_next<C: Carrier>(
     requires key { IsIn lane.old.lane key }
     ensures planned { C.planned carrier.new ≡ C.planned carrier.old }
     ensures kind { C.takes_plans carrier.new ≡ C.takes_plans carrier.old }
+    ensures gives { GivesOn (C.given carrier.old) (C.given carrier.new) }
     ensures keeps { IsKept lane.new }
     ensures took { NodesOn lane.old lane.new }
     ensures spare { HasRoom 0 lane.new }
@@ -208,6 +210,7 @@ fn ask_all<C: Carrier>(
     requires key { IsIn lane.old.lane key }
     ensures planned { C.planned carrier.new ≡ C.planned carrier.old }
     ensures kind { C.takes_plans carrier.new ≡ C.takes_plans carrier.old }
+    ensures gives { GivesOn (C.given carrier.old) (C.given carrier.new) }
     ensures keeps { IsKept lane.new }
     ensures took { NodesOn lane.old lane.new }
     ensures spare { HasRoom 0 lane.new }
@@ -287,6 +290,7 @@ pub fn open_state<C: Carrier>(
     requires key { IsIn lane.old.lane key }
     ensures planned { C.planned carrier.new ≡ C.planned carrier.old }
     ensures kind { C.takes_plans carrier.new ≡ C.takes_plans carrier.old }
+    ensures gives { GivesOn (C.given carrier.old) (C.given carrier.new) }
     ensures keeps { IsKept lane.new }
     ensures took { NodesOn lane.old lane.new }
     ensures spare { HasRoom 0 lane.new }

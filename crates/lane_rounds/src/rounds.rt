@@ -16,7 +16,7 @@ ghost use Rattle.lane_keeping.specs.Asking.{OthersStay};
 ghost use Rattle.lane_states.specs.LaneStates.{journal_of, IsKept, HasRoom, part_of, IsCarriedBy, NodesOn};
 ghost use Rattle.round_keeping.specs.RoundRuns.{IsAfterReply, is_refusal, NoneRuns, IsRunning, IsCutOff, GoesOn, IsRunToldBy, left, IsRunBy, MayBegin, MayBeginAt, LowIsThere, IsNewRun, EndsEnough, Begins, RunsOn, EndsWith, IsStageOver, IsToldOver, EndsJob, EndsRun, are_missing, is_short, IsEnd, IsWholeRun, IsCutShort};
 ghost use Rattle.lane_states.specs.Growing.{IsSettled};
-ghost use Rattle.lane_rounds.specs.FreeRows.{IsRowFree};
+ghost use Rattle.lane_states.specs.FreeRows.{IsRowFree};
 ghost use Rattle.lane_rounds.specs.RoundSteps.{IsRunTold};
 ghost use Rattle.lane_states.specs.Shortages.{WhereItEnds, NoneIsShort, EndsAtOnce};
 ghost use Rattle.round_keeping.specs.RoundShortages.{wants_memory, HadMemory};

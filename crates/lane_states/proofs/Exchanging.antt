@@ -6,8 +6,8 @@ use Rattle.messages.specs.declared.message.Message.{Message}
 use Rattle.messages.specs.declared.noted.NotedReply.{NotedReply}
 use Rattle.messages.specs.declared.reply.Reply.{Reply}
 use Rattle.messages.specs.declared.late.Late.{Late}
-use Rattle.service_layer.specs.Nodes.{Node}
-use Rattle.service_layer.specs.Takes.{Takes}
+use Rattle.node_model.specs.Nodes.{Node}
+use Rattle.node_model.specs.Takes.{Takes}
 use Rattle.lane_journals.specs.Meanings.{entry_at}
 use Rattle.lane_journals.specs.KeptJournals.{IsLegalStep}
 use Rattle.lane_journals.specs.declared.event.LaneEvent.{LaneEvent}

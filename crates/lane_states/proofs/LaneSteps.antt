@@ -5,8 +5,8 @@ use Rattle.messages.specs.declared.message.Message.{Message}
 use Rattle.messages.specs.declared.body.Body.{Body}
 use Rattle.messages.specs.declared.body.Body.TheVariants as body
 use Rattle.messages.specs.declared.reply.Reply.{Reply}
-use Rattle.service_layer.specs.Nodes.{Node, new_node}
-use Rattle.service_layer.specs.Takes.{Takes, HasRoom}
+use Rattle.node_model.specs.Nodes.{Node, new_node}
+use Rattle.node_model.specs.Takes.{Takes, HasRoom}
 use Rattle.lane_journals.specs.KeptJournals.{past}
 use Rattle.lane_journals.specs.declared.event.LaneEvent.{LaneEvent}
 use Rattle.proof_basics.proofs.Lists.{set-own, set-other}

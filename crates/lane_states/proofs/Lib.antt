@@ -2,6 +2,7 @@
 pub mod Accepting
 pub mod Counts
 pub mod Exchanging
+pub mod Giving
 pub mod Going
 pub mod Hearings
 pub mod Kept

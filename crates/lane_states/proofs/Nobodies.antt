@@ -1,7 +1,7 @@
 -- What a node shows that isn't there.
 use Rattle.std.proofs.Common.{◌≡◌, Option, None, Some, sym, ap, ◌∙◌}
 use Rattle.std.specs.FinMap as fin
-use Rattle.service_layer.specs.Nodes.{Node, new_node}
+use Rattle.node_model.specs.Nodes.{Node, new_node}
 use Rattle.lane_keeping.specs.Shown.{node_or_new}
 
 nothing-held : fin.len new_node.entries ≡ 0

@@ -4,7 +4,7 @@ use Rattle.carriers.specs.declared.fate.Fate.{Fate}
 use Rattle.messages.specs.declared.message.Message.{Message}
 use Rattle.messages.specs.declared.noted.NotedReply.{NotedReply}
 use Rattle.messages.specs.declared.reply.Reply.{Reply}
-use Rattle.service_layer.specs.Nodes.{Node}
+use Rattle.node_model.specs.Nodes.{Node}
 use Rattle.distributor_part.specs.Parts.{Part}
 use Rattle.lane_journals.specs.Readers.{stopped}
 use Rattle.lane_journals.specs.Meanings.{history, entry_at}

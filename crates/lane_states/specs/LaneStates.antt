@@ -5,7 +5,7 @@ use Rattle.bucket_ids.specs.Buckets.{Low}
 use Rattle.node_sets.specs.Members.{has_node}
 use Rattle.cluster_states.specs.declared.cluster_state.ClusterState.{ClusterState}
 use Rattle.messages.specs.declared.message.Message.{Message}
-use Rattle.service_layer.specs.Nodes.{Node}
+use Rattle.node_model.specs.Nodes.{Node}
 use Rattle.view_changes.specs.declared.change.LaneChange.{LaneChange}
 use Rattle.distributor_part.specs.declared.rules.Rules.{Rules}
 use Rattle.distributor_part.specs.declared.stage.Stage.TheVariants.{Before}
@@ -122,6 +122,10 @@ Asks c d m = IsAsking c.lane d (part_of c d) m
 
 abbrev pub IsCarriedBy : LaneState → List Fate → Type 0
 IsCarriedBy c given = AreCarried given (journal_of c) c.last c.late.late
+
+-- the carrier gave what it gave before, and perhaps more behind it
+abbrev pub GivesOn : List Fate → List Fate → Type 0
+GivesOn given now = (more : List Fate) × (now ≡ given ++ more)
 
 -- each message still had just the events of its fate
 abbrev pub StaysCarried : LaneState → LaneState → Type 0

@@ -1,6 +1,6 @@
 ghost use Rattle.std.specs.Prelude.{◌≡◌, ◌≤◌, ◌<◌, ◌+◌, ◌∷◌, ℕ, true, false, OnOk, IfSome, length, vec_len, vec_capacity};
 ghost use Rattle.messages.specs.Noting.{noted_body};
-ghost use Rattle.service_layer.specs.Takes.{IsKeyOf};
+ghost use Rattle.node_model.specs.Takes.{IsKeyOf};
 ghost use Rattle.messages.specs.Waiting.{NoneIsDue, AreSentBefore};
 ghost use Rattle.lane_journals.specs.Meanings.{entry_at};
 ghost use Rattle.lane_journals.specs.KeptJournals.{IsLegalStep};

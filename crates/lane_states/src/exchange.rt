@@ -2,7 +2,7 @@ ghost use Rattle.std.specs.Prelude.{◌≡◌, ◌≤◌, ◌<◌, ◌+◌, ◌�
 ghost use Rattle.carriers.specs.declared.fate.Fate.TheVariants as fate;
 ghost use Rattle.messages.specs.Noting.{noted_body};
 ghost use Rattle.messages.specs.Waiting.{AreSentBefore};
-ghost use Rattle.service_layer.specs.Takes.{IsKeyOf};
+ghost use Rattle.node_model.specs.Takes.{IsKeyOf};
 ghost use Rattle.lane_carriage.specs.Carriage.{IsDealt};
 ghost use Rattle.lane_carriage.specs.Readers.{IsPrompt};
 ghost use Rattle.lane_carriage.specs.Waits.{kept_by};

@@ -10,7 +10,7 @@ use Rattle.bucket_db.specs.declared.row.Row.{Row}
 use Rattle.cluster_states.specs.declared.cluster_state.ClusterState.{ClusterState}
 use Rattle.cluster_states.specs.Publishing.{serves}
 use Rattle.replica_store.specs.Replicas.{IsReplica}
-use Rattle.service_layer.specs.Nodes.{Node, stored}
+use Rattle.node_model.specs.Nodes.{Node, stored}
 use Rattle.distributor_part.specs.Parts.{rows_of, version_of}
 use Rattle.lane_journals.specs.Readers.{Journal}
 use Rattle.lane_journals.specs.Facts.{InRegion}

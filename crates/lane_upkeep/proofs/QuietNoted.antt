@@ -10,7 +10,7 @@ use Rattle.cluster_states.specs.Publishing.{serves}
 use Rattle.entry_maps.specs.Entries.{documents_of}
 use Rattle.messages.specs.declared.step.NodePieces.{NodePieces}
 use Rattle.pieces.specs.declared.piece.Piece.{Piece}
-use Rattle.service_layer.specs.Nodes as lane
+use Rattle.node_model.specs.Nodes as lane
 use Rattle.merge_rounds.specs.Rounds.{RoundState, did_show, pieces_by}
 use Rattle.lane_journals.specs.declared.event.LaneEvent.{LaneEvent}
 use Rattle.lane_rest.specs.Rest.{documents}

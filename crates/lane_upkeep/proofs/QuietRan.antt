@@ -12,7 +12,7 @@ use Rattle.distributor_part.specs.Parts.{rows_of}
 use Rattle.distributor_part.specs.Targets.{AreTargets}
 use Rattle.distributor_part.specs.Upkeep.{BeginsRoundAt}
 use Rattle.merge_rounds.specs.Rounds.{RoundState}
-use Rattle.service_layer.specs.Nodes.{Node}
+use Rattle.node_model.specs.Nodes.{Node}
 use Rattle.lane_journals.specs.Readers.{version}
 use Rattle.lane_journals.specs.Meanings.{history}
 use Rattle.lane_journals.specs.declared.event.LaneEvent.{LaneEvent}

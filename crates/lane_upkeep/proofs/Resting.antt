@@ -6,7 +6,7 @@ use Rattle.cluster_states.specs.Publishing.{newest_of as newest_state, serves}
 use Rattle.ideal_nodes.specs.Placement.{IsIdeal}
 use Rattle.carriers.specs.declared.fate.Fate.{Fate}
 use Rattle.distributor_part.specs.declared.rules.Rules.{Rules}
-use Rattle.service_layer.specs.Nodes as service
+use Rattle.node_model.specs.Nodes as service
 use Rattle.lane_journals.specs.Events.{Content}
 use Rattle.lane_journals.specs.Readers.{published, asked, opened}
 use Rattle.lane_journals.specs.RowLists.{row_with, rows}

@@ -3,7 +3,7 @@ use Rattle.std.proofs.Common.{◌≡◌, ◌^◌, ◌<◌, ℕ, Bool, true, fals
 use Rattle.std.specs.BTreeMap.{BTreeMap}
 use Rattle.cluster_states.specs.Publishing.{serves}
 use Rattle.bucket_db.specs.declared.row.Row.{Row}
-use Rattle.service_layer.specs.Nodes as service
+use Rattle.node_model.specs.Nodes as service
 use Rattle.lane_journals.specs.Buckets.{contains}
 use Rattle.lane_journals.specs.Readers.{version}
 use Rattle.lane_journals.specs.Legal.{Legal}

@@ -3,7 +3,7 @@ ghost use Rattle.lane_upkeep.specs.Passing.{IsPassing, PassesOn};
 ghost use Rattle.lane_upkeep.specs.Maintaining.{IsBetween, AreReturned, HasOpened, HaveRun};
 ghost use Rattle.lane_upkeep.specs.Rests.{RestsWhereQuiet};
 ghost use Rattle.lane_upkeep.specs.Taking.{OpensThenPasses};
-ghost use Rattle.lane_states.specs.LaneStates.{journal_of};
+ghost use Rattle.lane_states.specs.LaneStates.{journal_of, GivesOn};
 ghost use Rattle.lane_states.specs.Shortages.{NoneIsShort, EndsAtOnce};
 
 use crate::owner::Owner;
@@ -41,6 +41,7 @@ fn open_owner<C: Carrier>(
     ensures on { PassesOn lane.old lane.new owner.now }
     ensures planned { C.planned carrier.new ≡ C.planned carrier.old }
     ensures kind { C.takes_plans carrier.new ≡ C.takes_plans carrier.old }
+    ensures gives { GivesOn (C.given carrier.old) (C.given carrier.new) }
     ensures passing { IfOk result (λ opened. opened ≡ true
         → IsPassing lane.new owner.now (C.given carrier.new)) }
     ensures lacking { IfOk result (λ opened. opened ≡ false → AreReturned lane.old lane.new → ⊥) }
@@ -75,6 +76,7 @@ pub fn maintain<C: Carrier>(
     ensures on { PassesOn lane.old lane.new owner.now }
     ensures planned { C.planned carrier.new ≡ C.planned carrier.old }
     ensures kind { C.takes_plans carrier.new ≡ C.takes_plans carrier.old }
+    ensures gives { GivesOn (C.given carrier.old) (C.given carrier.new) }
     ensures opened { OnOk result (AreReturned lane.old lane.new → HasOpened lane.new owner.now) }
     ensures run { OnOk result (AreReturned lane.old lane.new → HaveRun lane.new owner.now) }
     ensures passes { OnOk result (OpensThenPasses lane.old lane.new owner.now (C.given carrier.new)) }

@@ -1,5 +1,6 @@
 ghost use Rattle.std.specs.Prelude.{◌≡◌, true, false, OnOk, IfOk, ◌<◌};
 ghost use Rattle.pass_machine.specs.declared.doing.Doing.TheVariants.{Finished};
+ghost use Rattle.lane_states.specs.LaneStates.{GivesOn};
 ghost use Rattle.lane_upkeep.specs.Passing.{IsPassing, PassesOn};
 ghost use Rattle.lane_upkeep.specs.Quiet.{DoesQuietly, PassesQuietly, StandsOn};
 ghost use Rattle.lane_upkeep.specs.Taking.{GoesOneOn, IsPass};
@@ -28,6 +29,7 @@ fn go_on<C: Carrier>(
     ensures on { PassesOn lane.old lane.new owner.now }
     ensures planned { C.planned carrier.new ≡ C.planned carrier.old }
     ensures kind { C.takes_plans carrier.new ≡ C.takes_plans carrier.old }
+    ensures gives { GivesOn (C.given carrier.old) (C.given carrier.new) }
     ensures under_way { OnOk result (IsUnderWay lane.new owner.now pass.new) }
     ensures nearer { IfOk result (λ more. more ≡ true → IsNearer lane.old lane.new owner.now pass.old pass.new) }
     ensures ends { IfOk result (λ more. more ≡ false → pass.new.doing ≡ Finished) }
@@ -61,6 +63,7 @@ pub fn make_pass<C: Carrier>(
     ensures on { PassesOn lane.old lane.new owner.now }
     ensures planned { C.planned carrier.new ≡ C.planned carrier.old }
     ensures kind { C.takes_plans carrier.new ≡ C.takes_plans carrier.old }
+    ensures gives { GivesOn (C.given carrier.old) (C.given carrier.new) }
     ensures pass { OnOk result (IsPass lane.old lane.new owner.now (C.given carrier.old) (C.given carrier.new)) }
     ensures quiet { OnOk result (DoesQuietly (C.given carrier.old) (C.given carrier.new) lane.old lane.new owner.now
         (λ d s. PassesQuietly d s lane.old lane.new owner.now)) }

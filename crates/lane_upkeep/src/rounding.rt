@@ -5,9 +5,8 @@ ghost use Rattle.entry_maps.specs.Entries.{documents_of};
 ghost use Rattle.bucket_db.specs.Rows.{buckets_of};
 ghost use Rattle.bucket_db.specs.declared.row.Row.{Row};
 ghost use Rattle.merge_rounds.specs.Rounds.{HaveAllShown, pieces_by};
-ghost use Rattle.undisturbed_spans.specs.Undisturbed.{Extends};
 ghost use Rattle.lane_keeping.specs.RoundKeeping.{KnowsAnswers};
-ghost use Rattle.lane_states.specs.LaneStates.{journal_of, part_of};
+ghost use Rattle.lane_states.specs.LaneStates.{journal_of, part_of, GivesOn};
 ghost use Rattle.lane_states.specs.Shortages.{NoneIsShort, EndsAtOnce};
 ghost use Rattle.round_keeping.specs.RoundShortages.{HadMemory};
 ghost use Rattle.pass_machine.specs.declared.notes.RowNote.{RowNote as Note};
@@ -162,7 +161,7 @@ fn run_at<C: Carrier>(
     requires place { at < length (rows_in lane.old owner.now) }
     ensures planned { C.planned carrier.new ≡ C.planned carrier.old }
     ensures kind { C.takes_plans carrier.new ≡ C.takes_plans carrier.old }
-    ensures fates { OnOk result (Extends (C.given carrier.old) (C.given carrier.new)) }
+    ensures gives { GivesOn (C.given carrier.old) (C.given carrier.new) }
     ensures passing { IsPassing lane.new owner.now (C.given carrier.new) }
     ensures on { PassesOn lane.old lane.new owner.now }
     ensures buckets { buckets_of (rows_in lane.new owner.now) ≡ buckets_of (rows_in lane.old owner.now) }
@@ -198,7 +197,7 @@ pub fn run_round_at<C: Carrier>(
     requires place { at < length (rows_in lane.old owner.now) }
     ensures planned { C.planned carrier.new ≡ C.planned carrier.old }
     ensures kind { C.takes_plans carrier.new ≡ C.takes_plans carrier.old }
-    ensures fates { OnOk result (Extends (C.given carrier.old) (C.given carrier.new)) }
+    ensures gives { GivesOn (C.given carrier.old) (C.given carrier.new) }
     ensures passing { IsPassing lane.new owner.now (C.given carrier.new) }
     ensures on { PassesOn lane.old lane.new owner.now }
     ensures buckets { buckets_of (rows_in lane.new owner.now) ≡ buckets_of (rows_in lane.old owner.now) }

@@ -4,6 +4,7 @@ ghost use Rattle.carriers.specs.declared.fate.Fate.{Fate};
 ghost use Rattle.messages.specs.declared.reply.Reply.{Reply as GivenReply};
 ghost use Rattle.pass_machine.specs.declared.doing.UpkeepStep.TheVariants.{Tell, Decide, Accept, Round};
 ghost use Rattle.pass_machine.specs.Going.{Awaits, IsTellingRow, IsDecided, IsAccepted, IsRounded, left};
+ghost use Rattle.lane_states.specs.LaneStates.{GivesOn};
 ghost use Rattle.lane_upkeep.specs.CameBack.{is_taken, is_end};
 ghost use Rattle.lane_upkeep.specs.Deciding.{DecidesNothing};
 ghost use Rattle.lane_upkeep.specs.Noted.{StaysKnown};
@@ -127,6 +128,7 @@ pub fn say<C: Carrier>(
     ensures on { PassesOn lane.old lane.new owner.now }
     ensures planned { C.planned carrier.new ≡ C.planned carrier.old }
     ensures kind { C.takes_plans carrier.new ≡ C.takes_plans carrier.old }
+    ensures gives { GivesOn (C.given carrier.old) (C.given carrier.new) }
     ensures under_way { OnOk result (IsUnderWay lane.new owner.now pass.new) }
     ensures nearer { OnOk result (IsNearer lane.old lane.new owner.now pass.old pass.new) }
     ensures does { OnOk result (DoesTell lane.old lane.new owner.now pass.old pass.new node body
@@ -254,6 +256,7 @@ pub fn round<C: Carrier>(
     ensures on { PassesOn lane.old lane.new owner.now }
     ensures planned { C.planned carrier.new ≡ C.planned carrier.old }
     ensures kind { C.takes_plans carrier.new ≡ C.takes_plans carrier.old }
+    ensures gives { GivesOn (C.given carrier.old) (C.given carrier.new) }
     ensures under_way { OnOk result (IsUnderWay lane.new owner.now pass.new) }
     ensures nearer { OnOk result (IsNearer lane.old lane.new owner.now pass.old pass.new) }
     ensures does { OnOk result (DoesRound lane.old lane.new owner.now pass.old pass.new at

@@ -4,8 +4,7 @@ ghost use Rattle.messages.specs.declared.reply.Reply.TheVariants as replies;
 ghost use Rattle.lane_journals.specs.Readers.{returned};
 ghost use Rattle.lane_journals.specs.Meanings.{history};
 ghost use Rattle.lane_keeping.specs.RoundKeeping.{origin_in};
-ghost use Rattle.lane_states.specs.LaneStates.{journal_of, Went};
-ghost use Rattle.undisturbed_spans.specs.Undisturbed.{Extends};
+ghost use Rattle.lane_states.specs.LaneStates.{journal_of, GivesOn, Went};
 ghost use Rattle.lane_upkeep.specs.CameBack.{CameBack};
 ghost use Rattle.lane_upkeep.specs.Noted.{StaysKnown};
 ghost use Rattle.lane_upkeep.specs.Passing.{IsPassing, PassesOn, MayTell};
@@ -67,7 +66,7 @@ pub fn tell_node<C: Carrier>(
     ensures went { OnOk result (Went lane.old lane.new
         (message_of (origin_in lane.old.lane owner.now.distributor owner.now.state) node body)
         (C.given carrier.old) (C.given carrier.new)) }
-    ensures fates { OnOk result (Extends (C.given carrier.old) (C.given carrier.new)) }
+    ensures gives { GivesOn (C.given carrier.old) (C.given carrier.new) }
     ensures came { IfOk result (λ reply. IfSome reply (λ r. CameBack (journal_of lane.new) owner.now node body r)) }
     ensures silent { IfOk result (λ reply. IfNone reply
         (returned (lane.old.last + 1) (history (journal_of lane.new)) ≡ false)) }

@@ -1,6 +1,6 @@
 //! One node that is told messages.
 
-ghost use Rattle.service_layer.specs.Takes.{IsInside};
+ghost use Rattle.node_model.specs.Takes.{IsInside};
 
 use crate::changes::told;
 use crate::table::{done, shown};

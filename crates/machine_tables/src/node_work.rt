@@ -1,7 +1,7 @@
 //! A node at work, for `bench/node` to time.
 
 ghost use Rattle.std.specs.Prelude.{◌<◌, ◌≤◌, IfSome};
-ghost use Rattle.service_layer.specs.Takes.{IsInside};
+ghost use Rattle.node_model.specs.Takes.{IsInside};
 
 use crate::node::{new_node, take};
 use crate::words::{change_of, entries_in};

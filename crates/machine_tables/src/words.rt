@@ -2,7 +2,7 @@
 //! ready.
 
 ghost use Rattle.std.specs.Prelude.{◌<◌, IfOk, IfSome};
-ghost use Rattle.service_layer.specs.Takes.{IsInside};
+ghost use Rattle.node_model.specs.Takes.{IsInside};
 ghost use Rattle.replica_store.specs.Replicas.{LieIn};
 
 use crate::texts::{halves, number, short};

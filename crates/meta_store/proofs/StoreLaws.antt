@@ -1,6 +1,6 @@
 -- A store keeps its documents, their local ids and the one of each id together.
 use Rattle.std.proofs.Common.{◌≡◌, ◌↔◌, ℕ, ◌==◌, Bool, true, false, cond, List, [], length, refl, sym, ap, ◌∙◌, arith, Option, Some, None, option_map, is_some, bytes_eq, String}
-use Rattle.std.specs.BTreeMap.{BTreeMap, get_by_text}
+use Rattle.std.specs.HashMap.{HashMap, get_by_text}
 use Rattle.std.specs.List.{Contains}
 use Rattle.std.specs.Option.{IsSome}
 use Rattle.std.specs.Ordering.{nat_cmp}
@@ -59,11 +59,11 @@ no_keys = same_ids [] (fin.keys (fin.empty {X = Named} {R = nat_cmp})) tt (keys_
 
 -- ---- a store keeps
 
-pub assigned : {Y : Type 0} (s : Store) (locals new : List ℕ) (by_id by_id' : BTreeMap (String Y) ℕ) (n : ℕ) (d : Named) → IsStored s locals by_id
+pub assigned : {Y S : Type 0} (s : Store) (locals new : List ℕ) (by_id by_id' : HashMap (String Y) ℕ S) (n : ℕ) (d : Named) → IsStored s locals by_id
     → get_by_text by_id d.id ≡ None → fin.get s n ≡ None → new ≡ with_local n locals
     → ((q : List ℕ) → get_by_text by_id' q ≡ cond (bytes_eq d.id q) (Some n) (get_by_text by_id q))
     → IsStored (fin.insert s n d) new by_id'
-assigned {Y} s locals new by_id by_id' n d is fresh free e f = record {
+assigned {Y} {S} s locals new by_id by_id' n d is fresh free e f = record {
   taken = e ∙ ap (with_local n) is.taken ∙ sym (keys_with s n d);
   found = λ k q. (λ g. has_with s n d k ∙ to k q (bytes_eq d.id q) (k == n) refl refl (sym (f q) ∙ g), λ h. f q ∙ from k q (bytes_eq d.id q) (k == n) refl refl (sym (has_with s n d k) ∙ h));
 }
@@ -80,11 +80,11 @@ assigned {Y} s locals new by_id by_id' n d is fresh free e f = record {
     from k q true false a b h = absurd (none_some k (sym fresh ∙ ap (get_by_text by_id) ((bytes_eq-Decides d.id q).0 a) ∙ (is.found k q).1 h))
     from k q false false a b h = (is.found k q).1 h
 
-pub freed : {Y : Type 0} (s : Store) (locals new : List ℕ) (by_id by_id' : BTreeMap (String Y) ℕ) (n : ℕ) (d : Named) → IsStored s locals by_id
+pub freed : {Y S : Type 0} (s : Store) (locals new : List ℕ) (by_id by_id' : HashMap (String Y) ℕ S) (n : ℕ) (d : Named) → IsStored s locals by_id
     → fin.get s n ≡ Some d → new ≡ without_local n locals
     → ((q : List ℕ) → get_by_text by_id' q ≡ cond (bytes_eq d.id q) None (get_by_text by_id q))
     → IsStored (fin.remove s n) new by_id'
-freed {Y} s locals new by_id by_id' n d is there e f = record {
+freed {Y} {S} s locals new by_id by_id' n d is there e f = record {
   taken = e ∙ ap (without_local n) is.taken ∙ sym (keys_without s n);
   found = λ k q. (λ g. has_without s n k ∙ to k q (bytes_eq d.id q) (k == n) refl refl (sym (f q) ∙ g), λ h. f q ∙ from k q (bytes_eq d.id q) (k == n) refl refl (sym (has_without s n k) ∙ h));
 }
@@ -118,10 +118,10 @@ none_freed s n free = same_map nat_cmp_total nat_cmp-IsAntisymmetric _ _ (λ q. 
     by_test q true e = ap (fin.get s) (let same : q ≡ n = grind (arith, nat_tests) in same) ∙ free
     by_test q false e = refl
 
-pub same_stored : {Y : Type 0} (s : Store) (locals new : List ℕ) (by_id by_id' : BTreeMap (String Y) ℕ) → IsStored s locals by_id → new ≡ locals → ((q : List ℕ) → get_by_text by_id' q ≡ get_by_text by_id q) → IsStored s new by_id'
+pub same_stored : {Y S : Type 0} (s : Store) (locals new : List ℕ) (by_id by_id' : HashMap (String Y) ℕ S) → IsStored s locals by_id → new ≡ locals → ((q : List ℕ) → get_by_text by_id' q ≡ get_by_text by_id q) → IsStored s new by_id'
 same_stored s locals new by_id by_id' is e f = record { taken = e ∙ is.taken; found = λ n id. (λ g. (is.found n id).0 (sym (f id) ∙ g), λ h. f id ∙ (is.found n id).1 h) }
 
-pub nothing_stored : {Y : Type 0} (by_id : BTreeMap (String Y) ℕ) → by_id.entries ≡ [] → IsStored fin.empty [] by_id
+pub nothing_stored : {Y S : Type 0} (by_id : HashMap (String Y) ℕ S) → by_id.entries ≡ [] → IsStored fin.empty [] by_id
 nothing_stored by_id e = record {
   taken = no_keys;
   found = λ n id. (λ g. absurd (none_some n (sym (none_there id) ∙ g)), λ h. absurd (none_some id (sym (ap (option_map (λ d. d.id)) (get-empty nat_cmp n)) ∙ h)));
@@ -130,10 +130,10 @@ nothing_stored by_id e = record {
     none_there : (q : List ℕ) → get_by_text by_id q ≡ None
     none_there q = rw e refl
 
-pub seen : {Y : Type 0} (s : Store) (by_id : BTreeMap (String Y) ℕ) (locals : List ℕ) → IsStored s locals by_id → (id : List ℕ) (o : Option ℕ) → o ≡ get_by_text by_id id → (n : ℕ) → (o ≡ Some n) ↔ Has s n id
+pub seen : {Y S : Type 0} (s : Store) (by_id : HashMap (String Y) ℕ S) (locals : List ℕ) → IsStored s locals by_id → (id : List ℕ) (o : Option ℕ) → o ≡ get_by_text by_id id → (n : ℕ) → (o ≡ Some n) ↔ Has s n id
 seen s by_id locals is id o e n = (λ g. (is.found n id).0 (sym e ∙ g), λ h. e ∙ (is.found n id).1 h)
 
-pub unknown : {Y : Type 0} (s : Store) (by_id : BTreeMap (String Y) ℕ) (locals : List ℕ) → IsStored s locals by_id → (id : List ℕ) → IsNew s id → get_by_text by_id id ≡ None
+pub unknown : {Y S : Type 0} (s : Store) (by_id : HashMap (String Y) ℕ S) (locals : List ℕ) → IsStored s locals by_id → (id : List ℕ) → IsNew s id → get_by_text by_id id ≡ None
 unknown s by_id locals is id new = by_case (get_by_text by_id id) refl
   where
     by_case : (o : Option ℕ) → get_by_text by_id id ≡ o → o ≡ None

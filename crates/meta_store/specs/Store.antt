@@ -2,7 +2,7 @@
 use Rattle.std.specs.Prelude.{◌≡◌, ◌<◌, ◌↔◌, ℕ, List, Some, None, IsSome, option_map, refl, String}
 use Rattle.std.specs.Coded.{Coded, code_by, coded×, coded_ℕ, coded_list}
 use Rattle.std.specs.Ordering.{nat_cmp}
-use Rattle.std.specs.BTreeMap.{BTreeMap, get_by_text}
+use Rattle.std.specs.HashMap.{HashMap, get_by_text}
 use Rattle.std.specs.FinMap as fin
 use Rattle.meta_store.specs.declared.store.Named.{Named}
 
@@ -28,6 +28,6 @@ abbrev pub IsLeastFree : Store → ℕ → Type 0
 IsLeastFree s n = (fin.get s n ≡ None) × ((k : ℕ) → k < n → IsSome (fin.get s k))
 
 -- what is kept beside the documents: their local ids, and the one of each id
-pub record IsStored {Y : Type 0} (named : Store) (locals : List ℕ) (by_id : BTreeMap (String Y) ℕ) : Type 0 where
+pub record IsStored {Y S : Type 0} (named : Store) (locals : List ℕ) (by_id : HashMap (String Y) ℕ S) : Type 0 where
   pub taken : locals ≡ fin.keys named
   pub found : (n : ℕ) (id : List ℕ) → (get_by_text by_id id ≡ Some n) ↔ Has named n id

@@ -1,12 +1,12 @@
 ghost use Rattle.std.specs.Prelude.{◌≡◌, ◌≢◌, ◌<◌, ◌≤◌, ◌-◌, ◌^◌, ℕ, List, Some, None, bytes_eq, if◌then◌else◌, length, slice_index, OnOk, OnErr};
-ghost use Rattle.std.specs.BTreeMap.{get_by_text};
+ghost use Rattle.std.specs.HashMap.{get_by_text};
 ghost use Rattle.std.specs.List.{Contains};
 ghost use Rattle.local_ids.specs.Rising.{IsRising, with_local};
 
 use document_ids::DocId;
 use local_ids::put_local;
 use std::alloc::Global;
-use std::collections::BTreeMap;
+use std::collections::HashMap;
 use value_lists::NoMemory;
 
 /// The least id that a rising list lacks, by a binary search.
@@ -32,7 +32,7 @@ pub fn least_free(locals: &[u32]) -> u32
 /// A document has a local id.
 fn put_id(
     alloc: Global,
-    by_id: &mut BTreeMap<String, u32>,
+    by_id: &mut HashMap<String, u32>,
     id: &DocId,
     local: u32,
 ) -> Result<(), NoMemory>
@@ -45,7 +45,7 @@ fn put_id(
 }
 
 /// A document has no local id.
-pub fn drop_id(by_id: &mut BTreeMap<String, u32>, id: &DocId)
+pub fn drop_id(by_id: &mut HashMap<String, u32>, id: &DocId)
     ensures { (q : List ℕ) → get_by_text by_id.new q
         ≡ (if bytes_eq id.now q then None else get_by_text by_id.old q) }
 {
@@ -56,7 +56,7 @@ pub fn drop_id(by_id: &mut BTreeMap<String, u32>, id: &DocId)
 pub fn enter(
     alloc: Global,
     locals: &mut Vec<u32>,
-    by_id: &mut BTreeMap<String, u32>,
+    by_id: &mut HashMap<String, u32>,
     id: &DocId,
     local: u32,
 ) -> Result<(), NoMemory>

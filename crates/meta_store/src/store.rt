@@ -7,7 +7,7 @@ use crate::indexes::{drop_id, enter, least_free};
 use document_ids::DocId;
 use local_ids::{LocalMap, drop_local};
 use std::alloc::Global;
-use std::collections::BTreeMap;
+use std::collections::HashMap;
 use std::marker::Model;
 use value_lists::{NoMemory, TryCopy};
 
@@ -24,7 +24,7 @@ pub struct Named {
 pub struct MetaStore {
     named: LocalMap<Named>,
     locals: Vec<u32>,
-    by_id: BTreeMap<String, u32>,
+    by_id: HashMap<String, u32>,
 }
 
 impl Model for MetaStore {
@@ -44,7 +44,7 @@ fn place_in(
     alloc: Global,
     named: &mut LocalMap<Named>,
     locals: &mut Vec<u32>,
-    by_id: &mut BTreeMap<String, u32>,
+    by_id: &mut HashMap<String, u32>,
     local: u32,
     id: &DocId,
     key: u64,
@@ -75,7 +75,7 @@ fn take_in(
     alloc: Global,
     named: &mut LocalMap<Named>,
     locals: &mut Vec<u32>,
-    by_id: &mut BTreeMap<String, u32>,
+    by_id: &mut HashMap<String, u32>,
     id: &DocId,
     key: u64,
 ) -> Result<u32, NoMemory>
@@ -100,12 +100,13 @@ impl MetaStore {
         MetaStore {
             named: LocalMap::new(alloc),
             locals: Vec::new(alloc),
-            by_id: BTreeMap::new(alloc),
+            by_id: HashMap::new(alloc),
         }
     }
 
-    /// The local id of a document: the one that it has, else the least that is free. Takes the logarithm of the
-    /// documents, and the move of the ids above the new one by four bytes each.
+    /// The local id of a document: the one that it has, else the least that is free. Takes a look at
+    /// the id, a binary search among the local ids, and the move of those above the new one by four bytes each; now and
+    /// then, where there are too many documents for the table of ids, a look at each.
     pub fn assign(&mut self, alloc: Global, id: &DocId, key: u64) -> Result<u32, NoMemory>
         requires { fin.len self.old < 2 ^ 32 - 1 }
 

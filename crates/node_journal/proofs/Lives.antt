@@ -1,8 +1,8 @@
 -- How a node that took messages goes on.
 use Rattle.std.proofs.Common.{◌≡◌, ◌⊎◌, inl, inr, ◌<◌, ◌≤◌, ◌+◌, ◌^◌, ℕ, List, [], ◌∷◌, ◌++◌, nat_lt, true, false, cond, refl, sym, ◌∙◌, ap, subst, arith}
 use Rattle.std.proofs.lemmas.Bool.Decides.{nat_tests}
-use Rattle.service_layer.specs.Nodes.{Node, new_node, adopt, after_body}
-use Rattle.service_layer.specs.Takes.{Takes, Treats, told, HasRoom, IsInside}
+use Rattle.node_model.specs.Nodes.{Node, new_node, adopt, after_body}
+use Rattle.node_model.specs.Takes.{Takes, Treats, told, HasRoom, IsInside}
 use Rattle.doc_types.specs.SchemaCodes.{Types}
 use Rattle.message_texts.specs.Fitting.{FitsBody}
 use Rattle.messages.specs.declared.message.Message.{Message}

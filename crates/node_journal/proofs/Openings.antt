@@ -7,7 +7,7 @@ use Rattle.message_texts.specs.Texts.{message_in}
 use Rattle.message_texts.specs.Fitting.{Fits}
 use Rattle.doc_types.specs.SchemaCodes.{Types}
 use Rattle.messages.specs.declared.message.Message.{Message}
-use Rattle.service_layer.specs.Nodes.{Node, new_node}
+use Rattle.node_model.specs.Nodes.{Node, new_node}
 use Rattle.disks.specs.Disks.{DiskState, Only, Torn, HasClock, LeavesOnly, written}
 use Rattle.disks.specs.Moments.{started}
 use Rattle.io_ends.specs.Causes.{HasRisen}

@@ -3,8 +3,8 @@ use Rattle.std.proofs.Common.{◌≡◌, inl, ◌<◌, ◌≤◌, ◌+◌, ◌^�
 use Rattle.std.proofs.lemmas.List.{append-nil}
 use Rattle.disks.specs.Disks.{DiskState, Only, HasClock, LeavesOnly}
 use Rattle.disks.specs.Moments.{started}
-use Rattle.service_layer.specs.Nodes.{Node, adopt}
-use Rattle.service_layer.specs.Takes.{Takes, Treats}
+use Rattle.node_model.specs.Nodes.{Node, adopt}
+use Rattle.node_model.specs.Takes.{Takes, Treats}
 use Rattle.message_texts.specs.Texts.{message_in, text_of}
 use Rattle.doc_types.specs.SchemaCodes.{Types}
 use Rattle.messages.specs.declared.message.Message.{Message}

@@ -2,7 +2,7 @@
 use Rattle.std.specs.Prelude.{◌≡◌, ◌≢◌, ◌⊎◌, ◌<◌, ◌≤◌, ◌^◌, ℕ, suc, List, [], ◌∷◌, length, take, drop, slice_index, Bool, false, Some, Result, refl}
 use Rattle.std.specs.Coded.{Coded, code_by, coded×, coded_ℕ, coded_bool}
 use Rattle.disks.specs.Disks.{DiskState, Only}
-use Rattle.service_layer.specs.Nodes.{Node, node_code}
+use Rattle.node_model.specs.Nodes.{Node, node_code}
 use Rattle.message_texts.specs.Texts.{message_in, IsTextOf}
 use Rattle.doc_types.specs.SchemaCodes.{Types, types_code}
 use Rattle.messages.specs.declared.message.Message.{Message}

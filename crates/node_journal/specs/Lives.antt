@@ -1,7 +1,7 @@
 -- The node that takes messages from the start.
 use Rattle.std.specs.Prelude.{◌≡◌, ◌≤◌, List, [], ◌∷◌, nat_lt, if◌then◌else◌, Bool, true, false}
-use Rattle.service_layer.specs.Nodes.{Node, new_node, adopt, after_body}
-use Rattle.service_layer.specs.Takes.{told}
+use Rattle.node_model.specs.Nodes.{Node, new_node, adopt, after_body}
+use Rattle.node_model.specs.Takes.{told}
 use Rattle.pieces.specs.Told.{Told, Accepted, NoBucket, Differs}
 use Rattle.messages.specs.declared.message.Message.{Message}
 use Rattle.messages.specs.declared.body.Body.{Body}

@@ -9,7 +9,7 @@ use Rattle.message_texts.specs.Texts.{message_in}
 use Rattle.message_texts.specs.Fitting.{Fits}
 use Rattle.doc_types.specs.SchemaCodes.{Types}
 use Rattle.messages.specs.declared.message.Message.{Message}
-use Rattle.service_layer.specs.Nodes.{Node, new_node}
+use Rattle.node_model.specs.Nodes.{Node, new_node}
 use Rattle.node_journal.specs.Files.{IsRecord, Stands}
 use Rattle.node_journal.specs.Lives.{after_all}
 use Rattle.node_journal.specs.declared.causes.OpenCause.{OpenCause}

@@ -3,7 +3,7 @@ use Rattle.std.specs.Prelude.{◌≡◌, ◌<◌, ◌≤◌, ◌+◌, ◌^◌, �
 use Rattle.std.specs.Prelude.{true, false}
 use Rattle.disks.specs.Disks.{DiskState}
 use Rattle.io_ends.specs.Causes.{HasRisen}
-use Rattle.service_layer.specs.Takes.{Takes}
+use Rattle.node_model.specs.Takes.{Takes}
 use Rattle.message_texts.specs.Texts.{text_of}
 use Rattle.messages.specs.declared.message.Message.{Message}
 use Rattle.service_layer.specs.declared.replies.Taken.{Taken}

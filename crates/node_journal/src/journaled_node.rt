@@ -1,7 +1,7 @@
 ghost use Rattle.std.specs.Prelude.{◌≡◌, ◌⊎◌, ◌<◌, ◌≤◌, ◌+◌, ◌^◌, ℕ, List, [], ◌∷◌, ◌++◌, length, IfOk, IfErr, Ok, Err, IsErrOf};
 ghost use Rattle.disks.specs.Disks.{DiskState, LeavesOnly};
 ghost use Rattle.io_ends.specs.Causes.{HasRisen};
-ghost use Rattle.service_layer.specs.Takes.{Takes};
+ghost use Rattle.node_model.specs.Takes.{Takes};
 ghost use Rattle.message_texts.specs.Texts.{text_of};
 ghost use Rattle.message_texts.specs.Fitting.{Fits};
 ghost use Rattle.messages.specs.declared.message.Message.{Message};

@@ -1,6 +1,6 @@
 ghost use Rattle.std.specs.Prelude.{◌≡◌, ◌<◌, ◌≤◌, ◌^◌, ℕ, length, IfOk, IfErr, OnOk};
-ghost use Rattle.service_layer.specs.Nodes.{new_node};
-ghost use Rattle.service_layer.specs.Takes.{IsInside, HasRoom};
+ghost use Rattle.node_model.specs.Nodes.{new_node};
+ghost use Rattle.node_model.specs.Takes.{IsInside, HasRoom};
 ghost use Rattle.node_journal.specs.Lives.{is_wanting, after};
 ghost use Rattle.disks.specs.Disks.{Rests, Only, LeavesOnly};
 ghost use Rattle.message_texts.specs.Texts.{message_in};

@@ -7,8 +7,8 @@ use Rattle.doc_types.specs.SchemaCodes.{Types}
 use Rattle.documents.specs.Fields.{Contents}
 use Rattle.documents.specs.declared.entry.Entry.{Entry}
 use Rattle.node_sets.specs.Members.{has_node}
-use Rattle.service_layer.specs.Nodes.{Node}
-use Rattle.service_layer.specs.Telling.{kept_of}
+use Rattle.node_model.specs.Nodes.{Node}
+use Rattle.node_model.specs.Telling.{kept_of}
 use Rattle.view_changes.specs.Views.{NodeView, View, in_regions, node_at, view_after}
 use Rattle.view_changes.specs.Opening.{opening}
 use Rattle.view_changes.specs.Kept.{AreParted, IsView}

@@ -3,7 +3,7 @@ ghost use Rattle.view_changes.specs.Kept.{IsView};
 ghost use Rattle.search_laws.specs.Searches.{LieIn};
 ghost use Rattle.journal_views.specs.JournalViews.{view_of, Shows};
 ghost use Rattle.node_sets.specs.Members.{has_node};
-ghost use Rattle.service_layer.specs.Telling.{kept_of};
+ghost use Rattle.node_model.specs.Telling.{kept_of};
 ghost use Rattle.lane_keeping.specs.LaneKeeping.{node_in};
 ghost use Rattle.node_views.specs.NodesTold.{with_version, with_regions, with_kept, with_stop, with_nodes};
 ghost use Rattle.node_views.specs.NodesKept.{OfKeptNodes};

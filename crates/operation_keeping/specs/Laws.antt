@@ -7,7 +7,7 @@ use Rattle.cluster_states.specs.declared.cluster_state.ClusterState.{ClusterStat
 use Rattle.documents.specs.declared.entry.Entry.{Entry}
 use Rattle.messages.specs.declared.message.Message.{Message}
 use Rattle.messages.specs.declared.operation.Operation.{Operation}
-use Rattle.service_layer.specs.Nodes.{Node}
+use Rattle.node_model.specs.Nodes.{Node}
 use Rattle.op_machine.specs.declared.machine.Standing.{Standing}
 use Rattle.distributor_part.specs.declared.rules.Rules.{Rules}
 use Rattle.lane_journals.specs.Buckets.{Id}

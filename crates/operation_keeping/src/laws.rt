@@ -16,7 +16,7 @@ ghost use Rattle.messages.specs.declared.operation.Operation.{Operation};
 ghost use Rattle.messages.specs.declared.outcome.Outcome.{Outcome};
 ghost use Rattle.messages.specs.declared.outcome.Outcome.TheVariants.{Acked, TooFew, OwnedElsewhere, NoMemory};
 ghost use Rattle.messages.specs.declared.reply.Reply.{Reply};
-ghost use Rattle.service_layer.specs.Nodes.{Node};
+ghost use Rattle.node_model.specs.Nodes.{Node};
 ghost use Rattle.distributor_part.specs.Steps.{LacksAnswers};
 ghost use Rattle.op_machine.specs.declared.machine.Standing.{Standing};
 ghost use Rattle.op_machine.specs.Outcomes.{answers_of, Asks, Finishes};

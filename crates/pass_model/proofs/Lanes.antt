@@ -18,10 +18,10 @@ use Rattle.documents.specs.declared.entry.Entry.{Entry}
 use Rattle.entry_maps.specs.EntryCodes.{Entries}
 use Rattle.entry_maps.specs.Joins.{joined}
 use Rattle.replica_store.specs.Replicas.{IsReplica}
-use Rattle.service_layer.specs.Nodes as lane
+use Rattle.node_model.specs.Nodes as lane
 use Rattle.view_changes.specs.Shown.{with_region}
-use Rattle.service_layer.specs.Nodes.{stored}
-use Rattle.service_layer.specs.Takes.{IsInside, Treats}
+use Rattle.node_model.specs.Nodes.{stored}
+use Rattle.node_model.specs.Takes.{IsInside, Treats}
 use Rattle.lane_journals.specs.Stamps.{newer}
 use Rattle.lane_journals.specs.Buckets.{Id, key_of}
 use Rattle.lane_journals.specs.Meanings.{history}

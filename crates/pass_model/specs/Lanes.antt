@@ -7,7 +7,7 @@ use Rattle.messages.specs.declared.body.Body.TheVariants as body
 use Rattle.messages.specs.declared.reply.Reply.{Reply}
 use Rattle.messages.specs.declared.reply.Reply.TheVariants as reply
 use Rattle.pieces.specs.Pieces.{is_over, is_inside}
-use Rattle.service_layer.specs.Nodes as lane
+use Rattle.node_model.specs.Nodes as lane
 use Rattle.lane_keeping.specs.NodeKeeping.{stamp_of}
 use Rattle.pass_model.specs.Nodes.{Node, apply_once, split_once, join_once, can_ready, ready_once, can_activate, activate_once, can_delete, delete_once}
 

@@ -10,6 +10,10 @@ pub err_then : {T E P : Type 0} (r : Result T E) → P → OnErr r P
 err_then (Ok x) p = tt
 err_then (Err e) p = p
 
+pub ok_then : {T E P : Type 0} (r : Result T E) → P → OnOk r P
+ok_then (Ok x) p = p
+ok_then (Err e) p = tt
+
 pub on_ok : {X E P Q : Type 0} (r : Result X E) → (P → Q) → OnOk r P → OnOk r Q
 on_ok (Ok x) f h = f h
 on_ok (Err e) f h = h

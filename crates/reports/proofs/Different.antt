@@ -178,14 +178,13 @@ fault_from word field size = cond (bytes_eq word (codes "zerodivisor")) (fault.Z
     (cond (bytes_eq word (codes "toomany")) (fault.TooMany field) (fault.TooLarge size)))
 
 abbrev cause_from : List ℕ → Cause
-cause_from word = cond (bytes_eq word (codes "json")) cause.Json (cond (bytes_eq word (codes "object")) cause.Object (cond (bytes_eq word (codes "unbuilt")) cause.Unbuilt
+cause_from word = cond (bytes_eq word (codes "json")) cause.Json (cond (bytes_eq word (codes "object")) cause.Object
     (cond (bytes_eq word (codes "key")) cause.Key (cond (bytes_eq word (codes "id")) cause.Id (cond (bytes_eq word (codes "type")) cause.Type
-    (cond (bytes_eq word (codes "field")) cause.Field (cond (bytes_eq word (codes "value")) cause.Value (cond (bytes_eq word (codes "size")) cause.Size cause.Condition))))))))
+    (cond (bytes_eq word (codes "field")) cause.Field (cond (bytes_eq word (codes "value")) cause.Value (cond (bytes_eq word (codes "size")) cause.Size cause.Condition)))))))
 
 cause_back : (why : Cause) → cause_from (cause_text why) ≡ why
 cause_back cause.Json = refl
 cause_back cause.Object = refl
-cause_back cause.Unbuilt = refl
 cause_back cause.Key = refl
 cause_back cause.Id = refl
 cause_back cause.Type = refl
@@ -230,6 +229,7 @@ answer_from t =
     cond (bytes_eq t.word (codes "badstate")) (answer.BadState (first_of t.numbers)) (
     cond (bytes_eq t.word (codes "notnewer")) (answer.NotNewer (first_of t.numbers)) (
     cond (bytes_eq t.word (codes "nodistributor")) (answer.NoDistributor) (
+    cond (bytes_eq t.word (codes "barrier")) (answer.Barrier) (
     cond (bytes_eq t.word (codes "toofewup")) (answer.TooFewUp (second_of t.numbers) (first_of t.numbers)) (
     cond (bytes_eq t.word (codes "toomanyout")) (answer.TooManyOut (second_of t.numbers) (first_of t.numbers)) (
     cond (bytes_eq t.word (codes "stopped")) (answer.Stopped (first_of t.numbers)) (
@@ -237,7 +237,7 @@ answer_from t =
     cond (bytes_eq t.word (codes "maintained")) (answer.Maintained (third_of t.numbers) (fourth_of t.numbers) (first_of t.numbers) (second_of t.numbers)) (
     cond (bytes_eq t.word (codes "search")) (answer.Search (record { version = third_of t.numbers; count = first_of t.numbers; covered = second_of t.numbers; full = t.taken; groups = groups_or t.groups })) (
     cond (bytes_eq t.word (codes "badquery")) (answer.BadQuery (first_of t.numbers)) (
-    answer.Planned t.taken)))))))))))))))))))))
+    answer.Planned t.taken))))))))))))))))))))))
 
 own_document : (types : Types) (id : List ℕ) (document : Contents) → IsDocument types id document → record { id = id; fields = document.fields } ≡ document
 own_document types id document h = ap (λ i. record { id = i; fields = document.fields }) (sym h.own)
@@ -269,6 +269,7 @@ answer_back types asked (answer.TooManyOut out acks) h = refl
 answer_back types asked (answer.Stopped node) h = refl
 answer_back types asked (answer.Started node) h = refl
 answer_back types asked (answer.Planned taken) h = refl
+answer_back types asked answer.Barrier h = refl
 answer_back types asked (answer.Maintained lanes rested blocked disturbed) h = refl
 
 -- ---- numbers, stamps and fields of an answer that can be
@@ -300,6 +301,7 @@ counts_be types asked (answer.TooManyOut out acks) h = (h.1, (h.0, tt))
 counts_be types asked (answer.Stopped node) h = (h, tt)
 counts_be types asked (answer.Started node) h = (h, tt)
 counts_be types asked (answer.Planned taken) h = tt
+counts_be types asked answer.Barrier h = tt
 counts_be types asked (answer.Maintained lanes rested blocked disturbed) h = (h.2, (h.3, (h.0, (h.1, tt))))
 
 stamp_be : (types : Types) (asked : List OutputKind) (a : Answer) → CanBe types asked a → IsStampIf (stamp_of a)
@@ -329,6 +331,7 @@ stamp_be types asked (answer.TooManyOut out acks) h = tt
 stamp_be types asked (answer.Stopped node) h = tt
 stamp_be types asked (answer.Started node) h = tt
 stamp_be types asked (answer.Planned taken) h = tt
+stamp_be types asked answer.Barrier h = tt
 stamp_be types asked (answer.Maintained lanes rested blocked disturbed) h = tt
 
 -- groups that a query may find
@@ -367,6 +370,7 @@ groups_be types asked (answer.TooManyOut out acks) h = tt
 groups_be types asked (answer.Stopped node) h = tt
 groups_be types asked (answer.Started node) h = tt
 groups_be types asked (answer.Planned taken) h = tt
+groups_be types asked answer.Barrier h = tt
 groups_be types asked (answer.Maintained lanes rested blocked disturbed) h = tt
 
 same_groups_if : (asked : List OutputKind) (f g : Option (List Group)) → AreGroupsIf asked f → AreGroupsIf asked g → option_map groups_outline f ≡ option_map groups_outline g → option_map (map told_group) f ≡ option_map (map told_group) g
@@ -411,6 +415,7 @@ fields_be types asked (answer.TooManyOut out acks) h = tt
 fields_be types asked (answer.Stopped node) h = tt
 fields_be types asked (answer.Started node) h = tt
 fields_be types asked (answer.Planned taken) h = tt
+fields_be types asked answer.Barrier h = tt
 fields_be types asked (answer.Maintained lanes rested blocked disturbed) h = tt
 
 same_map : (types : Types) (i j : List ℕ) (f g : FieldMap) → i ≡ j → AreFields types i f → AreFields types j g → outline_of f ≡ outline_of g → f ≡ g

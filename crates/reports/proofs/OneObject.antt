@@ -171,6 +171,7 @@ have_numbers types asked line (answer.TooManyOut out acks) l h = (IsNumber-decim
 have_numbers types asked line (answer.Stopped node) l h = (IsNumber-decimal line l, (IsNumber-decimal node h, (tt, tt)))
 have_numbers types asked line (answer.Started node) l h = (IsNumber-decimal line l, (IsNumber-decimal node h, (tt, tt)))
 have_numbers types asked line (answer.Planned taken) l h = (IsNumber-decimal line l, (tt, (tt, tt)))
+have_numbers types asked line answer.Barrier l h = (IsNumber-decimal line l, (tt, tt))
 have_numbers types asked line (answer.Maintained lanes rested blocked disturbed) l h = (IsNumber-decimal blocked h.2, (IsNumber-decimal disturbed h.3, (IsNumber-decimal lanes h.0, (IsNumber-decimal line l, (IsNumber-decimal rested h.1, (tt, tt))))))
 
 seen_depth : (seen : Option Stamp) → depth (outline (seen_of seen)) ≡ 0
@@ -205,6 +206,7 @@ is_shallow line (answer.TooManyOut out acks) = omega arith
 is_shallow line (answer.Stopped node) = omega arith
 is_shallow line (answer.Started node) = omega arith
 is_shallow line (answer.Planned taken) = omega arith
+is_shallow line answer.Barrier = omega arith
 is_shallow line (answer.Maintained lanes rested blocked disturbed) = omega arith
 
 pub is_rising : (line : ℕ) (a : Answer) → are_rising (members_of line a) ≡ true
@@ -235,6 +237,7 @@ is_rising line (answer.TooManyOut out acks) = refl
 is_rising line (answer.Stopped node) = refl
 is_rising line (answer.Started node) = refl
 is_rising line (answer.Planned taken) = refl
+is_rising line answer.Barrier = refl
 is_rising line (answer.Maintained lanes rested blocked disturbed) = refl
 
 -- ---- the bytes

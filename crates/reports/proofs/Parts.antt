@@ -120,6 +120,7 @@ word_of (answer.TooManyOut out acks) = codes "toomanyout"
 word_of (answer.Stopped node) = codes "stopped"
 word_of (answer.Started node) = codes "started"
 word_of (answer.Planned taken) = codes "planned"
+word_of answer.Barrier = codes "barrier"
 word_of (answer.Maintained lanes rested blocked disturbed) = codes "maintained"
 
 abbrev pub numbers_of : Answer → List ℕ
@@ -149,6 +150,7 @@ numbers_of (answer.TooManyOut out acks) = acks ∷ out ∷ []
 numbers_of (answer.Stopped node) = node ∷ []
 numbers_of (answer.Started node) = node ∷ []
 numbers_of (answer.Planned taken) = []
+numbers_of answer.Barrier = []
 numbers_of (answer.Maintained lanes rested blocked disturbed) = blocked ∷ disturbed ∷ lanes ∷ rested ∷ []
 
 abbrev pub stamp_of : Answer → Option Stamp
@@ -178,6 +180,7 @@ stamp_of (answer.TooManyOut out acks) = None
 stamp_of (answer.Stopped node) = None
 stamp_of (answer.Started node) = None
 stamp_of (answer.Planned taken) = None
+stamp_of answer.Barrier = None
 stamp_of (answer.Maintained lanes rested blocked disturbed) = None
 
 abbrev pub taken_of : Answer → Bool
@@ -207,6 +210,7 @@ taken_of (answer.TooManyOut out acks) = false
 taken_of (answer.Stopped node) = false
 taken_of (answer.Started node) = false
 taken_of (answer.Planned taken) = taken
+taken_of answer.Barrier = false
 taken_of (answer.Maintained lanes rested blocked disturbed) = false
 
 abbrev pub fault_of : Answer → List ℕ
@@ -236,6 +240,7 @@ fault_of (answer.TooManyOut out acks) = []
 fault_of (answer.Stopped node) = []
 fault_of (answer.Started node) = []
 fault_of (answer.Planned taken) = []
+fault_of answer.Barrier = []
 fault_of (answer.Maintained lanes rested blocked disturbed) = []
 
 abbrev pub field_of : Answer → List ℕ
@@ -265,6 +270,7 @@ field_of (answer.TooManyOut out acks) = []
 field_of (answer.Stopped node) = []
 field_of (answer.Started node) = []
 field_of (answer.Planned taken) = []
+field_of answer.Barrier = []
 field_of (answer.Maintained lanes rested blocked disturbed) = []
 
 abbrev pub cause_of : Answer → List ℕ
@@ -294,6 +300,7 @@ cause_of (answer.TooManyOut out acks) = []
 cause_of (answer.Stopped node) = []
 cause_of (answer.Started node) = []
 cause_of (answer.Planned taken) = []
+cause_of answer.Barrier = []
 cause_of (answer.Maintained lanes rested blocked disturbed) = []
 
 abbrev pub id_of : Answer → List ℕ
@@ -323,6 +330,7 @@ id_of (answer.TooManyOut out acks) = []
 id_of (answer.Stopped node) = []
 id_of (answer.Started node) = []
 id_of (answer.Planned taken) = []
+id_of answer.Barrier = []
 id_of (answer.Maintained lanes rested blocked disturbed) = []
 
 abbrev pub fields_of : Answer → Option FieldMap
@@ -352,6 +360,7 @@ fields_of (answer.TooManyOut out acks) = None
 fields_of (answer.Stopped node) = None
 fields_of (answer.Started node) = None
 fields_of (answer.Planned taken) = None
+fields_of answer.Barrier = None
 fields_of (answer.Maintained lanes rested blocked disturbed) = None
 
 abbrev pub groups_of : Answer → Option (List Group)
@@ -381,6 +390,7 @@ groups_of (answer.TooManyOut out acks) = None
 groups_of (answer.Stopped node) = None
 groups_of (answer.Started node) = None
 groups_of (answer.Planned taken) = None
+groups_of answer.Barrier = None
 groups_of (answer.Maintained lanes rested blocked disturbed) = None
 
 -- ---- each part is read off the report
@@ -413,6 +423,7 @@ word_read line (answer.TooManyOut out acks) = refl
 word_read line (answer.Stopped node) = refl
 word_read line (answer.Started node) = refl
 word_read line (answer.Planned taken) = refl
+word_read line answer.Barrier = refl
 word_read line (answer.Maintained lanes rested blocked disturbed) = refl
 
 pub no_number : (line : ℕ) (word : List ℕ) (seen : Option Stamp) → numbers_in (members_outline (member (codes "line") (number (unsigned line)) (member (codes "result") (string word) (member (codes "seen") (seen_of seen) no_members)))) ≡ []
@@ -447,6 +458,7 @@ numbers_read line (answer.TooManyOut out acks) = refl
 numbers_read line (answer.Stopped node) = refl
 numbers_read line (answer.Started node) = refl
 numbers_read line (answer.Planned taken) = refl
+numbers_read line answer.Barrier = refl
 numbers_read line (answer.Maintained lanes rested blocked disturbed) = refl
 
 pub seen_read : (seen : Option Stamp) → some_text (Some (outline (seen_of seen))) ≡ option_map printed seen
@@ -481,6 +493,7 @@ stamp_read line (answer.TooManyOut out acks) = refl
 stamp_read line (answer.Stopped node) = refl
 stamp_read line (answer.Started node) = refl
 stamp_read line (answer.Planned taken) = refl
+stamp_read line answer.Barrier = refl
 stamp_read line (answer.Maintained lanes rested blocked disturbed) = refl
 
 pub taken_read : (line : ℕ) (a : Answer) → truth_in (or_else (look (codes "taken") (members_outline (members_of line a))) (look (codes "full") (members_outline (members_of line a)))) ≡ taken_of a
@@ -511,6 +524,7 @@ taken_read line (answer.TooManyOut out acks) = refl
 taken_read line (answer.Stopped node) = refl
 taken_read line (answer.Started node) = refl
 taken_read line (answer.Planned taken) = refl
+taken_read line answer.Barrier = refl
 taken_read line (answer.Maintained lanes rested blocked disturbed) = refl
 
 pub fault_read : (line : ℕ) (a : Answer) → text_in (look (codes "fault") (members_outline (members_of line a))) ≡ fault_of a
@@ -541,6 +555,7 @@ fault_read line (answer.TooManyOut out acks) = refl
 fault_read line (answer.Stopped node) = refl
 fault_read line (answer.Started node) = refl
 fault_read line (answer.Planned taken) = refl
+fault_read line answer.Barrier = refl
 fault_read line (answer.Maintained lanes rested blocked disturbed) = refl
 
 pub field_read : (line : ℕ) (a : Answer) → text_in (look (codes "field") (members_outline (members_of line a))) ≡ field_of a
@@ -571,6 +586,7 @@ field_read line (answer.TooManyOut out acks) = refl
 field_read line (answer.Stopped node) = refl
 field_read line (answer.Started node) = refl
 field_read line (answer.Planned taken) = refl
+field_read line answer.Barrier = refl
 field_read line (answer.Maintained lanes rested blocked disturbed) = refl
 
 pub cause_read : (line : ℕ) (a : Answer) → text_in (look (codes "cause") (members_outline (members_of line a))) ≡ cause_of a
@@ -601,6 +617,7 @@ cause_read line (answer.TooManyOut out acks) = refl
 cause_read line (answer.Stopped node) = refl
 cause_read line (answer.Started node) = refl
 cause_read line (answer.Planned taken) = refl
+cause_read line answer.Barrier = refl
 cause_read line (answer.Maintained lanes rested blocked disturbed) = refl
 
 pub id_read : (line : ℕ) (a : Answer) → text_in (look (codes "id") (members_outline (members_of line a))) ≡ id_of a
@@ -631,6 +648,7 @@ id_read line (answer.TooManyOut out acks) = refl
 id_read line (answer.Stopped node) = refl
 id_read line (answer.Started node) = refl
 id_read line (answer.Planned taken) = refl
+id_read line answer.Barrier = refl
 id_read line (answer.Maintained lanes rested blocked disturbed) = refl
 
 pub fields_read : (line : ℕ) (a : Answer) → some_object (look (codes "fields") (members_outline (members_of line a))) ≡ option_map outline_of (fields_of a)
@@ -661,6 +679,7 @@ fields_read line (answer.TooManyOut out acks) = refl
 fields_read line (answer.Stopped node) = refl
 fields_read line (answer.Started node) = refl
 fields_read line (answer.Planned taken) = refl
+fields_read line answer.Barrier = refl
 fields_read line (answer.Maintained lanes rested blocked disturbed) = refl
 
 pub groups_read : (line : ℕ) (a : Answer) → some_items (look (codes "groups") (members_outline (members_of line a))) ≡ option_map groups_outline (groups_of a)
@@ -691,4 +710,5 @@ groups_read line (answer.TooManyOut out acks) = refl
 groups_read line (answer.Stopped node) = refl
 groups_read line (answer.Started node) = refl
 groups_read line (answer.Planned taken) = refl
+groups_read line answer.Barrier = refl
 groups_read line (answer.Maintained lanes rested blocked disturbed) = refl

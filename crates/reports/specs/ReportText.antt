@@ -81,7 +81,6 @@ owned_elsewhere_members line owner version =
 abbrev pub cause_text : Cause → List ℕ
 cause_text cause.Json = codes "json"
 cause_text cause.Object = codes "object"
-cause_text cause.Unbuilt = codes "unbuilt"
 cause_text cause.Key = codes "key"
 cause_text cause.Id = codes "id"
 cause_text cause.Type = codes "type"
@@ -149,6 +148,7 @@ members_of line (answer.TooManyOut out acks) = too_many_out_members line out ack
 members_of line (answer.Stopped node) = count_members line (codes "node") node (codes "stopped")
 members_of line (answer.Started node) = count_members line (codes "node") node (codes "started")
 members_of line (answer.Planned taken) = planned_members line taken
+members_of line answer.Barrier = result_members line (codes "barrier")
 members_of line (answer.Maintained lanes rested blocked disturbed) = maintained_members line lanes rested blocked disturbed
 
 -- the report of an answer

@@ -128,6 +128,7 @@ CanBe types asked (answer.TooManyOut out acks) = IsCount out × IsCount acks
 CanBe types asked (answer.Stopped node) = IsCount node
 CanBe types asked (answer.Started node) = IsCount node
 CanBe types asked (answer.Planned taken) = Unit {0}
+CanBe types asked answer.Barrier = Unit {0}
 CanBe types asked (answer.Maintained lanes rested blocked disturbed) = IsCount lanes × IsCount rested × IsCount blocked × IsCount disturbed
 
 -- what is told of an answer: of a group how many documents it has is told only where that is an output

@@ -97,6 +97,8 @@ pub enum Answer {
     Planned {
         taken: bool,
     },
+    /// What was asked before is answered.
+    Barrier,
     /// Upkeep was made in so many lanes: in so many of them to the end, in so many an answer was missing, and in so
     /// many a late message came.
     Maintained {

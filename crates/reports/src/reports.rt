@@ -256,7 +256,6 @@ fn cause_text(cause: Cause) -> &'static str
     match cause {
         Cause::Json => "json",
         Cause::Object => "object",
-        Cause::Unbuilt => "unbuilt",
         Cause::Key => "key",
         Cause::Id => "id",
         Cause::Type => "type",
@@ -267,7 +266,7 @@ fn cause_text(cause: Cause) -> &'static str
     }
 }
 
-/// `{"cause":"unbuilt","line":5,"result":"badline"}`.
+/// `{"cause":"value","line":5,"result":"badline"}`.
 #[tactic(auto, unfolding(crate::specs::ReportText::bad_line_members))]
 fn bad_line_report(alloc: Global, line: u32, cause: Cause) -> Result<Vec<u8>, NoMemory>
     ensures { IfOk result (λ bytes. bytes.items ≡ line_text (bad_line_members line cause)) }
@@ -451,6 +450,7 @@ pub fn report(alloc: Global, line: u32, answer: &Answer) -> Result<Vec<u8>, NoMe
         Answer::Stopped { node } => count_report(alloc, line, "node", u64::from(*node), "stopped"),
         Answer::Started { node } => count_report(alloc, line, "node", u64::from(*node), "started"),
         Answer::Planned { taken } => planned_report(alloc, line, *taken),
+        Answer::Barrier => result_report(alloc, line, "barrier"),
         Answer::Maintained {
             lanes,
             rested,

@@ -11,7 +11,7 @@ use Rattle.messages.specs.declared.message.Message.{Message as Letter}
 use Rattle.messages.specs.declared.message.Origin.{Origin}
 use Rattle.messages.specs.declared.body.Body.{Body as LetterBody}
 use Rattle.messages.specs.declared.body.Body.TheVariants as body
-use Rattle.service_layer.specs.Nodes.{Node}
+use Rattle.node_model.specs.Nodes.{Node}
 use Rattle.distributor_part.specs.declared.rules.Rules.{Rules}
 use Rattle.distributor_part.specs.Parts.{Part}
 use Rattle.merge_rounds.specs.Rounds.{RoundState, did_show, HaveAllShown, IsNth, IsRead, IsApply, IsNext, after_send}

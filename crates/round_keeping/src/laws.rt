@@ -9,7 +9,7 @@ ghost use Rattle.messages.specs.declared.message.Message.{Message};
 ghost use Rattle.messages.specs.declared.reply.Reply.{Reply};
 ghost use Rattle.messages.specs.declared.noted.NotedReply.{NotedReply};
 ghost use Rattle.messages.specs.declared.decision.Decision.TheVariants.{RoundBegun, RoundEnded};
-ghost use Rattle.service_layer.specs.Nodes.{Node};
+ghost use Rattle.node_model.specs.Nodes.{Node};
 ghost use Rattle.merge_rounds.specs.Rounds.{RoundState, new_round, did_show, IsNext, after_send, after_read, IsAfterApply};
 ghost use Rattle.lane_journals.specs.Sets.{count};
 ghost use Rattle.lane_journals.specs.Readers.{opened, stopped};

@@ -6,7 +6,7 @@ use Rattle.cluster_states.specs.declared.cluster_state.ClusterState.{ClusterStat
 use Rattle.bucket_db.specs.Rows.{Rows, buckets_of}
 use Rattle.bucket_db.specs.Changes.{at_row, with_rows}
 use Rattle.bucket_db.specs.declared.row.Row.{Row}
-use Rattle.service_layer.specs.Nodes.{Node}
+use Rattle.node_model.specs.Nodes.{Node}
 use Rattle.distributor_part.specs.declared.rules.Rules.{Rules}
 use Rattle.distributor_part.specs.Parts.{Part, rows_of}
 use Rattle.distributor_part.specs.Upkeep.{AcceptsAt}

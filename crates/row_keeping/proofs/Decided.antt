@@ -8,7 +8,7 @@ use Rattle.bucket_db.specs.Rows.{Rows}
 use Rattle.bucket_db.specs.Changes.{with_rows}
 use Rattle.bucket_db.specs.declared.row.Row.{Row}
 use Rattle.messages.specs.declared.decision.Decision.{Decision}
-use Rattle.service_layer.specs.Nodes.{Node}
+use Rattle.node_model.specs.Nodes.{Node}
 use Rattle.distributor_part.specs.declared.rules.Rules.{Rules}
 use Rattle.distributor_part.specs.Parts.{Part}
 use Rattle.lane_journals.specs.Events as plain

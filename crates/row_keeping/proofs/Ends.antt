@@ -6,7 +6,7 @@ use Rattle.bucket_db.specs.Changes.{is_delete, after_delete, without_delete}
 use Rattle.bucket_db.specs.declared.row.Row.{Row}
 use Rattle.bucket_db.specs.declared.row.Deleting.{Deleting}
 use Rattle.messages.specs.declared.decision.Decision.TheVariants as choice
-use Rattle.service_layer.specs.Nodes.{Node}
+use Rattle.node_model.specs.Nodes.{Node}
 use Rattle.distributor_part.specs.declared.rules.Rules.{Rules}
 use Rattle.distributor_part.specs.Parts.{Part}
 use Rattle.distributor_part.specs.Upkeep.{EndsDelete}

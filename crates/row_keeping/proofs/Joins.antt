@@ -12,7 +12,7 @@ use Rattle.bucket_db.specs.Changes.{with_joined}
 use Rattle.bucket_db.specs.declared.row.Row.{Row}
 use Rattle.bucket_db.specs.declared.row.Deleting.{Deleting}
 use Rattle.messages.specs.declared.decision.Decision.TheVariants as choice
-use Rattle.service_layer.specs.Nodes.{Node}
+use Rattle.node_model.specs.Nodes.{Node}
 use Rattle.distributor_part.specs.declared.rules.Rules.{Rules}
 use Rattle.distributor_part.specs.Parts.{Part}
 use Rattle.distributor_part.specs.Upkeep.{JoinsRows}

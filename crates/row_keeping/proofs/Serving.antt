@@ -6,7 +6,7 @@ use Rattle.cluster_states.specs.Publishing.{serves}
 use Rattle.bucket_db.specs.Rows.{Rows}
 use Rattle.bucket_db.specs.declared.row.Row.{Row}
 use Rattle.bucket_db.specs.declared.row.Deleting.{Deleting}
-use Rattle.service_layer.specs.Nodes.{Node}
+use Rattle.node_model.specs.Nodes.{Node}
 use Rattle.distributor_part.specs.declared.rules.Rules.{Rules}
 use Rattle.distributor_part.specs.Parts.{Part}
 use Rattle.lane_journals.specs.Events.{Decided, DeleteFrom}

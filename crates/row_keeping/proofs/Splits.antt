@@ -8,7 +8,7 @@ use Rattle.bucket_db.specs.Changes.{with_row, split_at, first_half, second_half}
 use Rattle.bucket_db.specs.declared.row.Row.{Row}
 use Rattle.bucket_db.proofs.RowLaws.{split_is}
 use Rattle.messages.specs.declared.decision.Decision.TheVariants as choice
-use Rattle.service_layer.specs.Nodes.{Node}
+use Rattle.node_model.specs.Nodes.{Node}
 use Rattle.distributor_part.specs.declared.rules.Rules.{Rules}
 use Rattle.distributor_part.specs.Parts.{Part}
 use Rattle.distributor_part.specs.Upkeep.{SplitsRow}

@@ -8,8 +8,8 @@ use Rattle.messages.specs.declared.message.Message.{Message}
 use Rattle.messages.specs.declared.body.Body.{Body}
 use Rattle.messages.specs.declared.body.Body.TheVariants as body
 use Rattle.messages.specs.Noting.{noted_body}
-use Rattle.service_layer.specs.Nodes.{Node}
-use Rattle.service_layer.specs.Takes.{IsInside}
+use Rattle.node_model.specs.Nodes.{Node}
+use Rattle.node_model.specs.Takes.{IsInside}
 use Rattle.distributor_part.specs.declared.rules.Rules.{Rules}
 use Rattle.distributor_part.specs.Parts.{Part}
 use Rattle.lane_journals.specs.Stamps.{Stamp}

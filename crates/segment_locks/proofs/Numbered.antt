@@ -1,6 +1,7 @@
 -- A list of which each is so at its place, with one more at its end, and with one less; and the numbers that stand in one.
-use Rattle.std.proofs.Common.{◌≡◌, ◌≢◌, ◌<◌, ℕ, List, [], ◌∷◌, ◌++◌, map, length, get_or, Some, inl, inr, sym, ap, ◌∙◌, subst, slice_get}
+use Rattle.std.proofs.Common.{◌≡◌, ◌≢◌, ◌<◌, ◌+◌, ℕ, suc, List, [], ◌∷◌, ◌++◌, map, length, reverse, get_or, Some, inl, inr, refl, sym, ap, ◌∙◌, subst, slice_get, arith}
 use Rattle.std.specs.List.{remove}
+use Rattle.std.proofs.lemmas.List.{reverse-append, length-reverse}
 use Rattle.std.proofs.lemmas.Option.{get_or_from_slice_get}
 use Rattle.proof_basics.proofs.Options.{none_some, some_same}
 use Rattle.lane_core.proofs.Places.{skip, skip-back, get-remove, get-map-back, get-within, get-old, get-new, get-push-cases, map-remove}
@@ -22,6 +23,14 @@ module _ {A : Type 0} (P : ℕ → A → Type 0) where
     | inl old ↦ each place y old
     | inr new ↦ subst (λ (k : ℕ). P k y) (sym new.0) (subst (λ (z : A). P (length xs) z) (sym new.1) last)
   ]
+
+-- numbers that fall to 0 are their places from the end
+pub falling-reversed : (ns : List ℕ) → EachAt (λ place n. n + place + 1 ≡ length ns) ns → EachAt (λ place n. n ≡ place) (reverse ns)
+falling-reversed [] each = λ place n at. absurd (none_some n at)
+falling-reversed (m ∷ ns) each =
+    let less : EachAt (λ place n. n + place + 1 ≡ length ns) ns = λ place n at. omega (arith, each (suc place) n at) in
+    let last : m ≡ length (reverse ns) = omega (arith, each 0 m refl, length-reverse ns) in
+    each-longer (λ place n. n ≡ place) (reverse (m ∷ ns)) (reverse ns) m (reverse-append (m ∷ []) ns) (falling-reversed ns less) last
 
 pub each-less : {A : Type 0} (Q : A → Type 0) (all xs : List A) (i : ℕ) → all ≡ remove xs i → EachAt (λ _ y. Q y) xs → EachAt (λ _ y. Q y) all
 each-less {A} Q all xs i is each place y at = each (skip i place) y (sym (get-remove xs i place) ∙ (ap (λ (ys : List A). slice_get ys place) (sym is) ∙ at))

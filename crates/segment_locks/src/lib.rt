@@ -11,16 +11,14 @@
 //!
 //! ```text
 //! let locks = SegmentLocks::open(alloc, blank, lanes)?;   // or the lanes as they were
-//! locks.locks()                                          // lent to threads
+//! locks.locks()                                          // lent to threads: the lock at a place is that lane's
 //! locks.close()                                          // the lanes, in order
 //! ```
 #![tactic(auto)]
 
-pub mod lane_lock;
 pub mod lanes;
 pub mod laws;
 pub mod locks;
 
-pub use lane_lock::LaneLock;
 pub use lanes::{FedLane, ReadyLane};
 pub use locks::SegmentLocks;

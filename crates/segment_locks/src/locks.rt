@@ -5,10 +5,10 @@ ghost use Rattle.std.specs.Prelude.{Some, IfOk, IfErr};
 ghost use Rattle.segment_locks.specs.Powers.{powers, Stands};
 ghost use Rattle.segment_locks.specs.Lanes.{EachAt, IsReady, IsFed};
 
-use crate::lane_lock::LaneLock;
 use crate::lanes::{FedLane, ReadyLane};
 use carriers::Carrier;
 use lane_locks::{Segment, Slot};
+use line_feeders::LineLock;
 use shelves::Shelf;
 use std::alloc::Global;
 use std::marker::Model;
@@ -18,7 +18,7 @@ use value_lists::NoMemory;
 /// The locks of all lanes, with room for the lanes that come back.
 #[derive(Drop)]
 pub struct SegmentLocks<S: Segment<H::Name>, C: Carrier + Drop, H: Shelf + Drop> {
-    locks: Vec<LaneLock<S, C, H>>,
+    locks: Vec<LineLock<Slot<S, C, H>>>,
     /// All marks of the lanes.
     total: Total<S>,
     /// None of them.
@@ -29,6 +29,7 @@ pub struct SegmentLocks<S: Segment<H::Name>, C: Carrier + Drop, H: Shelf + Drop>
 
 impl<S: Segment<H::Name>, C: Carrier + Drop, H: Shelf + Drop> Model for SegmentLocks<S, C, H> {
     ghost use Rattle.std.specs.Prelude.{◌≡◌, ℕ, ◌+◌, ◌^◌, ◌≤◌, [], length, vec_capacity};
+    ghost use Rattle.segment_locks.specs.Lanes.{EachAt};
 
     ghost Value = { ℕ };
 
@@ -37,7 +38,8 @@ impl<S: Segment<H::Name>, C: Carrier + Drop, H: Shelf + Drop> Model for SegmentL
     ghost invariant = { λ l. (length l.locks.items ≤ 64) × (l.total.parts ≡ length l.locks.items)
         × (l.total.amount + 1 ≡ 2 ^ length l.locks.items) × (l.marks.parts ≡ 0) × (l.marks.amount ≡ 0)
         × (l.taken.items ≡ []) × (length l.locks.items ≤ vec_capacity l.taken)
-        × (l.lanes.items ≡ []) × (length l.locks.items ≤ vec_capacity l.lanes) };
+        × (l.lanes.items ≡ []) × (length l.locks.items ≤ vec_capacity l.lanes)
+        × EachAt (λ k n. n ≡ k) l.locks.items };
 }
 
 // ---- opening
@@ -45,7 +47,7 @@ impl<S: Segment<H::Name>, C: Carrier + Drop, H: Shelf + Drop> Model for SegmentL
 /// Room for so many locks, and for the lanes that come back.
 #[derive(Drop)]
 struct Room<S: Segment<H::Name>, C: Carrier + Drop, H: Shelf + Drop> {
-    locks: Vec<LaneLock<S, C, H>>,
+    locks: Vec<LineLock<Slot<S, C, H>>>,
     taken: Vec<FedLane<C, H>>,
     lanes: Vec<FedLane<C, H>>,
 }
@@ -81,20 +83,21 @@ fn lock_of<S: Segment<H::Name>, C: Carrier + Drop, H: Shelf + Drop>(
     number: u8,
     ready: ReadyLane<C, H>,
     mark: Share<S>,
-) -> LaneLock<S, C, H>
+) -> LineLock<Slot<S, C, H>>
     requires number { number < 64 }
     requires mark { (mark.parts ≡ 1) × (mark.amount ≡ 2 ^ number) }
     requires ready { IsReady H.name S.feeders S.began S.lines S.shelf number ready.lane ready.list }
+    ensures { result ≡ number }
 {
     let ReadyLane { lane, list } = ready;
-    LaneLock::new(Slot::new(number, lane, list, mark))
+    LineLock::new(Slot::new(number, lane, list, mark))
 }
 
 /// Each lane goes behind a lock, and all marks are in the total.
 fn lock_all<S: Segment<H::Name>, C: Carrier + Drop, H: Shelf + Drop>(
     blank: Blank,
     lanes: Vec<ReadyLane<C, H>>,
-    locks: &mut Vec<LaneLock<S, C, H>>,
+    locks: &mut Vec<LineLock<Slot<S, C, H>>>,
 ) -> (Total<S>, Share<S>)
     requires name { blank.name ≡ S.name }
     requires parts { (blank.parts ≡ S.parts) × (blank.parts ≡ length lanes.items) }
@@ -105,6 +108,7 @@ fn lock_all<S: Segment<H::Name>, C: Carrier + Drop, H: Shelf + Drop>(
     ensures parts { result.0.parts ≡ length lanes.items }
     ensures amount { result.0.amount + 1 ≡ 2 ^ length lanes.items }
     ensures rest { (result.1.parts ≡ 0) × (result.1.amount ≡ 0) }
+    ensures numbers { EachAt (λ k n. n ≡ k) locks.new.items }
 {
     let mut lanes = lanes;
     let (mut book, mut rest) = blank.open::<S>();
@@ -122,7 +126,7 @@ fn lock_all<S: Segment<H::Name>, C: Carrier + Drop, H: Shelf + Drop>(
 
 /// What the locks kept, with all their marks.
 fn take_all<S: Segment<H::Name>, C: Carrier + Drop, H: Shelf + Drop>(
-    locks: Vec<LaneLock<S, C, H>>,
+    locks: Vec<LineLock<Slot<S, C, H>>>,
     marks: &mut Share<S>,
     taken: &mut Vec<FedLane<C, H>>,
 )
@@ -136,7 +140,7 @@ fn take_all<S: Segment<H::Name>, C: Carrier + Drop, H: Shelf + Drop>(
 {
     let mut locks = locks;
     while let Some(lock) = locks.pop() {
-        let (number, lane, lines, stages, mark) = lock.into_slot().into_parts();
+        let (number, lane, lines, stages, mark) = lock.into_lines().into_parts();
         marks.merge(mark);
         taken.push_reserved(FedLane {
             number,
@@ -217,9 +221,10 @@ impl<S: Segment<H::Name>, C: Carrier + Drop, H: Shelf + Drop> SegmentLocks<S, C,
         })
     }
 
-    /// The locks, in the order of the lanes' numbers; who takes one tests which lane it has.
-    pub fn locks(&self) -> &[LaneLock<S, C, H>]
-        ensures { length result.now ≡ self.now }
+    /// The locks, each at the place of its lane's number.
+    pub fn locks(&self) -> &[LineLock<Slot<S, C, H>>]
+        ensures count { length result.now ≡ self.now }
+        ensures numbers { EachAt (λ k n. n ≡ k) result.now }
     {
         self.locks.as_slice()
     }

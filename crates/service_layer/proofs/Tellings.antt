@@ -19,9 +19,10 @@ use Rattle.view_changes.specs.Deeds.{Unites, is_seen, takes, changes_of as chang
 use Rattle.view_changes.specs.declared.change.LaneChange.{LaneChange}
 use Rattle.view_changes.specs.declared.change.LaneChange.TheVariants.{Adopt}
 use Rattle.view_changes.proofs.OrderLaws.{no-value-passes}
-use Rattle.service_layer.specs.Nodes.{Node, adopt}
-use Rattle.service_layer.specs.Takes.{done_reply}
-use Rattle.service_layer.specs.Telling.{kept_of, deed_in, deed_replied, changes_taken, after_first, adoption_of, told_in}
+use Rattle.node_model.specs.Nodes.{Node, adopt}
+use Rattle.service_layer.specs.Steps.{done_reply}
+use Rattle.node_model.specs.Telling.{kept_of, deed_in, deed_replied, changes_taken}
+use Rattle.service_layer.specs.Steps.{after_first, adoption_of, told_in}
 
 -- a message of a smaller version tells nothing
 pub older_tells : (x : Node) (m : Message) (v : ℕ) → m.version < x.version → [] ≡ changes_taken x m (reply.Newer v)

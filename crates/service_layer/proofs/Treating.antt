@@ -12,8 +12,9 @@ use Rattle.messages.specs.declared.reply.Reply.{Reply}
 use Rattle.pieces.specs.Told.{IsAnsweredAs}
 use Rattle.pieces.specs.declared.fault.StoreFault.{StoreFault}
 use Rattle.pieces.specs.declared.fault.StoreFault.TheVariants as fault
-use Rattle.service_layer.specs.Nodes.{Node, after_body}
-use Rattle.service_layer.specs.Takes.{Treats, Shows, IsReplyTo, told, shown_pieces, shown_entries, done_reply}
+use Rattle.node_model.specs.Nodes.{Node, after_body}
+use Rattle.node_model.specs.Takes.{Treats, told, shown_pieces, shown_entries}
+use Rattle.service_layer.specs.Steps.{Shows, IsReplyTo, done_reply}
 
 -- a body that changes what a node has
 pub treated : {A : Type 0} (x : Body) (old new : Node) (r : Result A StoreFault) → shown_pieces x old.pieces ≡ [] → shown_entries x old.entries ≡ fin.empty

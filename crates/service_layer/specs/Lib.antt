@@ -1,6 +1,4 @@
--- `Nodes` says what a node has and what an accepted body makes of it, `Takes` what is replied to a message, `Telling` which
--- changes of a view the node tells of it, and `Placing` where the documents of its parts are.
-pub mod Nodes
-pub mod Takes
-pub mod Telling
+-- `Placing` says where the documents of a node's parts are, and `Steps` has words for the steps of the code. What a node is,
+-- replies and tells is said in `node_model`.
 pub mod Placing
+pub mod Steps

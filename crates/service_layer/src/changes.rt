@@ -2,7 +2,7 @@
 
 ghost use Rattle.std.specs.Prelude.{◌≡◌, ◌<◌, List, [], ◌∷◌, length, slice_index_or, IfOk};
 ghost use Rattle.view_changes.specs.Deeds.{takes};
-ghost use Rattle.service_layer.specs.Telling.{after_first, IsSplit};
+ghost use Rattle.service_layer.specs.Steps.{after_first, IsSplit};
 
 use documents::SharedEntry;
 use std::alloc::Global;
@@ -42,7 +42,7 @@ impl Model for ChangeList {
     ghost use Rattle.std.specs.Coded.{coded_list};
     ghost use Rattle.view_changes.specs.declared.change.LaneChange.{LaneChange};
     ghost use Rattle.view_changes.specs.contracts.change.LaneChange as change;
-    ghost use Rattle.service_layer.specs.Telling.{after_first};
+    ghost use Rattle.service_layer.specs.Steps.{after_first};
 
     ghost Value = { List LaneChange };
 

@@ -1,10 +1,9 @@
 //! One storage node's part in one lane: what it replies to a message, and what it has then.
 //!
-//! A contract sees a `NodePart` as a `Node`: the greatest version of a message, entries, pieces, active
-//! regions, and the last serial that was drawn (`specs/Nodes.antt`). `NodePart::take` first compares
-//! versions, and then treats the body; `Takes` in `specs/Takes.antt` says for each message what is replied
-//! and what the node is then, and `changes_taken` in `specs/Telling.antt` which changes of a view of the lane it
-//! tells; a `ChangeList` is seen as the list of them. One contract serves a node alone and a lane that keeps a journal.
+//! A contract sees a `NodePart` as a `Node` of `node_model`. `NodePart::take` first compares versions, and then treats the
+//! body: `Takes` says for each message what is replied and what the node is then, and `changes_taken` which changes of a
+//! view of the lane it tells; a `ChangeList` is seen as the list of them. Its parts hold its entries (`specs/Placing.antt`).
+//! One contract serves a node alone and a lane that keeps a journal.
 //!
 //! ```text
 //! let mut node = NodePart::new(alloc, &schema)?;

@@ -6,10 +6,12 @@ ghost use Rattle.messages.specs.Noting.{noted_reply};
 ghost use Rattle.messages.specs.declared.body.Body.TheVariants as body;
 ghost use Rattle.pieces.specs.Told.{IsAnsweredAs};
 ghost use Rattle.replica_store.specs.Replicas.{LieIn, IsReplica};
-ghost use Rattle.service_layer.specs.Nodes.{new_node, adopt, stored, after_body};
+ghost use Rattle.node_model.specs.Nodes.{new_node, adopt, stored, after_body};
 ghost use Rattle.service_layer.specs.Placing.{ArePlaced};
-ghost use Rattle.service_layer.specs.Takes.{Takes, Treats, Shows, IsInside, IsKeyOf, HasRoom, told};
-ghost use Rattle.service_layer.specs.Telling.{kept_of, deed_replied, changes_taken, after_first, adoption_of};
+ghost use Rattle.node_model.specs.Takes.{Takes, Treats, IsInside, IsKeyOf, HasRoom, told};
+ghost use Rattle.service_layer.specs.Steps.{Shows};
+ghost use Rattle.node_model.specs.Telling.{kept_of, deed_replied, changes_taken};
+ghost use Rattle.service_layer.specs.Steps.{after_first, adoption_of};
 ghost use Rattle.view_changes.specs.Deeds.{Stores, Unites, Activates, is_seen, changes_of as changes_told};
 ghost use Rattle.entry_maps.specs.Entries.{is_newer, in_bucket};
 
@@ -54,7 +56,7 @@ pub struct NodePart {
 }
 
 impl Model for NodePart {
-    ghost use Rattle.service_layer.specs.Nodes.{Node, node_code};
+    ghost use Rattle.node_model.specs.Nodes.{Node, node_code};
 
     ghost Value = { Node };
 

@@ -3,9 +3,8 @@ ghost use Rattle.std.specs.Option.{option_copied};
 ghost use Rattle.std.specs.FinMap as fin;
 ghost use Rattle.messages.specs.Noting.{noted_reply};
 ghost use Rattle.messages.specs.declared.reply.Reply.TheVariants as reply;
-ghost use Rattle.service_layer.specs.Nodes.{only_entry};
-ghost use Rattle.service_layer.specs.Takes.{refusal, done_reply, IsReplyTo};
-ghost use Rattle.service_layer.specs.Telling.{after_first, told_in};
+ghost use Rattle.node_model.specs.Nodes.{only_entry};
+ghost use Rattle.service_layer.specs.Steps.{refusal, done_reply, IsReplyTo, after_first, told_in};
 
 use crate::changes::{ChangeList, LaterChanges};
 use documents::SharedEntry;

@@ -47,6 +47,7 @@ planned_push lane takes planned (x ∷ cs) c = planned_push lane takes (planned_
 same_line : (s : Setting) (us ws : List LineSpans) (lane : ℕ) (told : Told) (line : ℕ) (c : Asked) (deeds : List Deed) → spans_of line ws ≡ spans_of line us → with_line s ws lane told line c deeds ≡ with_line s us lane told line c deeds
 same_line s us ws lane told line command.Blank deeds same = refl
 same_line s us ws lane told line command.TooLong deeds same = refl
+same_line s us ws lane told line command.Barrier deeds same = refl
 same_line s us ws lane told line (command.Bad why) deeds same = refl
 same_line s us ws lane told line (command.Feed op via) deeds same = refl
 same_line s us ws lane told line (command.State state deaf) deeds same = refl
@@ -104,6 +105,7 @@ last_state (Some why) state deaf line deeds h = omega (arith, h)
 last_with : (s : Setting) (us : List LineSpans) (lane : ℕ) (told : Told) (line : ℕ) (c : Asked) (deeds : List Deed) → last_line (lines_of deeds) < line → last_line (lines_of (with_line s us lane told line c deeds)) < suc line
 last_with s us lane told line command.Blank deeds h = omega (arith, h)
 last_with s us lane told line command.TooLong deeds h = omega (arith, h)
+last_with s us lane told line command.Barrier deeds h = omega (arith, h)
 last_with s us lane told line (command.Bad why) deeds h = omega (arith, h)
 last_with s us lane told line (command.Feed op via) deeds h = last_if (lane_of_id s.bits op.id == lane) line op via deeds h
 last_with s us lane told line (command.State state deaf) deeds h = last_state (publish_fault told state) state deaf line deeds h
@@ -137,6 +139,7 @@ states_state s (Some why) state deaf told deeds h = h
 states_with : (s : Setting) (us : List LineSpans) (lane : ℕ) (told : Told) (line : ℕ) (c : Asked) (deeds : List Deed) → states_in s deeds ≡ told.states → states_in s (with_line s us lane told line c deeds) ≡ (told_next c told).states
 states_with s us lane told line command.Blank deeds h = h
 states_with s us lane told line command.TooLong deeds h = h
+states_with s us lane told line command.Barrier deeds h = h
 states_with s us lane told line (command.Bad why) deeds h = h
 states_with s us lane told line (command.Feed op via) deeds h = states_operation s lane line op via deeds (lane_of_id s.bits op.id == lane) ∙ h
 states_with s us lane told line (command.State state deaf) deeds h = states_state s (publish_fault told state) state deaf told deeds h
@@ -159,6 +162,7 @@ acks_with (Some why) state told = refl
 acks_next : (c : Asked) (told : Told) → (told_next c told).acks ≡ told.acks
 acks_next command.Blank told = refl
 acks_next command.TooLong told = refl
+acks_next command.Barrier told = refl
 acks_next (command.Bad why) told = refl
 acks_next (command.Feed op via) told = refl
 acks_next (command.State state deaf) told = acks_with (publish_fault told state) state told
@@ -194,6 +198,7 @@ events_with : (s : Setting) (us : List LineSpans) (lane other : ℕ) (told : Tol
     → deed_events s (with_line s us lane told line c ds) ≡ deed_events s (with_line s us other told line c es)
 events_with s us lane other told line command.Blank ds es h = h
 events_with s us lane other told line command.TooLong ds es h = h
+events_with s us lane other told line command.Barrier ds es h = h
 events_with s us lane other told line (command.Bad why) ds es h = h
 events_with s us lane other told line (command.Feed op via) ds es h =
     events_operation s line op via ds (lane_of_id s.bits op.id == lane) ∙ h ∙ sym (events_operation s line op via es (lane_of_id s.bits op.id == other))

@@ -164,6 +164,7 @@ all_move s k vs ws d = record {
 pub moves : (s : Setting) (plans : ℕ → List Fate) (cs : List Asked) (c : Asked) (old new : Cell) (k : ℕ) → IsKept s plans cs old → IsAfter s k c old new → Moves k old.lanes new.lanes
 moves s plans cs command.Blank old new k kept now = same_moves k old.lanes new.lanes (ap (λ (x : Cell). x.lanes) now)
 moves s plans cs command.TooLong old new k kept now = same_moves k old.lanes new.lanes (ap (λ (x : Cell). x.lanes) now)
+moves s plans cs command.Barrier old new k kept now = same_moves k old.lanes new.lanes (ap (λ (x : Cell). x.lanes) now)
 moves s plans cs (command.Bad why) old new k kept now = same_moves k old.lanes new.lanes (ap (λ (x : Cell). x.lanes) now)
 moves s plans cs (command.Feed op via) old new k kept now = operation_moves s plans cs op via old new k (lane_of_id s.bits op.id) now.0 kept now.1
 moves s plans cs (command.State state deaf) old new k kept now = told_moves s (publish_fault old.told state) state deaf old new k now
@@ -195,6 +196,7 @@ plans_seen vs ws same lane =
 pub answer_seen : (s : Setting) (told : Told) (j : ℕ) (c : Asked) (vs ws : Cell) → map without_room ws.lanes ≡ map without_room vs.lanes → ws.upkeeps ≡ vs.upkeeps → ws.fronts ≡ vs.fronts → answer_in s told j c ws ≡ answer_in s told j c vs
 answer_seen s told j command.Blank vs ws same spans fronts = refl
 answer_seen s told j command.TooLong vs ws same spans fronts = refl
+answer_seen s told j command.Barrier vs ws same spans fronts = refl
 answer_seen s told j (command.Bad why) vs ws same spans fronts = refl
 answer_seen s told j (command.Feed op via) vs ws same spans fronts = ap (operation_answer s j op.id) (journals_seen vs.lanes ws.lanes same)
 answer_seen s told j (command.State state deaf) vs ws same spans fronts = refl

@@ -335,6 +335,7 @@ kept_search s plans cs query old new k kept is now =
 pub kept_more : (s : Setting) (plans : ℕ → List Fate) (cs : List Asked) (c : Asked) (old new : Cell) (k : ℕ) → IsKept s plans cs old → k ≡ length cs + 1 → IsAfter s k c old new → IsKept s plans (cs ++ c ∷ []) new
 kept_more s plans cs command.Blank old new k kept is now = kept_plain s plans cs command.Blank old new k kept is (λ told. refl) (serves_same s plans cs old new k kept now) now
 kept_more s plans cs command.TooLong old new k kept is now = kept_plain s plans cs command.TooLong old new k kept is (λ told. refl) (serves_same s plans cs old new k kept now) now
+kept_more s plans cs command.Barrier old new k kept is now = kept_plain s plans cs command.Barrier old new k kept is (λ told. refl) (serves_same s plans cs old new k kept now) now
 kept_more s plans cs (command.Bad why) old new k kept is now = kept_plain s plans cs (command.Bad why) old new k kept is (λ told. refl) (serves_same s plans cs old new k kept now) now
 kept_more s plans cs (command.Feed op via) old new k kept is now = kept_operation s plans cs op via old new k now.0 kept is now.1
 kept_more s plans cs (command.State state deaf) old new k kept is now = kept_told s plans cs state deaf old new k kept is now
@@ -352,6 +353,7 @@ kept_more s plans cs (command.BadQuery offset) old new k kept is now = kept_plai
 pub noted_after : (s : Setting) (c : Asked) (old new : Cell) (k : ℕ) → IsAfter s k c old new → (c ≡ command.Maintain) ⊎ (new.upkeeps ≡ old.upkeeps)
 noted_after s command.Blank old new k now = inr (ap (λ (x : Cell). x.upkeeps) now)
 noted_after s command.TooLong old new k now = inr (ap (λ (x : Cell). x.upkeeps) now)
+noted_after s command.Barrier old new k now = inr (ap (λ (x : Cell). x.upkeeps) now)
 noted_after s (command.Bad why) old new k now = inr (ap (λ (x : Cell). x.upkeeps) now)
 noted_after s (command.Feed op via) old new k now = inr (ap (λ (x : Cell). x.upkeeps) (now.1).now)
 noted_after s (command.State state deaf) old new k now = inr (told_then k (publish_fault old.told state) state deaf old new now).upkeeps
@@ -375,6 +377,7 @@ leaves_spans s c old new k after = elim (noted_after s c old new k after) [
 pub read_after : (s : Setting) (c : Asked) (old new : Cell) (k : ℕ) → IsAfter s k c old new → ((query : Said) × (c ≡ command.Search query)) ⊎ (new.fronts ≡ old.fronts)
 read_after s command.Blank old new k now = inr (ap (λ (x : Cell). x.fronts) now)
 read_after s command.TooLong old new k now = inr (ap (λ (x : Cell). x.fronts) now)
+read_after s command.Barrier old new k now = inr (ap (λ (x : Cell). x.fronts) now)
 read_after s (command.Bad why) old new k now = inr (ap (λ (x : Cell). x.fronts) now)
 read_after s (command.Feed op via) old new k now = inr (ap (λ (x : Cell). x.fronts) (now.1).now)
 read_after s (command.State state deaf) old new k now = inr (told_then k (publish_fault old.told state) state deaf old new now).fronts

@@ -40,6 +40,7 @@ IsAskedBy types (Ok (said.Stop node)) a = a ≡ asked.Stop node
 IsAskedBy types (Ok (said.Start node)) a = a ≡ asked.Start node
 IsAskedBy types (Ok (said.Net lane fates)) a = a ≡ asked.Net lane fates
 IsAskedBy types (Ok said.Maintain) a = a ≡ asked.Maintain
+IsAskedBy types (Ok said.Barrier) a = a ≡ asked.Barrier
 IsAskedBy types (Err why) a = a ≡ asked.Bad why
 
 -- what a line asks for under a schema in a session of 2^bits lanes: a long one is too long, whatever its bytes
@@ -51,6 +52,7 @@ pub record IsAsked (types : Types) (bits : ℕ) (bytes : List ℕ) (a : Asked) :
 abbrev pub IsOwnAsked : ℕ → Asked → Type 0
 IsOwnAsked bits asked.Blank = Unit {0}
 IsOwnAsked bits asked.TooLong = Unit {0}
+IsOwnAsked bits asked.Barrier = Unit {0}
 IsOwnAsked bits (asked.Bad why) = Unit {0}
 IsOwnAsked bits (asked.Feed op via) = IsOwn op.id op.kind × (IsPlainGet op × IfSome via (λ number. number < 32))
 IsOwnAsked bits (asked.State state deaf) = Unit {0}

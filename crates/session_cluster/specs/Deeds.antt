@@ -29,6 +29,7 @@ told_with (Some why) state told = told
 abbrev pub told_next : Asked → Told → Told
 told_next command.Blank told = told
 told_next command.TooLong told = told
+told_next command.Barrier told = told
 told_next (command.Bad why) told = told
 told_next (command.Feed op via) told = told
 told_next (command.State state deaf) told = told_with (publish_fault told state) state told
@@ -62,6 +63,7 @@ with_state (Some why) state deaf deeds = deeds
 abbrev pub with_line : Setting → List LineSpans → ℕ → Told → ℕ → Asked → List Deed → List Deed
 with_line s us lane told line command.Blank deeds = deeds
 with_line s us lane told line command.TooLong deeds = deeds
+with_line s us lane told line command.Barrier deeds = deeds
 with_line s us lane told line (command.Bad why) deeds = deeds
 with_line s us lane told line (command.Feed op via) deeds = with_operation s lane line op via deeds
 with_line s us lane told line (command.State state deaf) deeds = with_state (publish_fault told state) state deaf deeds
@@ -88,6 +90,7 @@ deeds_of_lane s us lane cs = with_lines s us lane (first_told s) 1 cs []
 abbrev pub planned_next : ℕ → Bool → Asked → List Fate → List Fate
 planned_next lane takes command.Blank planned = planned
 planned_next lane takes command.TooLong planned = planned
+planned_next lane takes command.Barrier planned = planned
 planned_next lane takes (command.Bad why) planned = planned
 planned_next lane takes (command.Feed op via) planned = planned
 planned_next lane takes (command.State state deaf) planned = planned

@@ -101,6 +101,7 @@ found_answer_of types told q (Some fronts) Js = Some (answer.Search (search_answ
 abbrev pub answer_in : Setting → Told → ℕ → Asked → Cell → Option Answer
 answer_in s told line command.Blank cell = None
 answer_in s told line command.TooLong cell = Some answer.TooLong
+answer_in s told line command.Barrier cell = Some answer.Barrier
 answer_in s told line (command.Bad why) cell = Some (answer.BadLine why)
 answer_in s told line (command.Feed op via) cell = operation_answer s line op.id (journals cell.lanes)
 answer_in s told line (command.State state deaf) cell = state_answer (publish_fault told state) state

@@ -206,6 +206,7 @@ AreOpened vs ps = map first_view ps ≡ map unheard vs
 abbrev pub IsAfter : Setting → ℕ → Asked → Cell → Cell → Type 0
 IsAfter s line command.Blank old new = new ≡ record old { dealt = line }
 IsAfter s line command.TooLong old new = new ≡ record old { dealt = line }
+IsAfter s line command.Barrier old new = new ≡ record old { dealt = line }
 IsAfter s line (command.Bad why) old new = new ≡ record old { dealt = line }
 IsAfter s line (command.Feed op via) old new = (outcome : Outcome) × IsOperatedIn (lane_of_id s.bits op.id) line op via old new outcome
 IsAfter s line (command.State state deaf) old new = IsStateTold line (publish_fault old.told state) state deaf old new

@@ -56,6 +56,8 @@ pub enum Asked {
     },
     /// Upkeep is made in every lane.
     Maintain,
+    /// What was asked before is answered before what comes behind begins.
+    Barrier,
     /// Documents are searched for.
     Search {
         query: Parsed,
@@ -113,6 +115,7 @@ fn short_asked(
         Ok(Command::Start { node }) => Ok(Asked::Start { node }),
         Ok(Command::Net { lane, fates }) => Ok(Asked::Net { lane, fates }),
         Ok(Command::Maintain) => Ok(Asked::Maintain),
+        Ok(Command::Barrier) => Ok(Asked::Barrier),
         Err(LineFault::BadLine { cause }) => Ok(Asked::Bad { cause }),
         Err(LineFault::NoMemory) => Err(NoMemory),
     }

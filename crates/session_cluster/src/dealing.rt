@@ -71,6 +71,10 @@ impl<C: Carrier + Drop> Session<C> {
                 self.dealt = line;
                 Ok(Some(Answer::TooLong))
             }
+            Asked::Barrier => {
+                self.dealt = line;
+                Ok(Some(Answer::Barrier))
+            }
             Asked::Bad { cause } => {
                 self.dealt = line;
                 Ok(Some(Answer::BadLine { cause }))

@@ -63,6 +63,7 @@ fn command_told(alloc: Global, command: &Command) -> Option<String> {
         Command::Start { node } => shown(alloc, &("start", node)),
         Command::Net { lane, fates } => fates_told(alloc, *lane, fates.items()),
         Command::Maintain => shown(alloc, &"upkeep"),
+        Command::Barrier => shown(alloc, &"barrier"),
     }
 }
 
@@ -221,6 +222,7 @@ fn answer_of_state(kind: &str, number: u32) -> Answer {
         "BadQuery" => Answer::BadQuery { offset: number },
         "NoDistributor" => Answer::NoDistributor,
         "TooLong" => Answer::TooLong,
+        "Barrier" => Answer::Barrier,
         _ => Answer::NoMemory,
     }
 }

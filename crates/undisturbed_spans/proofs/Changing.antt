@@ -7,7 +7,7 @@ use Rattle.messages.specs.declared.message.Message.{Message}
 use Rattle.messages.specs.declared.reply.Reply.{Reply}
 use Rattle.messages.specs.declared.reply.Reply.TheVariants as reply
 use Rattle.messages.specs.Noting.{noted_body, noted_reply}
-use Rattle.service_layer.specs.Nodes.{Node}
+use Rattle.node_model.specs.Nodes.{Node}
 use Rattle.lane_journals.specs.Events as plain
 use Rattle.lane_journals.specs.Readers as readers
 use Rattle.lane_journals.specs.Readers.{or_else, only_if, sent, first_reply, round_in}

@@ -9,7 +9,7 @@ use Rattle.messages.specs.declared.late.Late.{Late}
 use Rattle.entry_maps.specs.Entries.{documents_of}
 use Rattle.pieces.specs.Runs.{AreRuns}
 use Rattle.messages.specs.declared.decision.Decision.TheVariants.{RoundBegun}
-use Rattle.service_layer.specs.Nodes as lane
+use Rattle.node_model.specs.Nodes as lane
 use Rattle.merge_rounds.specs.Rounds.{RoundState}
 use Rattle.lane_journals.specs.Readers.{version}
 use Rattle.lane_journals.specs.Places.{Setting}

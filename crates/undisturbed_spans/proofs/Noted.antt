@@ -16,7 +16,7 @@ use Rattle.pieces.specs.declared.piece.Piece.{Piece}
 use Rattle.messages.specs.declared.step.NodePieces.{NodePieces}
 use Rattle.pieces.specs.Pieces.{does_meet, is_piece}
 use Rattle.replica_store.specs.Replicas.{LieIn}
-use Rattle.service_layer.specs.Nodes.{Node}
+use Rattle.node_model.specs.Nodes.{Node}
 use Rattle.merge_rounds.specs.Rounds.{RoundState, HaveAllShown, did_show, pieces_by}
 use Rattle.lane_journals.specs.Buckets.{Id, key_of}
 use Rattle.lane_journals.specs.Readers.{Given, answer}

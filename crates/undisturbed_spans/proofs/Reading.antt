@@ -17,8 +17,8 @@ use Rattle.messages.specs.declared.reply.Reply.{Reply}
 use Rattle.messages.specs.declared.reply.Reply.TheVariants as reply
 use Rattle.messages.specs.declared.noted.NotedReply.{NotedReply}
 use Rattle.messages.specs.Noting.{noted_body, noted_reply}
-use Rattle.service_layer.specs.Takes.{Treats}
-use Rattle.service_layer.specs.Nodes as lane
+use Rattle.node_model.specs.Takes.{Treats}
+use Rattle.node_model.specs.Nodes as lane
 use Rattle.lane_journals.specs.Stamps.{Stamp}
 use Rattle.lane_journals.specs.Buckets.{Bucket, Id, key_of}
 use Rattle.lane_journals.specs.Events as plain

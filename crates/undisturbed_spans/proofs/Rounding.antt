@@ -12,7 +12,7 @@ use Rattle.messages.specs.declared.reply.Reply.{Reply}
 use Rattle.messages.specs.declared.reply.Reply.TheVariants as reply
 use Rattle.messages.specs.declared.noted.NotedReply.{NotedReply}
 use Rattle.messages.specs.Noting.{noted_body, noted_reply}
-use Rattle.service_layer.specs.Nodes as lane
+use Rattle.node_model.specs.Nodes as lane
 use Rattle.lane_journals.specs.Stamps.{newer}
 use Rattle.lane_journals.specs.Buckets.{Id, key_of}
 use Rattle.lane_journals.specs.Events as plain

@@ -6,7 +6,7 @@ use Rattle.carriers.specs.declared.fate.Fate.TheVariants.{Late}
 use Rattle.pieces.specs.Runs.{AreRuns}
 use Rattle.messages.specs.declared.message.Message.{Message}
 use Rattle.messages.specs.Noting.{noted_body}
-use Rattle.service_layer.specs.Nodes as lane
+use Rattle.node_model.specs.Nodes as lane
 use Rattle.lane_journals.specs.Events as plain
 use Rattle.lane_journals.specs.Readers.{or_else, only_if, sent, first_reply, returned}
 use Rattle.lane_journals.specs.Meanings.{history, meaning_reply}

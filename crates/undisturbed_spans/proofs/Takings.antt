@@ -4,9 +4,9 @@ use Rattle.std.proofs.lemmas.Bool.Decides.{nat_tests}
 use Rattle.messages.specs.declared.message.Message.{Message}
 use Rattle.messages.specs.declared.noted.NotedReply.{NotedReply}
 use Rattle.messages.specs.Noting.{noted_body}
-use Rattle.service_layer.specs.Nodes as lane
-use Rattle.service_layer.specs.Nodes.{adopt}
-use Rattle.service_layer.specs.Takes.{Treats}
+use Rattle.node_model.specs.Nodes as lane
+use Rattle.node_model.specs.Nodes.{adopt}
+use Rattle.node_model.specs.Takes.{Treats}
 use Rattle.lane_journals.specs.Readers as readers
 use Rattle.lane_journals.specs.Readers.{or_else, only_if, sent, first_reply, round_in, raised, version}
 use Rattle.lane_journals.specs.Meanings.{history, meaning_body, meaning_reply}

@@ -8,9 +8,9 @@ use Rattle.messages.specs.declared.reply.Reply.{Reply}
 use Rattle.messages.specs.declared.reply.Reply.TheVariants as reply
 use Rattle.messages.specs.declared.noted.NotedReply.{NotedReply}
 use Rattle.messages.specs.Noting.{noted_body, noted_reply}
-use Rattle.service_layer.specs.Nodes as lane
-use Rattle.service_layer.specs.Nodes.{adopt}
-use Rattle.service_layer.specs.Takes.{Treats}
+use Rattle.node_model.specs.Nodes as lane
+use Rattle.node_model.specs.Nodes.{adopt}
+use Rattle.node_model.specs.Takes.{Treats}
 use Rattle.lane_journals.specs.Events as plain
 use Rattle.lane_journals.specs.Readers as readers
 use Rattle.lane_journals.specs.Readers.{or_else, only_if, sent, first_reply, round_in, raised, version}

@@ -11,7 +11,7 @@ use Rattle.lane_journals.specs.Readers.{Given, Journal, answer}
 use Rattle.lane_keeping.specs.NodeKeeping.{stamp_of}
 use Rattle.lane_keeping.specs.Unions.{IsUnion}
 use Rattle.lane_journals.proofs.Order.{Le_none}
-use Rattle.service_layer.specs.Nodes as lane
+use Rattle.node_model.specs.Nodes as lane
 use Rattle.lane_rest.specs.Sets.{held_if, newest_below, newest_of}
 use Rattle.pass_model.proofs.Stamps.{Le-both, newest-most, newest-above, held-most}
 use Rattle.undisturbed_spans.specs.Telling.{held_in}

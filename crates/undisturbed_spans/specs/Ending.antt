@@ -9,7 +9,7 @@ use Rattle.carriers.specs.declared.fate.Fate.{Fate}
 use Rattle.entry_maps.specs.Entries.{documents_of}
 use Rattle.messages.specs.declared.late.Late.{Late}
 use Rattle.replica_store.specs.Replicas.{IsReplica}
-use Rattle.service_layer.specs.Nodes.{Node, stored}
+use Rattle.node_model.specs.Nodes.{Node, stored}
 use Rattle.merge_rounds.specs.Rounds.{RoundState, HaveAllShown, did_show, pieces_by}
 use Rattle.lane_journals.specs.Readers.{version}
 use Rattle.lane_journals.specs.Places.{Setting}

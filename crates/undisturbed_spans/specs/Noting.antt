@@ -6,7 +6,7 @@ use Rattle.bucket_ids.specs.Buckets.{Low}
 use Rattle.node_sets.specs.Members.{has_node}
 use Rattle.cluster_states.specs.declared.cluster_state.ClusterState.{ClusterState}
 use Rattle.cluster_states.specs.Publishing.{serves}
-use Rattle.service_layer.specs.Nodes.{Node}
+use Rattle.node_model.specs.Nodes.{Node}
 use Rattle.merge_rounds.specs.Rounds.{RoundState, HaveAllShown, IsOver, pieces_by}
 use Rattle.lane_journals.specs.Events.{Content}
 use Rattle.lane_journals.specs.declared.event.LaneEvent.{LaneEvent}

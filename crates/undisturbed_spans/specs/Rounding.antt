@@ -7,7 +7,7 @@ use Rattle.entry_maps.specs.EntryCodes.{Entries}
 use Rattle.pieces.specs.Pieces.{does_meet, is_piece}
 use Rattle.messages.specs.declared.body.Body.TheVariants as body
 use Rattle.messages.specs.declared.message.Message.{Message}
-use Rattle.service_layer.specs.Nodes as lane
+use Rattle.node_model.specs.Nodes as lane
 use Rattle.lane_journals.specs.Buckets.{Bucket, Id, key_of}
 use Rattle.lane_journals.specs.Events.{Content}
 use Rattle.lane_journals.specs.Readers.{Given, sent, first_reply, returned, answer, is_read, round_of}

@@ -6,7 +6,7 @@ use Rattle.cluster_states.specs.declared.cluster_state.ClusterState.{ClusterStat
 use Rattle.cluster_states.specs.Publishing.{serves}
 use Rattle.carriers.specs.declared.fate.Fate.{Fate}
 use Rattle.messages.specs.declared.late.Late.{Late}
-use Rattle.service_layer.specs.Nodes.{Node}
+use Rattle.node_model.specs.Nodes.{Node}
 use Rattle.lane_journals.specs.Events.{Content}
 use Rattle.lane_journals.specs.Readers.{version, round_of, running}
 use Rattle.lane_journals.specs.Meanings.{history}

@@ -10,7 +10,7 @@ use Rattle.messages.specs.declared.body.Body.TheVariants as body
 use Rattle.messages.specs.declared.message.Message.{Message}
 use Rattle.messages.specs.declared.reply.Reply.{Reply}
 use Rattle.messages.specs.Noting.{noted_reply}
-use Rattle.service_layer.specs.Nodes as lane
+use Rattle.node_model.specs.Nodes as lane
 use Rattle.lane_journals.specs.Buckets.{Bucket, Id, key_of}
 use Rattle.lane_journals.specs.Events as plain
 use Rattle.lane_journals.specs.Events.{Content}

@@ -4,7 +4,7 @@ ghost use Rattle.std.specs.Prelude.{ℕ, List};
 ghost use Rattle.bucket_ids.specs.Buckets.{Low};
 ghost use Rattle.carriers.specs.declared.fate.Fate.{Fate};
 ghost use Rattle.messages.specs.declared.late.Late.{Late};
-ghost use Rattle.service_layer.specs.Nodes.{Node};
+ghost use Rattle.node_model.specs.Nodes.{Node};
 ghost use Rattle.lane_journals.specs.declared.event.LaneEvent.{LaneEvent};
 ghost use Rattle.round_keeping.specs.declared.round_run.RoundRun.{RoundRun};
 ghost use Rattle.round_keeping.specs.declared.round_run.RoundEnd.{RoundEnd};

@@ -3,7 +3,7 @@
 ghost use Rattle.std.specs.Prelude.{◌≡◌, ℕ, List};
 ghost use Rattle.cluster_states.specs.declared.cluster_state.ClusterState.{ClusterState};
 ghost use Rattle.entry_maps.specs.Entries.{documents_of};
-ghost use Rattle.service_layer.specs.Nodes.{Node};
+ghost use Rattle.node_model.specs.Nodes.{Node};
 ghost use Rattle.merge_rounds.specs.Rounds.{RoundState};
 ghost use Rattle.bucket_ids.specs.Buckets.{Low};
 ghost use Rattle.lane_journals.specs.Places.{Setting};

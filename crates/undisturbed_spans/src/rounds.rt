@@ -6,7 +6,7 @@ ghost use Rattle.bucket_ids.specs.Buckets.{Low};
 ghost use Rattle.entry_maps.specs.EntryCodes.{Entries};
 ghost use Rattle.messages.specs.declared.body.Body.TheVariants as body;
 ghost use Rattle.messages.specs.declared.message.Message.{Message};
-ghost use Rattle.service_layer.specs.Nodes.{Node};
+ghost use Rattle.node_model.specs.Nodes.{Node};
 ghost use Rattle.lane_journals.specs.Buckets.{Id};
 ghost use Rattle.lane_journals.specs.Events.{Content};
 ghost use Rattle.lane_journals.specs.Readers.{Given, answer};

@@ -8,7 +8,7 @@ ghost use Rattle.lane_journals.specs.Readers.{first_reply, returned};
 ghost use Rattle.lane_journals.specs.Meanings.{history};
 ghost use Rattle.lane_journals.specs.declared.event.LaneEvent.{LaneEvent};
 ghost use Rattle.messages.specs.declared.message.Message.{Message};
-ghost use Rattle.service_layer.specs.Nodes.{Node};
+ghost use Rattle.node_model.specs.Nodes.{Node};
 ghost use Rattle.pass_model.specs.Scripts.{Script, Agrees};
 ghost use Rattle.lane_keeping.specs.Spans.{NodesGo};
 ghost use Rattle.undisturbed_spans.specs.Telling.{IsTaken, IsSaid, IsToldIn, IsFresh, IsAskedOf, IsShownIn};

@@ -6,7 +6,7 @@ ghost use Rattle.cluster_states.specs.declared.cluster_state.ClusterState.{Clust
 ghost use Rattle.carriers.specs.declared.fate.Fate.{Fate};
 ghost use Rattle.messages.specs.declared.late.Late.{Late};
 ghost use Rattle.lane_journals.specs.declared.event.LaneEvent.{LaneEvent};
-ghost use Rattle.service_layer.specs.Nodes.{Node};
+ghost use Rattle.node_model.specs.Nodes.{Node};
 ghost use Rattle.pass_model.specs.Scripts.{Script};
 ghost use Rattle.undisturbed_spans.specs.Running.{RunsQuietly, IsRunTo};
 

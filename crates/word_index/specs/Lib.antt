@@ -1,4 +1,3 @@
 pub mod Tokens
-pub mod Runs
 pub mod Index
 pub mod Kept

@@ -1,47 +1,49 @@
-ghost use Rattle.std.specs.Prelude.{◌≡◌, ◌++◌, ◌∷◌, [], IfOk};
-ghost use Rattle.word_index.specs.Tokens.{tokens_of};
-ghost use Rattle.word_index.specs.Runs.{run_of, run_with, closed};
+ghost use Rattle.std.specs.Prelude.{◌≡◌, ◌<◌, ◌+◌, ◌++◌, ◌∷◌, [], length, drop, map, filter, IfOk, OnOk, IsAscii};
+ghost use Rattle.std.specs.Char.{to_ascii_lowercase};
+ghost use Rattle.std.specs.List.{position_or_len};
+ghost use Rattle.word_index.specs.Tokens.{separates, has_bytes, tokens_of};
 
 use doc_types::TextList;
 use std::alloc::Global;
+use std::str;
 use value_lists::{NoMemory, TextValue};
 
-/// The tokens so far, and the bytes of the one under way.
-#[derive(Drop)]
-pub struct Words {
-    pub tokens: Vec<TextValue>,
-    pub word: String,
+/// How many bytes stand in front of the first that separates.
+fn end_of(bytes: &[u8]) -> usize
+    ensures { result ≡ position_or_len separates bytes.now }
+{
+    let mut at = 0;
+    while at < bytes.len() {
+        if !bytes[at].is_ascii_alphanumeric() {
+            return at;
+        }
+        at += 1;
+    }
+    at
 }
 
-impl Words {
-    /// The tokens, with the one under way where it has a byte.
-    fn close(self) -> Result<Vec<TextValue>, NoMemory>
-        ensures { IfOk result (λ tokens. tokens.items ≡ closed (run_of self)) }
-    {
-        let mut tokens = self.tokens;
-        if !self.word.is_empty() {
-            tokens.push(TextValue::of(self.word))?;
-        }
-        Ok(tokens)
-    }
+/// What stands behind a place.
+fn behind(bytes: &[u8], at: usize) -> &[u8]
+    requires { at < length bytes.now }
+    ensures { result.now ≡ drop (at + 1) bytes.now }
+{
+    &bytes[at + 1..]
+}
 
-    /// The words after one byte more.
-    fn with(self, alloc: Global, byte: u8) -> Result<Words, NoMemory>
-        ensures { IfOk result (λ words. run_of words ≡ run_with byte (run_of self)) }
-    {
-        if byte.is_ascii_alphanumeric() {
-            let mut word = self.word;
-            word.push(char::from(byte.to_ascii_lowercase()))?;
-            return Ok(Words {
-                tokens: self.tokens,
-                word,
-            });
-        }
-        Ok(Words {
-            tokens: self.close()?,
-            word: String::new(alloc),
-        })
+/// Adds a part of a text as a token, in lower case, if it has a byte.
+fn push_token(alloc: Global, tokens: &mut Vec<TextValue>, part: &[u8]) -> Result<(), NoMemory>
+    requires { IsAscii part.now }
+    ensures { OnOk result (tokens.new.items
+        ≡ tokens.old.items ++ filter has_bytes (map to_ascii_lowercase part.now ∷ [])) }
+{
+    if part.is_empty() {
+        return Ok(());
     }
+    let Ok(text) = str::from_utf8(part) else {
+        unreachable!();
+    };
+    tokens.push(TextValue::of(text.to_ascii_lowercase(alloc)?))?;
+    Ok(())
 }
 
 /// The tokens of a text.
@@ -55,12 +57,14 @@ pub fn tokens(alloc: Global, text: &str) -> Result<TextList, NoMemory>
 pub fn tokens_of_bytes(alloc: Global, bytes: &[u8]) -> Result<TextList, NoMemory>
     ensures { IfOk result (λ list. list ≡ tokens_of bytes.now) }
 {
-    let mut words = Words {
-        tokens: Vec::new(alloc),
-        word: String::new(alloc),
-    };
-    for byte in bytes {
-        words = words.with(alloc, *byte)?;
+    let mut tokens = Vec::new(alloc);
+    let mut rest = bytes;
+    let mut end = end_of(rest);
+    while end < rest.len() {
+        push_token(alloc, &mut tokens, &rest[..end])?;
+        rest = behind(rest, end);
+        end = end_of(rest);
     }
-    Ok(TextList::of(words.close()?))
+    push_token(alloc, &mut tokens, rest)?;
+    Ok(TextList::of(tokens))
 }

@@ -1,6 +1,6 @@
 use Rattle.feed_lines.proofs.SetLaws.{has_set_of}
 use Rattle.feed_lines.proofs.SettingLaws.{state_means, means_state, stop_means, means_stop, start_means, means_start, net_means, means_net}
-use Rattle.feed_lines.proofs.UpkeepLaws.{maintain_means, means_maintain}
+use Rattle.feed_lines.proofs.TruthLaws.{maintain_means, means_maintain, barrier_means, means_barrier}
 use Rattle.feed_lines.proofs.laws.other_lines_are_settings.Goals as goal
 
 pub returns-clause-state : goal.returns-clause-state
@@ -17,6 +17,9 @@ returns-clause-net c = λ types bits d lane fates. (net_means types bits d lane 
 
 pub returns-clause-maintain : goal.returns-clause-maintain
 returns-clause-maintain c = λ types bits d. (maintain_means types bits d, means_maintain types bits d)
+
+pub returns-clause-barrier : goal.returns-clause-barrier
+returns-clause-barrier c = λ types bits d. (barrier_means types bits d, means_barrier types bits d)
 
 pub returns-clause-members : goal.returns-clause-members
 returns-clause-members c = has_set_of

@@ -1,7 +1,7 @@
 use Rattle.serde_json.specs.View.{view}
 use Rattle.feed_lines.proofs.SettingLaws.{state_is, stop_is, start_is, net_is}
 use Rattle.feed_lines.proofs.SearchLaws.{search_is}
-use Rattle.feed_lines.proofs.UpkeepLaws.{maintain_is}
+use Rattle.feed_lines.proofs.TruthLaws.{maintain_is, barrier_is}
 use Rattle.feed_lines.proofs.reading.own_command.Goals as goal
 
 pub returns-in-Search : goal.returns-in-Search
@@ -21,3 +21,6 @@ returns-in-Net c = rw c.in-Net.is (rw (net_is c.args.schema.now c.args.bits (vie
 
 pub returns-in-Maintain : goal.returns-in-Maintain
 returns-in-Maintain c = rw c.in-Maintain.is (rw (maintain_is c.args.schema.now c.args.bits (view c.args.line.now)) at c.maintain_command.ensures)
+
+pub returns-in-Barrier : goal.returns-in-Barrier
+returns-in-Barrier c = rw c.in-Barrier.is (rw (barrier_is c.args.schema.now c.args.bits (view c.args.line.now)) at c.barrier_command.ensures)

@@ -8,6 +8,7 @@ use Rattle.round_keeping.specs.RoundRuns.{IsRunning, IsRunBy, MayBegin}
 use Rattle.lane_journals.specs.Readers.{Journal, sent}
 use Rattle.lane_lines.specs.Readying.{HasSent, OfSearches, IsCutOffWith, HasRowFor}
 use Rattle.proof_basics.proofs.Results.{on-err}
+use Rattle.lane_states.proofs.Giving.{gives_same}
 use Rattle.lane_lines.proofs.Entries.{adds-none, adds-on}
 use Rattle.lane_lines.proofs.EntryFree.{adds-begun, adds-whole, adds-cut}
 use Rattle.lane_lines.proofs.RunningSteps.{unsent-since, quiet-same}
@@ -81,6 +82,18 @@ returns-in_err-reserve-clause-cut g c =
     let cut : OfSearches x d key (λ from line o s stamp. IsCutOffWith from x n line o d s stamp) =
     λ line o s stamp w same from has none. cut-nothing from x n line o d s stamp (nothing-done from x n line o d s stamp (rw c.in_err-reserve.ensures.items refl) w) in
     on-err c.from_residual.result _ cut
+
+pub returns-in_err-reserve-clause-gives : goal.returns-in_err-reserve-clause-gives
+returns-in_err-reserve-clause-gives g c = gives_same _ _ refl
+
+pub returns-in_default-clause-gives : goal.returns-in_default-clause-gives
+returns-in_default-clause-gives g c = gives_same _ _ refl
+
+pub returns-in_err-end-clause-gives : goal.returns-in_err-end-clause-gives
+returns-in_err-end-clause-gives g c = let on = c.in_err-end.ensures.cut.on in (on.fates, on.given_are)
+
+pub returns-clause-gives : goal.returns-clause-gives
+returns-clause-gives g c = let on = c.in_ok-end.ensures.whole.on in (on.fates, on.given_are)
 
 pub returns-in_err-reserve-clause-quiet : goal.returns-in_err-reserve-clause-quiet
 returns-in_err-reserve-clause-quiet g c =

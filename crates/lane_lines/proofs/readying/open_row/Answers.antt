@@ -4,6 +4,7 @@ use Rattle.lane_states.specs.LaneStates.{journal_of}
 use Rattle.proof_basics.proofs.Results.{if_ok, on_err}
 use Rattle.lane_rounds.proofs.Askings.{on-err}
 use Rattle.lane_lines.proofs.RunningSteps.{quiet-on}
+use Rattle.lane_states.proofs.Giving.{gives_then}
 use Rattle.lane_lines.proofs.Entries.{adds-on}
 use Rattle.bucket_ids.specs.Buckets.{Low}
 use Rattle.lane_keeping.specs.Acting.{IsActing}
@@ -76,6 +77,9 @@ returns-in-None-clause-cut g c =
     let z = c.fill_row.new.lane in
     on_err c.fill_row.result (λ h. cuts-then x y z c.args.distributor c.args.key (ap (λ (w : LaneState). w.lane) c.open_for_line.ensures.after) (ap (λ (w : LaneState). w.rules) c.open_for_line.ensures.after)
     c.in_ok-shortage.ensures.goes_on (λ line o s stamp w e. opened-so (search_from x) y c.args.distributor line o s c.in_ok-shortage.field-0 (c.in_ok-shortage.ensures.opens line o s stamp w e) c.in-None.is) h) c.fill_row.ensures.cut
+
+pub returns-in-None-clause-gives : goal.returns-in-None-clause-gives
+returns-in-None-clause-gives g c = gives_then _ _ _ c.open_for_line.ensures.gives c.fill_row.ensures.gives
 
 pub returns-in-None-clause-quiet : goal.returns-in-None-clause-quiet
 returns-in-None-clause-quiet g c =

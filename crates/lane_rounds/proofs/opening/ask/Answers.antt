@@ -1,4 +1,4 @@
-use Rattle.std.proofs.Common.{rules, ◌≡◌, ◌<◌, ◌+◌, ◌∷◌, inr, length, Some, refl, sym, subst}
+use Rattle.std.proofs.Common.{rules, ◌≡◌, ◌<◌, ◌+◌, [], ◌∷◌, inr, length, Some, refl, sym, subst}
 use Rattle.messages.specs.declared.body.Body.{Body}
 use Rattle.distributor_part.specs.Parts.{Part}
 use Rattle.lane_journals.specs.Meanings.{entry_at}
@@ -8,6 +8,7 @@ use Rattle.lane_keeping.specs.LaneKeeping.{part_in}
 use Rattle.lane_keeping.proofs.Parts.{part-others}
 use Rattle.lane_states.specs.declared.lane_state.LaneState.{LaneState}
 use Rattle.lane_states.specs.LaneStates.{journal_of}
+use Rattle.lane_states.proofs.Giving.{gives_same}
 use Rattle.lane_states.proofs.Places.{part-at}
 use Rattle.lane_rounds.proofs.AskExchanges.{settled-came, heard-came, others-came, kept-came, went-told}
 use Rattle.lane_rounds.proofs.Telling.{awaited-at}
@@ -75,6 +76,12 @@ returns-clause-others g c =
 
 pub returns-clause-went : goal.returns-clause-went
 returns-clause-went g c = went-told c.args.lane.now c.exchange.new.self _ c.args.message _ _ refl refl refl c.in_ok-reply.ensures.exchanged.went
+
+pub returns-clause-gives : goal.returns-clause-gives
+returns-clause-gives g c = let w = c.in_ok-reply.ensures.exchanged.went in (w.fate ∷ [], w.fates)
+
+pub returns-in_err-reply-clause-gives : goal.returns-in_err-reply-clause-gives
+returns-in_err-reply-clause-gives g c = gives_same _ _ c.in_err-reply.ensures.given
 
 pub returns-clause-settled : goal.returns-clause-settled
 returns-clause-settled g c =

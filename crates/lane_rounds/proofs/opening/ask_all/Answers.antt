@@ -5,6 +5,7 @@ use Rattle.lane_states.specs.LaneStates.{journal_of, part_of}
 use Rattle.lane_rounds.specs.Openings.{AsksOn, AsksOne, IsOpenedNow, IsLacking, Nobody, StopsAfter}
 use Rattle.lane_rounds.proofs.Askings.{moved, fewer-left, asked-more, others-more, opened-after, lacks-after, stops-after, on-err}
 use Rattle.lane_rounds.proofs.Shortages.{not-ended, or-none, none-nothing, none-asked, once-asked, none-opened, none-same, once-none}
+use Rattle.lane_states.proofs.Giving.{gives_same, gives_then}
 use Rattle.lane_states.proofs.NodeSpans.{on-same, on-then}
 use Rattle.lane_rounds.proofs.opening.ask_all.Goals as goal
 
@@ -16,6 +17,7 @@ asking-init g c = record {
   carried = c.requires.carried;
   planned = refl;
   kind = refl;
+  gives = gives_same _ _ refl;
   opening = c.requires.opening;
   asked = Nobody;
   fine = λ it. refl;
@@ -48,6 +50,7 @@ asking-preserved g c =
       carried = c.in_ok-one.ensures.carried;
       planned = c.in_ok-one.ensures.planned ∙ i.planned;
       kind = c.in_ok-one.ensures.kind ∙ i.kind;
+      gives = gives_then _ _ _ i.gives c.in_ok-one.ensures.gives;
       opening = one.opening;
       asked = rw c.either-short.ensures (asked-more x y z d c.asking.short i.keeps i.asked i.after c.in-Further.one one);
       fine = λ it. not-ended c.args.at_shortage c.either-short.result (sym c.if-ends.ensures) it;
@@ -82,6 +85,18 @@ returns-in_err-one-clause-stops g c =
     let d = c.args.distributor in
     let i = c.asking.invariant in
     on-err _ (StopsAfter x d (journal_of z) (part_of z d)) (stops-after x y z d c.asking.short i.keeps i.asked i.after i.opening c.in_err-one.ensures.stops)
+
+pub returns-in-Opened-clause-gives : goal.returns-in-Opened-clause-gives
+returns-in-Opened-clause-gives g c = gives_then _ _ _ c.asking.invariant.gives c.in_ok-one.ensures.gives
+
+pub returns-in-Lacks-clause-gives : goal.returns-in-Lacks-clause-gives
+returns-in-Lacks-clause-gives g c = gives_then _ _ _ c.asking.invariant.gives c.in_ok-one.ensures.gives
+
+pub returns-in_err-one-clause-gives : goal.returns-in_err-one-clause-gives
+returns-in_err-one-clause-gives g c = gives_then _ _ _ c.asking.invariant.gives c.in_err-one.ensures.gives
+
+pub returns-then-ends-clause-gives : goal.returns-then-ends-clause-gives
+returns-then-ends-clause-gives g c = gives_then _ _ _ c.asking.invariant.gives c.in_ok-one.ensures.gives
 
 pub returns-in-Opened-clause-took : goal.returns-in-Opened-clause-took
 returns-in-Opened-clause-took g c = on-then c.args.lane.now c.asking.lane c.ask_next.new.lane c.asking.invariant.took c.in_ok-one.ensures.took

@@ -1,7 +1,7 @@
 use Rattle.std.proofs.Common.{◌≡◌, ◌-◌, false, vec_len}
 use Rattle.node_sets.specs.Members.{size_of}
 use Rattle.lane_keeping.specs.Asking.{OthersStay}
-use Rattle.lane_states.specs.LaneStates.{journal_of, IsKept, HasRoom, IsCarriedBy, NodesOn, part_of}
+use Rattle.lane_states.specs.LaneStates.{journal_of, IsKept, HasRoom, IsCarriedBy, GivesOn, NodesOn, part_of}
 use Rattle.lane_rounds.specs.Openings.{IsOpening, IsAsked}
 use Rattle.lane_states.specs.Shortages.{WhereItEnds, NoneIsShort}
 use Rattle.lane_rounds.proofs.opening.ask_all.Given as goal
@@ -15,6 +15,7 @@ invariant-asking g l = record {
   carried : IsCarriedBy l.lane (g.C.Carrier.given l.carrier);
   planned : g.C.Carrier.planned l.carrier ≡ g.C.Carrier.planned l.fn.carrier;
   kind : g.C.Carrier.takes_plans l.carrier ≡ g.C.Carrier.takes_plans l.fn.carrier;
+  gives : GivesOn (g.C.Carrier.given l.fn.carrier) (g.C.Carrier.given l.carrier);
   opening : IsOpening (part_of l.lane l.distributor);
   asked : IsAsked l.fn.lane.lane l.fn.lane.rules l.distributor (journal_of l.fn.lane) (part_of l.fn.lane l.distributor) (journal_of l.lane) (part_of l.lane l.distributor) l.short;
   fine : WhereItEnds l.at_shortage (l.short ≡ false);

@@ -7,6 +7,7 @@ use Rattle.lane_rounds.specs.Openings.{IsNext, IsAskNext, IsOpenedNow}
 use Rattle.lane_rounds.proofs.AskExchanges.{asked-small}
 use Rattle.lane_rounds.proofs.Going.{stays-carried, other-carried, gone-by}
 use Rattle.lane_rounds.proofs.Opened.{more-asked, opening-after}
+use Rattle.lane_states.proofs.Giving.{gives_same}
 use Rattle.lane_states.proofs.NodeSpans.{on-same, on-then}
 use Rattle.lane_rounds.proofs.NodeSpans.{on-next}
 use Rattle.lane_keeping.specs.LaneKeeping.{node_in}
@@ -52,6 +53,15 @@ returns-in-Opened-clause-carried g c =
     let y = c.opening_step.new.lane in
     let a : IsOpenedNow x y c.args.distributor = subst (λ (s : OpeningStep). IsNext x y c.args.distributor s) c.in-Opened.is c.in_ok-message.ensures.next in
     other-carried x y _ _ tt a.grows (ap (λ (z : LaneState). z.late.late) c.in_ok-message.ensures.after) (ap (λ (z : LaneState). z.last) c.in_ok-message.ensures.after) c.requires.carried
+
+pub returns-in_err-message-clause-gives : goal.returns-in_err-message-clause-gives
+returns-in_err-message-clause-gives g c = gives_same _ _ refl
+
+pub returns-in-Opened-clause-gives : goal.returns-in-Opened-clause-gives
+returns-in-Opened-clause-gives g c = gives_same _ _ refl
+
+pub returns-in-Lacks-clause-gives : goal.returns-in-Lacks-clause-gives
+returns-in-Lacks-clause-gives g c = gives_same _ _ refl
 
 pub returns-in_err-message-clause-took : goal.returns-in_err-message-clause-took
 returns-in_err-message-clause-took g c = on-same c.args.lane.now c.opening_step.new.lane c.in_err-message.ensures.stays.journal (λ n. ap (λ (w : LaneState). node_in w.nodes.items n) c.in_err-message.ensures.after)

@@ -1,5 +1,5 @@
 use Rattle.std.proofs.Common.{◌≡◌, ◌++◌, ◌∷◌, ◌∙◌, ℕ, zero, suc, List, [], length, refl, ap, arith, length-append}
-use Rattle.service_layer.specs.Nodes.{Node, new_node}
+use Rattle.node_model.specs.Nodes.{Node, new_node}
 use Rattle.lane_keeping.specs.LaneKeeping.{node_in}
 use Rattle.lane_states.proofs.parts.make_nodes.Goals as goal
 

@@ -1,4 +1,5 @@
 use Rattle.std.proofs.Common.{inl, inr, refl, rules}
+use Rattle.lane_states.proofs.Giving.{gives_then}
 use Rattle.lane_upkeep.proofs.Reaching.{passes-reach}
 use Rattle.lane_upkeep.proofs.Resting.{rests-if}
 use Rattle.lane_upkeep.proofs.maintaining.maintain.Goals as goal
@@ -34,6 +35,9 @@ returns-then-not-branch-clause-passes g c =
       opening = c.open_owner.ensures.on;
       behind = inr (c.in_ok-open_owner.ensures.lacking c.if-not-branch.true, refl, refl);
     }
+
+pub returns-clause-gives : goal.returns-clause-gives
+returns-clause-gives g c = gives_then _ _ _ c.open_owner.ensures.gives c.make_pass.ensures.gives
 
 pub returns-clause-run : goal.returns-clause-run
 returns-clause-run g c =

@@ -3,6 +3,7 @@ use Rattle.node_sets.specs.Members.{has_node}
 use Rattle.node_sets.proofs.Bits.{has_none}
 use Rattle.lane_states.specs.declared.lane_state.LaneState.{LaneState}
 use Rattle.lane_states.specs.LaneStates.{journal_of}
+use Rattle.lane_states.proofs.Giving.{gives_same}
 use Rattle.lane_rounds.proofs.Shortages.{none-nothing, once-still}
 use Rattle.lane_upkeep.proofs.Betweens.{passes-none, between-on, passing-of, open-now, opened-passes, stopped-passes, none-run-on}
 use Rattle.lane_upkeep.proofs.QuietOpenings.{opened-quietly}
@@ -10,6 +11,9 @@ use Rattle.lane_upkeep.proofs.maintaining.open_owner.Goals as goal
 
 pub returns-then-is_opened-clause-on : goal.returns-then-is_opened-clause-on
 returns-then-is_opened-clause-on g c = passes-none c.args.lane.now c.args.owner.now
+
+pub returns-then-is_opened-clause-gives : goal.returns-then-is_opened-clause-gives
+returns-then-is_opened-clause-gives g c = gives_same _ _ refl
 
 pub returns-in-Ok-clause-on : goal.returns-in-Ok-clause-on
 returns-in-Ok-clause-on g c =

@@ -1,6 +1,7 @@
 use Rattle.pass_machine.specs.declared.doing.UpkeepStep.TheVariants.{Tell, Decide, Accept, Round, Finished}
 use Rattle.std.proofs.Common.{refl, subst}
 use Rattle.pass_machine.specs.declared.doing.UpkeepStep.{UpkeepStep}
+use Rattle.lane_states.proofs.Giving.{gives_same}
 use Rattle.lane_upkeep.specs.UnderWay.{IsNextStep}
 use Rattle.lane_upkeep.proofs.Going.{on_none}
 use Rattle.lane_upkeep.proofs.NextSteps.{comes_next}
@@ -49,6 +50,18 @@ returns-in-Accept-clause-quiet g c = does_step c.passes_stand.ensures.over c.arg
 pub returns-in_ok-round-in-Round-clause-quiet : goal.returns-in_ok-round-in-Round-clause-quiet
 returns-in_ok-round-in-Round-clause-quiet g c = does_step c.passes_stand.ensures.over c.args.lane.now c.round.new.lane c.args.owner.now (g.C.Carrier.given c.args.carrier.now) (g.C.Carrier.given c.round.new.carrier) c.args.pass.now
     c.next_of.new.pass c.round.new.pass _ c.requires.passing c.rows_are_whole.ensures.whole c.in-Round.ensures.comes c.in_ok-round-in-Round.ensures.quiet
+
+pub returns-in-Finished-clause-gives : goal.returns-in-Finished-clause-gives
+returns-in-Finished-clause-gives g c = gives_same _ _ refl
+
+pub returns-in-Accept-clause-gives : goal.returns-in-Accept-clause-gives
+returns-in-Accept-clause-gives g c = gives_same _ _ refl
+
+pub returns-in_ok-decide-in-Decide-clause-gives : goal.returns-in_ok-decide-in-Decide-clause-gives
+returns-in_ok-decide-in-Decide-clause-gives g c = gives_same _ _ refl
+
+pub returns-in_err-decide-in-Decide-clause-gives : goal.returns-in_err-decide-in-Decide-clause-gives
+returns-in_err-decide-in-Decide-clause-gives g c = gives_same _ _ refl
 
 pub returns-in-Finished-clause-takes : goal.returns-in-Finished-clause-takes
 returns-in-Finished-clause-takes g c = record { whole = c.rows_are_whole.ensures.whole; on = on_none c.args.lane.now c.args.owner.now; step = Finished; next = c.next_of.new.pass; comes = c.in-Finished.ensures.comes; may = tt; does = (refl, refl, refl, refl) }

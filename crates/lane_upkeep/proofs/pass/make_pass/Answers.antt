@@ -1,6 +1,7 @@
 use Rattle.std.proofs.Common.{◌≡◌, ◌∙◌, ◌<◌, ◌^◌, ℕ, Option, Some, None, refl, sym, subst}
 use Rattle.pass_machine.specs.declared.doing.Doing.{Doing}
 use Rattle.pass_machine.specs.declared.notes.RowNote.{RowNote}
+use Rattle.lane_states.proofs.Giving.{gives_same, gives_then}
 use Rattle.lane_upkeep.specs.UnderWay.{KnowsDoing}
 use Rattle.lane_upkeep.proofs.Going.{on_none, on_then}
 use Rattle.lane_upkeep.proofs.Standings.{does_begin, does_more, does_finish}
@@ -22,6 +23,7 @@ loop-pass-init g c =
       on = on_none x o;
       planned = refl;
       kind = refl;
+      gives = gives_same _ _ refl;
       under_way = record {
         notes = λ number note has. absurd (no-note _ note (begins.no_notes number) has);
         doing = subst (λ (d : Doing). KnowsDoing x o d) (sym begins.begins) tt;
@@ -47,6 +49,7 @@ loop-pass-preserved g c =
       on = on_then x m e o i.on h.on;
       planned = h.planned ∙ i.planned;
       kind = h.kind ∙ i.kind;
+      gives = gives_then _ _ _ i.gives h.gives;
       under_way = c.in_ok-go_on.ensures.under_way;
       run = run_more x m e o c.loop-pass.pass c.go_on.new.pass (g.C.Carrier.given c.args.carrier.now) (g.C.Carrier.given c.loop-pass.carrier) (g.C.Carrier.given c.go_on.new.carrier) i.run
           (subst (GoesOneOn m e o c.loop-pass.pass c.go_on.new.pass (g.C.Carrier.given c.loop-pass.carrier) (g.C.Carrier.given c.go_on.new.carrier)) c.if-branch.true c.in_ok-go_on.ensures.takes);
@@ -54,6 +57,12 @@ loop-pass-preserved g c =
       quiet = does_more c.undisturbed_spans_part.ensures.first c.undisturbed_spans_part.ensures.second x m e o (g.C.Carrier.given c.args.carrier.now) (g.C.Carrier.given c.loop-pass.carrier) (g.C.Carrier.given c.go_on.new.carrier) c.loop-pass.pass c.go_on.new.pass
           i.on h.on i.passing h.passing i.quiet c.in_ok-go_on.ensures.quiet;
     }
+
+pub returns-in_err-go_on-clause-gives : goal.returns-in_err-go_on-clause-gives
+returns-in_err-go_on-clause-gives g c = gives_then _ _ _ c.loop-pass.invariant.gives c.go_on.ensures.gives
+
+pub returns-clause-gives : goal.returns-clause-gives
+returns-clause-gives g c = gives_then _ _ _ c.loop-pass.invariant.gives c.go_on.ensures.gives
 
 pub returns-clause-on : goal.returns-clause-on
 returns-clause-on g c = on_then c.args.lane.now c.loop-pass.lane c.go_on.new.lane c.args.owner.now c.loop-pass.invariant.on c.go_on.ensures.on

@@ -1,5 +1,6 @@
 use Rattle.std.proofs.Common.{◌≡◌, ◌<◌, ◌^◌, length}
 use Rattle.pass_machine.specs.Going.{left}
+use Rattle.lane_states.specs.LaneStates.{GivesOn}
 use Rattle.lane_upkeep.specs.Passing.{IsPassing, PassesOn, rows_in}
 use Rattle.lane_upkeep.specs.Quiet.{DoesQuietly}
 use Rattle.lane_upkeep.specs.Taking.{HasRun}
@@ -14,6 +15,7 @@ invariant-loop-pass g l = record {
   on : PassesOn l.fn.lane l.lane l.owner;
   planned : g.C.Carrier.planned l.carrier ≡ g.C.Carrier.planned l.fn.carrier;
   kind : g.C.Carrier.takes_plans l.carrier ≡ g.C.Carrier.takes_plans l.fn.carrier;
+  gives : GivesOn (g.C.Carrier.given l.fn.carrier) (g.C.Carrier.given l.carrier);
   under_way : IsUnderWay l.lane l.owner l.pass;
   run : HasRun l.fn.lane l.lane l.owner l.pass (g.C.Carrier.given l.fn.carrier) (g.C.Carrier.given l.carrier);
   few : length (rows_in l.lane l.owner) < 2 ^ 64;

@@ -8,6 +8,7 @@ use Rattle.round_keeping.specs.RoundRuns.{IsRunning, IsRunBy, Begins}
 use Rattle.lane_states.specs.Shortages.{NoneIsShort, EndsAtOnce}
 use Rattle.round_keeping.specs.RoundShortages.{HadMemory}
 use Rattle.lane_rounds.proofs.Shortages.{once-still}
+use Rattle.lane_states.proofs.Giving.{gives_same}
 use Rattle.upkeep_spans.specs.Spans.{AreUpkeep}
 use Rattle.lane_upkeep.proofs.Passing.{still-passing-in, still-passes-in, passing-gained}
 use Rattle.lane_upkeep.proofs.RoundsLeft.{gains-left, upkeep-left, others-left, answers-left, ran-left, row-left, buckets-gained, note-whole}
@@ -323,8 +324,14 @@ returns-clause-others g c note off k =
     note-whole o.state note m.lane run (λ is. off (is ∙ sym same)) d run.key c.in_ok-run_round.field-0 _ _ m.last n.last m.late.late n.late.late (journal_of x) (journal_of m) (journal_of n)
     (subst (λ (l : Low). Begins l (journal_of x) (journal_of m) d run.key run) (sym (ap (λ (z : LaneState). z.lane) c.begin_round_at-run.ensures.after)) begins) c.in_ok-run_round.ensures.whole k
 
-pub returns-clause-fates : goal.returns-clause-fates
-returns-clause-fates g c = let on = c.in_ok-run_round.ensures.whole.on in (on.fates, on.given_are)
+pub returns-clause-gives : goal.returns-clause-gives
+returns-clause-gives g c = let on = c.in_ok-run_round.ensures.whole.on in (on.fates, on.given_are)
+
+pub returns-in_err-run_round-clause-gives : goal.returns-in_err-run_round-clause-gives
+returns-in_err-run_round-clause-gives g c = let on = c.in_err-run_round.ensures.cut.on in (on.fates, on.given_are)
+
+pub returns-in_err-reserve-clause-gives : goal.returns-in_err-reserve-clause-gives
+returns-in_err-reserve-clause-gives g c = gives_same _ _ refl
 
 pub returns-clause-ran : goal.returns-clause-ran
 returns-clause-ran g c =

@@ -25,9 +25,6 @@ returns-clause-knows g c = if_ok c.note_of.result (λ note i.
 pub returns-clause-others : goal.returns-clause-others
 returns-clause-others g c = if_ok c.note_of.result (λ note i other off k. c.in_ok-run.ensures.others other (λ same. off (same ∙ sym i.bucket_is)) k) c.note_of.ensures
 
-pub returns-clause-fates : goal.returns-clause-fates
-returns-clause-fates g c = if_ok c.note_of.result (λ note i. c.in_ok-run.ensures.fates) c.note_of.ensures
-
 pub returns-clause-ran : goal.returns-clause-ran
 returns-clause-ran g c = if_ok c.note_of.result (λ note i. record {
   run = c.in_ok-run.run';
@@ -51,7 +48,7 @@ returns-clause-quiet g c = if_ok c.note_of.result (λ note i.
     } in
     rounds-quietly c.undisturbed_rounds_end.ensures c.targets_are_of_the_list.ensures x e o c.args.at (g.C.Carrier.given c.args.carrier.now) (g.C.Carrier.given c.run_at.new.carrier) note r
     c.requires.passing c.run_at.ensures.passing c.run_at.ensures.on
-    (subst (λ (set : ℕ). GainsMarks (part_of x o.distributor) (part_of e o.distributor) c.args.at set) (sym i.holders_are) c.in_ok-run.ensures.gains) c.in_ok-run.ensures.fates) c.note_of.ensures
+    (subst (λ (set : ℕ). GainsMarks (part_of x o.distributor) (part_of e o.distributor) c.args.at set) (sym i.holders_are) c.in_ok-run.ensures.gains) c.run_at.ensures.gives) c.note_of.ensures
 
 pub returns-clause-none_is_short : goal.returns-clause-none_is_short
 returns-clause-none_is_short g c = if_ok c.note_of.result (λ note i. c.in_ok-run.ensures.none_is_short) c.note_of.ensures

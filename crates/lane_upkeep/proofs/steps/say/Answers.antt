@@ -60,7 +60,7 @@ returns-clause-quiet g c =
     let now = g.C.Carrier.given c.tell_node.new.carrier in
     let p = c.args.pass.now in
     let q = c.answer.new.self in
-    let says : Says x e o c.args.node c.args.body given now reply = record { went = told.went; parts = told.parts; came = told.came; silent = told.silent; fates = told.fates; quiet = told.quiet } in
+    let says : Says x e o c.args.node c.args.body given now reply = record { went = told.went; parts = told.parts; came = told.came; silent = told.silent; fates = c.tell_node.ensures.gives; quiet = told.quiet } in
     does_map_in given now x e o (λ d s. IsToldQuietly d x e c.args.node c.args.body reply) (λ d s. StandsOn d s x e o p q)
     (λ d s are current goes versions still t. stands_told c.passes_stand.ensures.told d s x e o given now p q c.args.node c.args.body reply c.if-delete.taken c.requires.passing told.passing told.on are c.rows_are_whole.ensures.whole
     c.requires.may.valid c.requires.next (rows_same x e o told.on told.parts) (told-as g c) (λ v sees. c.answer.ensures.behind v (subst (λ (y : Part). Sees y v) (sym (part-is g c)) sees)) c.answer.ensures.same still t)
@@ -73,7 +73,7 @@ returns-clause-does g c =
     let told = c.in_ok-reply.ensures in
     record {
       reply = c.in_ok-reply.reply;
-      says = record { went = told.went; parts = told.parts; came = told.came; silent = told.silent; fates = told.fates; quiet = told.quiet };
+      says = record { went = told.went; parts = told.parts; came = told.came; silent = told.silent; fates = c.tell_node.ensures.gives; quiet = told.quiet };
       behind = λ ideal are.
           let v = view_in ideal e o in
           c.answer.ensures.behind v (subst (λ (y : Part). Sees y v) (sym (part-is g c)) (sees_view e o ideal (g.C.Carrier.given c.tell_node.new.carrier, c.tell_node.ensures.passing) are))

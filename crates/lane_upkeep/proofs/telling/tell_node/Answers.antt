@@ -7,6 +7,7 @@ use Rattle.row_keeping.specs.Telling.{IsTelling}
 use Rattle.lane_states.specs.LaneStates.{journal_of, part_of}
 use Rattle.lane_states.specs.Tellings.{IsAnsweredBy, IsFirstReply}
 use Rattle.proof_basics.proofs.Results.{if_ok}
+use Rattle.lane_states.proofs.Giving.{gives_same}
 use Rattle.lane_states.proofs.TellingBack.{kept-back}
 use Rattle.lane_states.proofs.Tellings.{row-no-ask, stays-went, answered-by, first-by, silent-by}
 use Rattle.lane_upkeep.specs.CameBack.{CameBack}
@@ -96,8 +97,11 @@ returns-in_err-reply-clause-known g c note k = subst (λ J. KnowsNote J c.args.o
 pub returns-clause-went : goal.returns-clause-went
 returns-clause-went g c = if_ok c.unless_short.result (λ y same. went-as c.message_to-message.ensures c.in_ok-reply.ensures.exchanged.went) c.unless_short.ensures.same
 
-pub returns-clause-fates : goal.returns-clause-fates
-returns-clause-fates g c = if_ok c.unless_short.result (λ y same. (c.in_ok-reply.ensures.exchanged.went.fate ∷ [], c.in_ok-reply.ensures.exchanged.went.fates)) c.unless_short.ensures.same
+pub returns-clause-gives : goal.returns-clause-gives
+returns-clause-gives g c = let w = c.in_ok-reply.ensures.exchanged.went in (w.fate ∷ [], w.fates)
+
+pub returns-in_err-reply-clause-gives : goal.returns-in_err-reply-clause-gives
+returns-in_err-reply-clause-gives g c = gives_same _ _ c.in_err-reply.ensures.given
 
 pub returns-clause-silent : goal.returns-clause-silent
 returns-clause-silent g c =

@@ -3,7 +3,7 @@ use Rattle.disks.specs.Moments.{rests_not, rests_on}
 use Rattle.message_texts.specs.Texts.{message_in}
 use Rattle.node_journal.specs.Files.{reading, onto}
 use Rattle.node_journal.specs.Opening.{FindsRecord, IsBehind, IsSoFar}
-use Rattle.service_layer.specs.Nodes.{Node}
+use Rattle.node_model.specs.Nodes.{Node}
 use Rattle.node_journal.proofs.Lives.{is_inside, has_room}
 use Rattle.node_journal.proofs.Openings.{so_far_none, so_far_more, rest_reads, cause_so_far}
 use Rattle.node_journal.proofs.replaying.replay.Goals as goal

@@ -1,6 +1,6 @@
 use Rattle.std.proofs.Common.{◌≡◌, ap, ◌∙◌, arith}
 use Rattle.node_sets.specs.Members.{has_node}
-use Rattle.service_layer.specs.Telling.{kept_of}
+use Rattle.node_model.specs.Telling.{kept_of}
 use Rattle.lane_keeping.specs.LaneKeeping.{node_in}
 use Rattle.node_views.specs.NodesTold.{with_nodes}
 use Rattle.node_views.proofs.telling.told.Goals as goal

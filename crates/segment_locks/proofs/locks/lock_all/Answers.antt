@@ -1,8 +1,8 @@
-use Rattle.std.proofs.Common.{◌≡◌, ◌+◌, ◌*◌, ◌^◌, ℕ, length, sym, ap, ◌∙◌, subst, arith, add-one}
+use Rattle.std.proofs.Common.{rules, ◌≡◌, ◌+◌, ◌*◌, ◌^◌, ℕ, List, length, sym, ap, ◌∙◌, subst, arith, add-one}
 use Rattle.std.proofs.Math.Nat.{pow-succ'}
 use Rattle.lane_core.proofs.Places.{push-length}
-use Rattle.segment_locks.specs.Lanes.{IsReady}
-use Rattle.segment_locks.proofs.Numbered.{each-shorter, each-last}
+use Rattle.segment_locks.specs.Lanes.{EachAt, IsReady}
+use Rattle.segment_locks.proofs.Numbered.{each-none, each-shorter, each-last, each-longer, falling-reversed}
 use Rattle.segment_locks.proofs.locks.lock_all.Goals as goal
 
 pub loop-ready-init : goal.loop-ready-init
@@ -13,6 +13,7 @@ loop-ready-init g c = (
   omega (arith, c.open-book.ensures.total),
   omega (arith, ap length c.requires.room.0),
   c.requires.room.1,
+  each-none _ _ c.requires.room.0,
 )
 
 pub lock_of-requires-clause-ready : goal.lock_of-requires-clause-ready
@@ -36,4 +37,11 @@ loop-ready-preserved g c =
       omega (arith, i.3, double, amount, c.add.ensures.total),
       omega (arith, i.4, longer, locks),
       omega (arith, i.5, c.push_reserved.ensures.capacity),
+      each-longer _ _ _ _ c.push_reserved.ensures.items i.6 (omega (arith, i.4, longer, number, c.lock_of.ensures)),
     )
+
+pub returns-clause-numbers : goal.returns-clause-numbers
+returns-clause-numbers g c =
+    let i = c.loop-ready.invariant in
+    let none : length c.loop-ready.lanes.items ≡ 0 = search rules in
+    subst (λ (ns : List ℕ). EachAt (λ place n. n ≡ place) ns) (sym c.reverse.ensures.items) (falling-reversed c.loop-ready.locks.items (λ place n at. omega (arith, i.6 place n at, i.4, none)))

@@ -10,6 +10,7 @@ invariant-loop-ready g l =
     × (l.book.total + 2 ^ length l.lanes.items ≡ 2 ^ length l.fn.lanes.items)
     × (length l.locks.items + length l.lanes.items ≡ length l.fn.lanes.items)
     × (length l.fn.lanes.items ≤ vec_capacity l.locks)
+    × EachAt (λ p n. n + p + 1 ≡ length l.fn.lanes.items) l.locks.items
 
 abbrev pub decreases-loop-ready : goal.decreases-loop-ready
 decreases-loop-ready g l = goal.left-loop-ready g l

@@ -1,12 +1,9 @@
 use Rattle.std.proofs.Common.{◌≤◌, ◌∙◌, ap, length, arith, Result, Ok, Err, OnOk}
+use Rattle.proof_basics.proofs.Results.{ok_then}
 use Rattle.shelves.specs.Plain.{Plain}
 use Rattle.session_cluster.proofs.SearchLaws.{none_read, settled_at, read_more, lanes_summed, lanes_fronts}
 use Rattle.session_cluster.proofs.ShelvedLanes.{below_lanes, lane_index}
 use Rattle.session_cluster.proofs.searching.search_all.Goals as goal
-
-ok_then : {X E P : Type 0} (r : Result X E) → P → OnOk r P
-ok_then (Ok x) p = p
-ok_then (Err e) p = tt
 
 pub loop-lane-init : goal.loop-lane-init
 loop-lane-init g c = none_read _ _ _ _ _ c.requires.none c.new-sum.ensures

@@ -1,15 +1,30 @@
-use Rattle.std.proofs.Common.{◌≡◌, ◌∷◌, ◌+◌, ◌<◌, ◌∙◌, sym, ap, drop, length, get_or, drop-cons, add-one, arith}
-use Rattle.word_index.specs.Runs.{run_of}
-use Rattle.word_index.proofs.Reading.{tokens_with, tokens_with-cons}
+use Rattle.std.proofs.Common.{◌≤◌, ◌++◌, ◌∙◌, sym, ap, subst, length, take, arith}
+use Rattle.std.specs.Prelude.{IsAscii}
+use Rattle.word_index.specs.Tokens.{tokens_of}
+use Rattle.word_index.proofs.Reading.{ascii_first, ascii_end, read_on, read_last}
 use Rattle.word_index.proofs.words.tokens_of_bytes.Goals as goal
 
-pub loop-byte-preserved : goal.loop-byte-preserved
-loop-byte-preserved c =
-    let text = c.args.bytes.now in
-    let i = c.loop-byte.byte-index in
-    let less : i < length text = omega arith in
-    let rest : drop i text ≡ get_or text i 0 ∷ drop (i + 1) text = rw (add-one, drop-cons text i 0) in
-    ap (λ r. tokens_with r (drop (i + 1) text)) c.in_ok-words.ensures
-    ∙ tokens_with-cons (run_of c.loop-byte.words) (get_or text i 0) (drop (i + 1) text)
-    ∙ ap (tokens_with (run_of c.loop-byte.words)) (sym rest)
-    ∙ c.loop-byte.invariant
+pub loop-end-init : goal.loop-end-init
+loop-end-init c = (ap (λ l. l ++ tokens_of c.args.bytes.now) c.new-tokens.ensures.items, c.end_of-end.ensures)
+
+pub push_token-requires : goal.push_token-requires
+push_token-requires c = subst (λ n. IsAscii (take n c.loop-end.rest.now)) (sym c.loop-end.invariant.1) (ascii_first c.loop-end.rest.now)
+
+pub loop-end-preserved : goal.loop-end-preserved
+loop-end-preserved c = (
+  read_on c.args.bytes.now c.loop-end.rest.now c.behind-rest.result.now c.loop-end.tokens.items c.push_token.new.tokens.items c.loop-end.end
+      c.loop-end.invariant.0 c.loop-end.invariant.1 c.loop-end-test.true c.in_ok-push_token.ensures c.behind-rest.ensures,
+  c.end_of-end-in-loop-end.ensures,
+)
+
+pub push_token-requires-2 : goal.push_token-requires-2
+push_token-requires-2 c =
+    let more : length c.loop-end.rest.now ≤ c.loop-end.end = (let f = c.loop-end-test.false in omega (arith, f)) in
+    ascii_end c.loop-end.rest.now c.loop-end.end c.loop-end.invariant.1 more
+
+pub returns : goal.returns
+returns c =
+    let more : length c.loop-end.rest.now ≤ c.loop-end.end = (let f = c.loop-end-test.false in omega (arith, f)) in
+    c.of.ensures
+    ∙ read_last c.args.bytes.now c.loop-end.rest.now c.loop-end.tokens.items c.push_token-2.new.tokens.items c.loop-end.end
+    c.loop-end.invariant.0 c.loop-end.invariant.1 more c.in_ok-push_token-2.ensures

@@ -77,7 +77,7 @@ returns-clause-searches g c =
     let f = c.find_row in
     let m : Work = record { state = f.new.lane; schema = x.schema; drawn = x.drawn; places = x.places; has_room = x.has_room; jobs = c.spend.new.jobs } in
     let on = onward-rested x.state f.new.lane j.distributor f.ensures.after f.ensures.quiet f.ensures.resting f.ensures.others f.ensures.parts in
-    if_ok f.result (λ end h. λ planned takes. went-searched x c.args.at j c.requires.keeps found begun f.new.lane f.result f.ensures.goes_on f.ensures.cut on f.ensures.keeps m refl refl refl refl refl items _ _ planned takes (free.free _ planned takes) h) f.ensures.goes_on
+    if_ok f.result (λ end h. λ planned takes. went-searched x c.args.at j c.requires.keeps found begun f.new.lane f.result f.ensures.goes_on f.ensures.cut on f.ensures.keeps m refl refl refl refl refl items _ _ planned takes f.ensures.gives (free.free _ planned takes) h) f.ensures.goes_on
 
 pub returns-clause-comes : goal.returns-clause-comes
 returns-clause-comes g c =
@@ -103,4 +103,4 @@ returns-clause-cut g c =
     let f = c.find_row in
     let m : Work = record { state = f.new.lane; schema = x.schema; drawn = x.drawn; places = x.places; has_room = x.has_room; jobs = c.spend.new.jobs } in
     let on = onward-rested x.state f.new.lane j.distributor f.ensures.after f.ensures.quiet f.ensures.resting f.ensures.others f.ensures.parts in
-    on_err f.result (λ h. λ planned takes. cut-searched x c.args.at j c.requires.keeps found begun f.new.lane f.result f.ensures.goes_on f.ensures.cut on f.ensures.keeps m refl refl refl refl refl items _ _ planned takes h) f.ensures.cut
+    on_err f.result (λ h. λ planned takes. cut-searched x c.args.at j c.requires.keeps found begun f.new.lane f.result f.ensures.goes_on f.ensures.cut on f.ensures.keeps m refl refl refl refl refl items _ _ planned takes f.ensures.gives h) f.ensures.cut

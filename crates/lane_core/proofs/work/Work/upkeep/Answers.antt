@@ -31,7 +31,7 @@ returns-clause-ok g c =
     (λ given planned takes. c.hear_within.ensures.heard given planned takes
     ∙ ap (λ (v : LaneValue). record v { journal = heard_next d (Some s) v.journal }) (c.need_part.ensures.same given planned takes ∙ c.room_to_begin.ensures.same given planned takes))
     (c.hear_within.ensures.grows ∙ ap (λ (K : List LaneEvent). heard_next d (Some s) K) same)
-    c.maintain.ensures.after c.maintain.ensures.on)
+    c.maintain.ensures.after c.maintain.ensures.on c.maintain.ensures.gives)
 
 pub returns-clause-err : goal.returns-clause-err
 returns-clause-err g c =
@@ -45,7 +45,7 @@ returns-clause-err g c =
     (λ given planned takes. c.hear_within.ensures.heard given planned takes
     ∙ ap (λ (v : LaneValue). record v { journal = heard_next d (Some s) v.journal }) (c.need_part.ensures.same given planned takes ∙ c.room_to_begin.ensures.same given planned takes))
     (c.hear_within.ensures.grows ∙ ap (λ (K : List LaneEvent). heard_next d (Some s) K) same)
-    c.maintain.ensures.after c.maintain.ensures.on))
+    c.maintain.ensures.after c.maintain.ensures.on c.maintain.ensures.gives))
 
 pub returns-clause-opened : goal.returns-clause-opened
 returns-clause-opened g c =

@@ -1,6 +1,6 @@
 use Rattle.std.proofs.Common.{rules, ◌≡◌, ◌≤◌, ◌<◌, ◌+◌, ◌∷◌, ◌++◌, min, List, length, slice_set, get_or, refl, ap, ◌∙◌, subst, arith}
-use Rattle.service_layer.specs.Nodes.{Node}
-use Rattle.service_layer.specs.Telling.{changes_taken}
+use Rattle.node_model.specs.Nodes.{Node}
+use Rattle.node_model.specs.Telling.{changes_taken}
 use Rattle.lane_keeping.specs.NodeKeeping.{NodeKeeps}
 use Rattle.lane_keeping.specs.LaneKeeping.{setting_of, node_in}
 use Rattle.lane_keeping.specs.Replaying.{delivered}

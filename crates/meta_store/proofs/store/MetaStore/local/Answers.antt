@@ -1,5 +1,5 @@
 use Rattle.std.proofs.Common.{◌≡◌, ◌↔◌, subst, ap, ◌∙◌, Some}
-use Rattle.std.specs.BTreeMap.{get_by_text}
+use Rattle.std.specs.HashMap.{get_by_text}
 use Rattle.meta_store.specs.Store.{Has}
 use Rattle.meta_store.proofs.StoreLaws.{seen}
 use Rattle.meta_store.proofs.store.MetaStore.local.Goals as goal

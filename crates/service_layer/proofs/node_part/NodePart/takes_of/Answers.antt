@@ -3,7 +3,7 @@ use Rattle.std.specs.List.{filter}
 use Rattle.std.proofs.lemmas.Fn.{filter_same}
 use Rattle.documents.specs.declared.entry.Entry.{Entry}
 use Rattle.view_changes.specs.Deeds.{is_seen}
-use Rattle.service_layer.specs.Telling.{kept_of}
+use Rattle.node_model.specs.Telling.{kept_of}
 use Rattle.service_layer.proofs.Treating.{no_items}
 use Rattle.service_layer.proofs.Tellings.{none_told, none_newer_told, taken_told}
 use Rattle.service_layer.proofs.node_part.NodePart.takes_of.Goals as goal
