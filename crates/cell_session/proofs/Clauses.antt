@@ -15,7 +15,7 @@ use Rattle.lane_journals.specs.KeptJournals.{IsLegal}
 use Rattle.lane_carriage.specs.Carriage.{IsCarried}
 use Rattle.lane_keeping.specs.LaneKeeping.{setting_of}
 use Rattle.lane_keeping.specs.Lines.{IsFresh}
-use Rattle.lane_lives.specs.LaneValues.{LaneValue}
+use Rattle.lane_calls.specs.LaneValues.{LaneValue}
 use Rattle.reports.specs.ReportText.{usage_text}
 use Rattle.session_settings.specs.Choices.{Chooses}
 use Rattle.lane_lives.specs.Settings.{lane_count, IsSetting}
@@ -38,14 +38,17 @@ use Rattle.cell_session.specs.LanePromises.{AreDurable, AreComplete, AreShownRig
 use Rattle.cell_session.specs.Operations.{IsCommandAt, WereAsked, HaveFates}
 use Rattle.cell_session.specs.declared.status.Status.{Status}
 use Rattle.cell_session.specs.declared.status.Status.TheVariants as status
+use Rattle.cell_session.proofs.OrderLaws.{none_gone}
 use Rattle.cell_session.proofs.KeptCauses.{AllRefused, AllShort, AllHold, AllHear, kept_causes, kept_heard}
 use Rattle.cell_session.proofs.KeptClauses.{kept_outcomes, kept_fates, kept_shown, kept_together}
+use Rattle.session_cluster.proofs.DeedLists.{lines_alone}
 use Rattle.session_cluster.proofs.KeptLanes.{in_lanes, kept_legal}
 use Rattle.session_cluster.proofs.LaneLists.{journal_is, journal_at}
 use Rattle.cell_session.proofs.Loops.{appends_nothing, few_none, first_none, unopened_ends}
 use Rattle.cell_session.proofs.ReadLaws.{none_read}
 use Rattle.cell_session.proofs.SearchCounts.{SearchLaws, kept_counts, none_counts}
 use Rattle.cell_session.proofs.FullSearches.{StayCovered, kept_full, none_full}
+use Rattle.cell_session.specs.Orders.{GoInOrder}
 use Rattle.cell_session.specs.Searches.{CountOnce}
 use Rattle.cell_session.proofs.UpkeepLaws.{none_upkept}
 
@@ -107,7 +110,7 @@ pub ends_in_order : (end : Status) (s : Setting) (types : Types) (plans : ℕ �
 ends_in_order end s types plans text left c before now (inl none) = none_in_order c none.none
 ends_in_order end s types plans text left c before now (inr some) = λ lane.
     in_lanes (λ n J. IsOrdered J) c.lanes (λ n earlier line early first second. absurd (false≢true second))
-    (λ n v at. let is = some.kept.serving n v at in in_order s (bucket_in s n) (deeds_of_lane s c.upkeeps n some.commands) v.journal is.life is.rising) lane
+    (λ n v at. let is = some.kept.serving n v at in in_order s (bucket_in s n) (deeds_of_lane s c.upkeeps n some.commands) v.journal is.life (lines_alone s c.upkeeps n some.commands) is.rising) lane
 
 pub none_together : (c : Cell) → c.lanes ≡ [] → AreTogether (journals_of c)
 none_together c none lane other there = absurd (omega (arith, there, ap (λ vs. length (map journal_is vs)) none))
@@ -254,7 +257,18 @@ pub ends_usage : (end : Status) (s : Setting) (types : Types) (plans : ℕ → L
 ends_usage end s types plans text left c before now (inl none) is = cc (none.memory, is)
 ends_usage end s types plans text left c before now (inr some) is = not_usage end s some.commands c before now some.output is
 
+-- ---- the order of passes
+
+pub ends_order : (end : Status) (s : Setting) (types : Types) (plans : ℕ → List Fate) (text left : Option (List ℕ)) (c : Cell) (before now : Option (List ℕ)) → EndsAs end s types plans text left c before now → GoInOrder s c
+ends_order end s types plans text left c before now (inl none) = none_gone s c none.unkept
+ends_order end s types plans text left c before now (inr some) = some.gone
+
 -- ---- of what the words choose
+
+pub chosen_order : (words : List Text) (a x : Choice) (end : Status) (plans : ℕ → List Fate) (text left : Option (List ℕ)) (c : Cell) (before now : Option (List ℕ)) → Chooses words a → Chooses words x
+    → EndsAs end a.setting a.setting.schema plans text left c before now → GoInOrder x.setting c
+chosen_order words a x end plans text left c before now p q ends =
+    subst (λ (y : Choice). GoInOrder y.setting c) (one_choice words a x p q) (ends_order end a.setting a.setting.schema plans text left c before now ends)
 
 pub chosen_legal : (words : List Text) (a x : Choice) (end : Status) (plans : ℕ → List Fate) (text left : Option (List ℕ)) (c : Cell) (before now : Option (List ℕ)) → Chooses words a → Chooses words x
     → EndsAs end a.setting a.setting.schema plans text left c before now → AreLegal x.setting (journals_of c)
@@ -328,3 +342,6 @@ empty_fates plans c h lane v at = absurd (no_lane c.lanes lane v (empty_cell c h
 
 pub empty_shown : (s : Setting) (c : Cell) → IsTrue (is_empty c) → AreShownRight s c
 empty_shown s c h lane v at = absurd (no_lane c.lanes lane v (empty_cell c h).0 at)
+
+pub empty_order : (s : Setting) (c : Cell) → IsTrue (is_empty c) → GoInOrder s c
+empty_order s c h = none_gone s c (empty_cell c h).1.1.0

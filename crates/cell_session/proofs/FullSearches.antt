@@ -19,8 +19,8 @@ use Rattle.lane_journals.specs.Readers.{version, stopped}
 use Rattle.lane_journals.specs.declared.event.LaneEvent.{LaneEvent}
 use Rattle.lane_keeping.specs.LaneKeeping.{setting_of}
 use Rattle.lane_keeping.specs.Tidings.{last_state}
-use Rattle.lane_lives.specs.LaneValues.{LaneValue}
-use Rattle.lane_lives.specs.Lives.{Deed, Announces, Stops, Starts, Runs, Maintains, IsLife, states_in, newest_in}
+use Rattle.lane_calls.specs.LaneValues.{LaneValue}
+use Rattle.lane_lives.specs.Lives.{Deed, Announces, Stops, Starts, Runs, Feeds, Maintains, IsLife, states_in, newest_in}
 use Rattle.lane_lives.specs.Rested.{IsCovered, AreCalm}
 use Rattle.lane_lives.specs.Serving.{bucket_in}
 use Rattle.lane_lives.specs.Settings.{IsSetting}
@@ -204,6 +204,7 @@ newest_state s (Announces state deaf ∷ deeds) = last-of (states_in s deeds) st
 newest_state s (Stops n ∷ deeds) = newest_state s deeds
 newest_state s (Starts n ∷ deeds) = newest_state s deeds
 newest_state s (Runs line ∷ deeds) = newest_state s deeds
+newest_state s (Feeds feeders lines left ∷ deeds) = newest_state s deeds
 newest_state s (Maintains noted ∷ deeds) = newest_state s deeds
 
 -- it is that of the state that was published last in each lane

@@ -10,11 +10,12 @@ use Rattle.lane_journals.specs.Readers.{held}
 use Rattle.lane_journals.specs.declared.event.LaneEvent.TheVariants.{Heard}
 use Rattle.lane_carriage.specs.Carriage.{IsCarried}
 use Rattle.lane_keeping.specs.LaneKeeping.{setting_of}
-use Rattle.lane_lives.specs.LaneValues.{LaneValue}
+use Rattle.lane_calls.specs.LaneValues.{LaneValue}
 use Rattle.lane_lives.specs.Settings.{IsSetting}
 use Rattle.lane_lives.specs.declared.setting.Setting.{Setting}
 use Rattle.lane_promises.specs.Hearings.{deaf_in, HeardNewest}
-use Rattle.lane_lives.specs.Lives.{Deed, IsLife, lines_of, newest_in, outcome_in}
+use Rattle.lane_lives.specs.Lives.{Deed, IsLife, lines_of, AreAlone, newest_in}
+use Rattle.lane_calls.specs.Readings.{outcome_in}
 use Rattle.lane_promises.specs.Promises.{WasRefused, LineFellShort}
 use Rattle.lane_lives.specs.Serving.{bucket_in}
 use Rattle.cell_session.specs.Causes.{HaveCauses}
@@ -25,6 +26,7 @@ use Rattle.session_cluster.specs.Keeping.{IsKept}
 use Rattle.session_cluster.specs.Lanes.{Journal}
 use Rattle.session_cluster.specs.declared.asked.Asked.{Asked}
 use Rattle.session_cluster.proofs.KeptLanes.{kept_legal}
+use Rattle.session_cluster.proofs.DeedLists.{lines_alone}
 use Rattle.session_cluster.proofs.LaneLists.{journal_at}
 
 -- what is promised of every lane
@@ -33,7 +35,7 @@ AllRefused = (s : Setting) (lane : Low) (deeds : List Deed) (J : Journal) → Is
     → WasRefused lane (lines_of deeds) J line owner version
 
 abbrev pub AllShort : Type 0
-AllShort = (s : Setting) → IsSetting s → (lane : Low) (deeds : List Deed) (J : Journal) (given : List Fate) → IsLife s lane deeds J → IsLegal (setting_of lane s.rules) J → IsCarried given J → (line answered needed absent : ℕ)
+AllShort = (s : Setting) → IsSetting s → (lane : Low) (deeds : List Deed) (J : Journal) (given : List Fate) → IsLife s lane deeds J → AreAlone deeds → IsLegal (setting_of lane s.rules) J → IsCarried given J → (line answered needed absent : ℕ)
     → outcome_in line J ≡ Some (TooFew answered needed absent) → LineFellShort given (lines_of deeds) J line answered needed absent
 
 abbrev pub AllHold : Type 0
@@ -50,7 +52,7 @@ kept_causes refused short s setting plans cs c kept = record {
   refused = λ lane v at line owner version. refused s (bucket_in s lane) (deeds_of_lane s c.upkeeps lane cs) v.journal (kept.serving lane v at).life (legal_at s plans cs c kept lane v at) line owner version;
   short = λ lane v at line answered needed absent.
       let is = kept.serving lane v at in
-      short s setting (bucket_in s lane) (deeds_of_lane s c.upkeeps lane cs) v.journal v.given is.life (legal_at s plans cs c kept lane v at) (is.holds).carried line answered needed absent;
+      short s setting (bucket_in s lane) (deeds_of_lane s c.upkeeps lane cs) v.journal v.given is.life (lines_alone s c.upkeeps lane cs) (legal_at s plans cs c kept lane v at) (is.holds).carried line answered needed absent;
 }
 
 pub kept_heard : AllHold → AllHear → (s : Setting) (plans : ℕ → List Fate) (cs : List Asked) (c : Cell) → IsKept s plans cs c → HaveHeard s cs c

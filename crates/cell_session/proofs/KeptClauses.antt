@@ -7,7 +7,8 @@ use Rattle.lane_journals.specs.Meanings.{history}
 use Rattle.lane_keeping.specs.Lines.{IsFresh}
 use Rattle.lane_lives.specs.declared.setting.Setting.{Setting}
 use Rattle.lane_lives.specs.Lives as life
-use Rattle.lane_lives.specs.Lives.{IsLife, IsNone}
+use Rattle.lane_lives.specs.Lives.{IsLife}
+use Rattle.lane_calls.specs.Lines.{IsNone}
 use Rattle.lane_lives.specs.Serving.{bucket_in}
 use Rattle.lane_lives.proofs.Living.{others_fresh, events_told, states_published}
 use Rattle.session_cluster.specs.Cells.{Cell, journals_of}

@@ -1,9 +1,11 @@
 mod UpkeepLaws
+mod OrderLaws
 mod ReadLaws
 mod SearchCounts
 mod FullSearches
 mod OutputLaws
 mod LongLines
+mod LastReads
 mod KeptClauses
 mod KeptCauses
 mod Loops

@@ -6,7 +6,7 @@ use Rattle.std.proofs.lemmas.Option.{slice_get_within}
 use Rattle.std.proofs.KnownBytes.{Appends-nil, Appends-trans}
 use Rattle.std.specs.List.{count_by}
 use Rattle.std.specs.Io.KnownBytes.{Appends, Keeps}
-use Rattle.lane_lives.specs.LaneValues.{LaneValue}
+use Rattle.lane_calls.specs.LaneValues.{LaneValue}
 use Rattle.io_ends.specs.Causes.{AppendsFront}
 use Rattle.io_ends.specs.Lines.{lines_of, end_of, NoLineFeed}
 use Rattle.io_ends.specs.Reading.{Reading, StandsIn, IsLittle}
@@ -30,6 +30,7 @@ use Rattle.carriers.specs.declared.fate.Fate.{Fate}
 use Rattle.lane_lives.specs.Settings.{IsSetting}
 use Rattle.lane_lives.specs.declared.setting.Setting.{Setting}
 use Rattle.cell_session.specs.Operations.{IsCommandAt}
+use Rattle.cell_session.specs.Orders.{GoInOrder}
 use Rattle.cell_session.specs.Searches.{AreRead}
 use Rattle.cell_session.specs.SoFar.{IsBehind, IsSoFar}
 use Rattle.cell_session.specs.Upkeep.{AreUpkept}
@@ -43,6 +44,7 @@ use Rattle.cell_session.specs.declared.status.Status.TheVariants as status
 use Rattle.cell_session.proofs.OutputLaws.{output_kept, output_more, roomier_output}
 use Rattle.session_cluster.proofs.Elements.{element_seen}
 use Rattle.session_cluster.proofs.SessionSteps.{kept_more, kept_roomier}
+use Rattle.cell_session.proofs.OrderLaws.{gone_more, none_gone, gone_roomier}
 use Rattle.cell_session.proofs.ReadLaws.{read_more, none_read, read_roomier}
 use Rattle.cell_session.proofs.UpkeepLaws.{upkept_more, noted_last, cut_last, none_upkept, upkept_at, upkept_roomier}
 
@@ -257,6 +259,7 @@ so_far_new s types plans text before reader c setting is kept none unread = subs
   kept = kept;
   output = Appends-nil before;
   upkept = none_upkept status.Done s c none;
+  gone = none_gone s c none;
   read = none_read s c unread;
   told = told_none types s.bits text;
 })
@@ -281,6 +284,7 @@ record IsMore (s : Setting) (types : Types) (plans : ℕ → List Fate) (text le
   told : IfTold text (IsBehind types s.bits reader' left' (cs ++ c ∷ []))
   earlier : output_of s cs new ≡ output_of s cs old
   output : output_of s (cs ++ c ∷ []) new ≡ output_of s cs old ++ report_in s old.told number c new
+  gone : GoInOrder s new
   read : AreRead s (cs ++ c ∷ []) new
 
 line_more : (s : Setting) (types : Types) (plans : ℕ → List Fate) (text left left' : Option (List ℕ)) (reader reader' : Reading) (counts counted : Counts) (old new : Cell) (before now : Option (List ℕ)) (number : ℕ) (c : Asked)
@@ -301,6 +305,7 @@ line_more s types plans text left left' reader reader' counts counted old new be
       told = told_more types s.bits text reader reader' left left' cs number c so.told so.count lines bytes shows stands (subst (λ n. n ≤ most_states) grown.states_are grown.few_states) (subst (λ n. n ≤ most_maintains) grown.maintains_are grown.few_maintains);
       earlier = output_kept s plans cs c old new number so.kept k after so.read;
       output = output_more s plans cs c old new number so.kept k after so.read;
+      gone = gone_more s plans cs c old new number so.kept k after so.gone;
       read = read_more s plans cs c old new number so.kept k after so.read;
     }
 
@@ -318,6 +323,9 @@ module _ (s : Setting) (old new : Cell) (room : IsRoomier old new) where
 
   read_then : (cs : List Asked) → AreRead s cs old → AreRead s cs new
   read_then cs so = read_roomier s cs old new (ap (λ (x : Cell). x.fronts) room.rest) (ap (λ (x : Cell). x.upkeeps) room.rest) roomier_seen so
+
+  gone_then : GoInOrder s old → GoInOrder s new
+  gone_then so = gone_roomier s old new (ap (λ (x : Cell). x.upkeeps) room.rest) roomier_given so
 
   upkept_then : (end : Status) (cs : List Asked) → AreUpkept end s cs old → AreUpkept end s cs new
   upkept_then end cs so = upkept_roomier end s cs old new (ap (λ (x : Cell). x.upkeeps) room.rest) roomier_given so
@@ -345,6 +353,7 @@ so_far_more s types plans text left left' reader reader' counts counted old new 
       output = subst (Appends before now') (sym more.output) (Appends-trans before now now' (output_of s cs old) (report_in s old.told number c new) so.output wrote);
       told = more.told;
       upkept = upkept_more s plans cs c old new number so.kept (omega (arith, is, so.count)) dealt.0 status.Done so.upkept (noted_last s c old new number status.Done dealt.1);
+      gone = more.gone;
       read = more.read;
     }
 
@@ -409,6 +418,7 @@ over_with end s types plans text left left' reader reader' states c before now s
   stops = stops_of end types s.bits text left left' reader reader' so.commands so.told so.count lines bytes finishes stands holds last a b may;
   output = wrote;
   upkept = upkept_at end s so.commands c so.upkept;
+  gone = so.gone;
   read = so.read;
   few = so_few s types plans text reader left states c before now so;
   reached = reached_of end reader reader' so.commands so.count lines holds;
@@ -480,6 +490,7 @@ full_end s types plans text left left' reader counts c before now number command
   stops = full_passes which s types plans text left reader counts c before now number command so lines bytes shows (counts_full counts command which full);
   output = so.output;
   upkept = upkept_at (status.Limit which) s so.commands c so.upkept;
+  gone = so.gone;
   read = so.read;
   few = so_few s types plans text reader left counts c before now so;
   reached = full_reached which counts so.commands command so.states_are so.maintains_are (counts_full counts command which full);
@@ -535,6 +546,7 @@ fault_ends why s types plans text left left' reader reader' counts counted old n
             output = subst (λ x. Appends before now' (x ++ front)) (sym more.earlier) (Appends-trans before now now' (output_of s cs old) front so.output wrote);
           };
           upkept = upkept_more s plans cs c old new number so.kept (omega (arith, is, so.count)) dealt.0 status.WriteFault so.upkept (noted_last s c old new number status.WriteFault dealt.1);
+          gone = more.gone;
           read = more.read;
           few = more.few;
           reached = tt;
@@ -569,6 +581,7 @@ memory_ends why s types plans text left left' reader reader' counts counted old 
       stops = no_claim types s.bits text left' so.commands;
       output = inl (subst (Appends before now') (sym (roomier_output s so.commands old new room)) wrote);
       upkept = upkept_at status.NoMemory s so.commands new (upkept_then s old new room status.Done so.commands so.upkept);
+      gone = gone_then s old new room so.gone;
       read = read_then s old new room so.commands so.read;
       few = so_few s types plans text reader left counts old before now so;
       reached = tt;
@@ -583,6 +596,7 @@ memory_ends why s types plans text left left' reader reader' counts counted old 
           stops = no_claim types s.bits text left' (cs ++ c ∷ []);
           output = inr (record { earlier = cs; last = c; all = refl; output = subst (Appends before now') (sym more.earlier) wrote });
           upkept = upkept_more s plans cs c old new number so.kept (omega (arith, is, so.count)) dealt status.NoMemory so.upkept (cut_last s c old new number dealt);
+          gone = more.gone;
           read = more.read;
           few = more.few;
           reached = tt;
@@ -605,6 +619,7 @@ opened_ends s types plans text left c before kept none unread = inr (record {
   stops = no_claim types s.bits text left [];
   output = inl (Appends-nil before);
   upkept = none_upkept status.NoMemory s c none;
+  gone = none_gone s c none;
   read = none_read s c unread;
   few = few_none;
   reached = tt;

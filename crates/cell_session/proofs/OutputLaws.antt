@@ -4,14 +4,14 @@ use Rattle.carriers.specs.declared.fate.Fate.{Fate}
 use Rattle.cluster_states.specs.Publishing.{Told}
 use Rattle.messages.specs.declared.outcome.Outcome.{Outcome}
 use Rattle.messages.specs.declared.outcome.Outcome.TheVariants as outcome
-use Rattle.lane_lives.specs.LaneValues.{LaneValue}
+use Rattle.lane_calls.specs.LaneValues.{LaneValue}
 use Rattle.lane_journals.specs.KeptJournals.{IsLegal}
 use Rattle.lane_keeping.specs.LaneKeeping.{setting_of}
 use Rattle.lane_lives.specs.declared.setting.Setting.{Setting}
-use Rattle.lane_lives.specs.Lives.{outcome_in}
+use Rattle.lane_calls.specs.Readings.{outcome_in}
 use Rattle.lane_lives.specs.Serving.{bucket_in}
 use Rattle.lane_promises.proofs.Answered.{found_written}
-use Rattle.lane_lives.proofs.OneLine.{IsLine}
+use Rattle.lane_calls.proofs.OneLine.{IsLine}
 use Rattle.session_cluster.specs.Cells.{Cell, journals, journals_of}
 use Rattle.session_cluster.specs.Deeds.{first_told, told_next, told_by, told_of}
 use Rattle.session_cluster.specs.Keeping.{IsKept}

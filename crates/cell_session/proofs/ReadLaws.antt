@@ -11,7 +11,7 @@ use Rattle.doc_types.specs.SchemaCodes.{Types}
 use Rattle.journal_views.proofs.Reading.{first-changes}
 use Rattle.lane_changes.specs.Changes.{changes_of}
 use Rattle.lane_journals.specs.declared.event.LaneEvent.{LaneEvent}
-use Rattle.lane_lives.specs.LaneValues.{LaneValue}
+use Rattle.lane_calls.specs.LaneValues.{LaneValue}
 use Rattle.lane_lives.specs.Lives.{Deed, IsLife}
 use Rattle.lane_lives.specs.Serving.{bucket_in}
 use Rattle.lane_lives.specs.declared.setting.Setting.{Setting}

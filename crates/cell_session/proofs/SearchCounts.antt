@@ -20,8 +20,9 @@ use Rattle.lane_journals.specs.Readers.{wrote}
 use Rattle.lane_journals.specs.declared.event.LaneEvent.{LaneEvent}
 use Rattle.lane_journals.specs.declared.event.LaneEvent.TheVariants.{Wrote}
 use Rattle.lane_keeping.specs.LaneKeeping.{setting_of}
-use Rattle.lane_lives.specs.LaneValues.{LaneValue}
-use Rattle.lane_lives.specs.Lives.{Deed, lines_of, last_line}
+use Rattle.lane_calls.specs.LaneValues.{LaneValue}
+use Rattle.lane_lives.specs.Lives.{Deed, lines_of}
+use Rattle.lane_calls.specs.Lines.{last_line}
 use Rattle.lane_lives.specs.Serving.{bucket_in}
 use Rattle.lane_lives.specs.Settings.{lane_count, IsSetting}
 use Rattle.lane_lives.specs.declared.setting.Setting.{Setting}

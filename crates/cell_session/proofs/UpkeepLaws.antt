@@ -14,17 +14,17 @@ use Rattle.lane_journals.specs.declared.event.LaneEvent.{LaneEvent}
 use Rattle.distributor_part.specs.declared.rules.Rules.{Rules}
 use Rattle.lane_keeping.specs.LaneKeeping.{setting_of}
 use Rattle.lane_rest.specs.Rest.{IsAtRest}
-use Rattle.lane_lives.specs.LaneValues.{LaneValue}
-use Rattle.lane_lives.specs.Upkept.{IsLaneAtRest}
+use Rattle.lane_calls.specs.LaneValues.{LaneValue}
+use Rattle.lane_calls.specs.Upkept.{IsLaneAtRest, IsMaintained}
 use Rattle.lane_lives.specs.declared.setting.Setting.{Setting}
-use Rattle.lane_lives.specs.Lives.{Deed, Announces, Stops, Starts, Maintains, IsMaintained, IsLife}
+use Rattle.lane_lives.specs.Lives.{Deed, Announces, Stops, Starts, Maintains, IsLife}
 use Rattle.lane_lives.specs.Serving.{bucket_in}
 use Rattle.lane_carriage.specs.Carriage.{IsCarried}
 use Rattle.upkeep_spans.specs.Causes.{IsCause}
 use Rattle.lane_lives.specs.Upkeep.{WasCalm, SpanStands}
 use Rattle.lane_lives.specs.declared.spans.UpkeepSpan.{UpkeepSpan}
 use Rattle.lane_promises.proofs.Before.{Grown, grown_deed, grown_line}
-use Rattle.lane_lives.proofs.Upkept.{pass_made}
+use Rattle.lane_calls.proofs.Upkept.{pass_made}
 use Rattle.session_cluster.specs.Cells.{Cell}
 use Rattle.session_cluster.specs.Deeds.{deeds_of_lane}
 use Rattle.session_cluster.specs.Keeping.{IsKept}
@@ -47,7 +47,7 @@ grown_itself : (J : List LaneEvent) → Grown J J
 grown_itself J = ([], refl)
 
 -- these fates were given behind those
-abbrev GaveOn : List Fate → List Fate → Type 0
+abbrev pub GaveOn : List Fate → List Fate → Type 0
 GaveOn now given = (more : List Fate) × (now ≡ given ++ more)
 
 gave_none : (given : List Fate) → GaveOn given given
@@ -220,7 +220,7 @@ module _ (s : Setting) (plans : ℕ → List Fate) (cs : List Asked) (c : Asked)
           let was = lane_was old.lanes new.lanes lane w passed.count at in
           let v = was.0 in
           let serving = kept.serving lane v was.1 in
-          let made = (h.are).each lane v w span was.1 at there in
+          let made = ((h.are).each lane v w span was.1 at there).spans in
           let legal = passed_legal v w (passed.each lane v w was.1 at) serving.holds in
           record {
             before = v.journal;
@@ -250,7 +250,7 @@ module _ (s : Setting) (plans : ℕ → List Fate) (cs : List Asked) (c : Asked)
         let within : lane < length old.lanes = (let small = slice_get_within h.spans lane b there in omega (arith, small, (h.are).count)) in
         let v = in_list old.lanes lane within in
         let w = in_list new.lanes lane (omega (arith, within, passed.count)) in
-        (v.0, (v.1, ((h.are).each lane v.0 w.0 b v.1 w.1 there).from))
+        (v.0, (v.1, (((h.are).each lane v.0 w.0 b v.1 w.1 there).spans).from))
       where
         in_list : (vs : List LaneValue) (lane : ℕ) → lane < length vs → (v : LaneValue) × (slice_get vs lane ≡ Some v)
         in_list [] lane h = absurd (omega (arith, h))

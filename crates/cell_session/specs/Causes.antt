@@ -1,9 +1,10 @@
 -- Why lines were refused, and why they got too few answers.
 use Rattle.std.specs.Prelude.{◌≡◌, ℕ, List, Some, slice_get}
 use Rattle.messages.specs.declared.outcome.Outcome.TheVariants.{TooFew, OwnedElsewhere}
-use Rattle.lane_lives.specs.LaneValues.{LaneValue}
+use Rattle.lane_calls.specs.LaneValues.{LaneValue}
 use Rattle.lane_lives.specs.declared.setting.Setting.{Setting}
-use Rattle.lane_lives.specs.Lives.{lines_of, outcome_in}
+use Rattle.lane_lives.specs.Lives.{lines_of}
+use Rattle.lane_calls.specs.Readings.{outcome_in}
 use Rattle.lane_promises.specs.Promises.{WasRefused, LineFellShort}
 use Rattle.lane_lives.specs.Serving.{bucket_in}
 use Rattle.session_cluster.specs.Cells.{Cell}

@@ -9,6 +9,7 @@ use Rattle.session_cluster.specs.Cells.{Cell}
 use Rattle.cell_session.specs.Counting.{AreFew}
 use Rattle.cell_session.specs.Ends.{IfTold, AreFirst, StopsAt, EndsAtLimit, Writes}
 use Rattle.session_cluster.specs.Keeping.{IsKept}
+use Rattle.cell_session.specs.Orders.{GoInOrder}
 use Rattle.cell_session.specs.Searches.{AreRead}
 use Rattle.cell_session.specs.Upkeep.{AreUpkept}
 use Rattle.cell_session.specs.declared.status.Status.{Status}
@@ -22,6 +23,7 @@ pub record HasDealt (end : Status) (s : Setting) (types : Types) (plans : ℕ �
   pub stops : IfTold text (λ t. StopsAt end types s.bits t left commands)
   pub output : Writes end s commands c before now
   pub upkept : AreUpkept end s commands c
+  pub gone : GoInOrder s c
   pub read : AreRead s commands c
   pub few : AreFew commands
   pub reached : EndsAtLimit end commands

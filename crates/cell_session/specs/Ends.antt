@@ -1,9 +1,10 @@
 -- What each status says.
-use Rattle.std.specs.Prelude.{◌≡◌, ◌≢◌, ◌⊎◌, ℕ, ◌+◌, ◌<◌, ◌≤◌, Bool, true, List, [], ◌∷◌, ◌++◌, length, drop, Option, None, Some, slice_get}
+use Rattle.std.specs.Prelude.{◌≡◌, ◌≢◌, ◌⊎◌, ℕ, ◌+◌, ◌-◌, ◌<◌, ◌≤◌, Bool, true, List, [], ◌∷◌, ◌++◌, length, drop, Option, None, Some, slice_get}
 use Rattle.std.specs.Io.KnownBytes.{Appends, Keeps}
 use Rattle.std.specs.List.{count_by}
 use Rattle.io_ends.specs.Causes.{AppendsFront}
 use Rattle.io_ends.specs.Lines.{lines_of, end_of, NoLineFeed}
+use Rattle.io_ends.specs.Reading.{CameLast}
 use Rattle.io_ends.specs.declared.next.LimitKind.{LimitKind}
 use Rattle.io_ends.specs.declared.next.LimitKind.TheVariants as limit
 use Rattle.io_ends.specs.declared.sizes.TheConstants.{PIECE}
@@ -64,6 +65,16 @@ IsReadTo text count left = (held : List ℕ) × (NoLineFeed held × (drop (end_o
 abbrev pub IsReadNear : List ℕ → ℕ → List ℕ → Type 0
 IsReadNear text count left =
     (held : List ℕ) × ((length held < PIECE) × (drop (end_of count text) text ≡ held ++ left))
+
+-- the source's last call, which gave so many bytes, gave the last byte of these lines, and with it what was read behind
+-- them; or the last line has no line feed, and nothing is behind it
+abbrev pub IsReadBy : ℕ → List ℕ → ℕ → List ℕ → Type 0
+IsReadBy gave text count left =
+    (held : List ℕ) × (CameLast gave text (end_of (count - 1) text) (length held) × (drop (end_of count text) text ≡ held ++ left))
+
+-- after so many lines of a text the source was called no more, where it tells what it has left
+abbrev pub ReadsNoMore : Option (List ℕ) → Option (List ℕ) → ℕ → ℕ → Type 0
+ReadsNoMore text left gave count = IfTold text (λ t. IfTold left (IsReadBy gave t count))
 
 -- there is one line more, which ends within the limits and is of a kind, and as many lines before it were as a session
 -- may have

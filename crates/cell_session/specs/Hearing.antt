@@ -5,7 +5,7 @@ use Rattle.lane_journals.specs.Meanings.{history}
 use Rattle.lane_journals.specs.Readers.{held}
 use Rattle.lane_journals.specs.declared.event.LaneEvent.{LaneEvent}
 use Rattle.lane_journals.specs.declared.event.LaneEvent.TheVariants.{Heard}
-use Rattle.lane_lives.specs.LaneValues.{LaneValue}
+use Rattle.lane_calls.specs.LaneValues.{LaneValue}
 use Rattle.lane_lives.specs.declared.setting.Setting.{Setting}
 use Rattle.lane_promises.specs.Hearings.{deaf_in, HeardNewest}
 use Rattle.lane_lives.specs.Lives.{newest_in}

@@ -1,9 +1,10 @@
--- For a reader: Lines, Operations, Upkeep, Searches, FullSearches, Ends, Limits and Programs. The others serve the calls below the top one.
+-- For a reader: Lines, Operations, Upkeep, Orders, Searches, FullSearches, Ends, Limits and Programs. The others serve the calls below the top one.
 pub mod StatusNumbers
 pub mod Limits
 pub mod Counting
 pub mod Operations
 pub mod Upkeep
+pub mod Orders
 pub mod Searches
 pub mod FullSearches
 pub mod Causes

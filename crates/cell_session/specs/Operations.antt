@@ -5,11 +5,12 @@ use Rattle.carriers.specs.declared.fate.Fate.{Fate}
 use Rattle.doc_types.specs.SchemaCodes.{Types}
 use Rattle.lane_journals.specs.Meanings.{history}
 use Rattle.lane_carriage.specs.Carriage.{IsCarried}
-use Rattle.lane_lives.specs.LaneValues.{LaneValue}
+use Rattle.lane_calls.specs.LaneValues.{LaneValue}
 use Rattle.lane_keeping.specs.Lines.{IsFresh}
 use Rattle.lane_lives.specs.declared.setting.Setting.{Setting}
 use Rattle.lane_lives.specs.Lives as life
-use Rattle.lane_lives.specs.Lives.{IsLife, IsNone}
+use Rattle.lane_lives.specs.Lives.{IsLife}
+use Rattle.lane_calls.specs.Lines.{IsNone}
 use Rattle.lane_lives.specs.Serving.{bucket_in}
 use Rattle.session_cluster.specs.Asking.{IsAsked}
 use Rattle.session_cluster.specs.Deeds.{deeds_of_lane, planned_for}

@@ -2,7 +2,7 @@
 use Rattle.std.specs.Prelude.{◌≡◌, ℕ, ◌+◌, ◌≤◌, List, length, Option, Some, slice_get}
 use Rattle.io_ends.specs.Causes.{HasRisen}
 use Rattle.io_ends.specs.Lines.{lines_of, NoLineFeed}
-use Rattle.io_ends.specs.Reading.{Reading, Grows, IsLittle, IsAtLimit, IsWithin, Reaches}
+use Rattle.io_ends.specs.Reading.{Reading, Grows, IsLittle, IsAtLimit, IsWithin, Reaches, CameLast}
 use Rattle.doc_types.specs.SchemaCodes.{Types}
 use Rattle.session_cluster.specs.Asking.{IsAsked, IsOwnAsked}
 use Rattle.cell_session.specs.declared.next_command.Step.{Step}
@@ -30,6 +30,11 @@ pub record TakesLine (old new : Reading) (number : ℕ) : Type 0 where
 abbrev pub Advances : Reading → Reading → Step → Type 0
 Advances old new (step.Command number command) = TakesLine old new number
 Advances old new (step.Over end) = HoldsBack old new end
+
+-- where a command is that of a line, no call of the source came after the one that gave the line's end
+abbrev pub EndsRead : ℕ → List ℕ → Reading → Reading → Step → Type 0
+EndsRead gave text old new (step.Command number command) = CameLast gave text old.given (new.passed + length new.ahead)
+EndsRead gave text old new (step.Over end) = Unit {0}
 
 -- what an end says of the text in which the reader stood
 abbrev pub Finishes : List ℕ → Reading → Status → Type 0

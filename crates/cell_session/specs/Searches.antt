@@ -8,7 +8,7 @@ use Rattle.journal_views.specs.Searched.{IsAnswer}
 use Rattle.lane_changes.specs.Changes.{changes_of}
 use Rattle.lane_journals.specs.declared.event.LaneEvent.{LaneEvent}
 use Rattle.lane_keeping.specs.LaneKeeping.{setting_of}
-use Rattle.lane_lives.specs.LaneValues.{LaneValue}
+use Rattle.lane_calls.specs.LaneValues.{LaneValue}
 use Rattle.lane_lives.specs.Lives.{Deed, IsLife}
 use Rattle.lane_lives.specs.Serving.{bucket_in}
 use Rattle.lane_lives.specs.Settings.{lane_count}

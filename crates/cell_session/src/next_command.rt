@@ -1,6 +1,6 @@
 ghost use Rattle.std.specs.Prelude.{◌<◌, ◌≤◌, ℕ, List};
-ghost use Rattle.io_ends.specs.Reading.{StandsIn};
-ghost use Rattle.cell_session.specs.Reads.{Advances, Shows, CausedBySource, IsOwnStep, IsOfLine};
+ghost use Rattle.io_ends.specs.Reading.{StandsIn, IsNearEnd};
+ghost use Rattle.cell_session.specs.Reads.{Advances, EndsRead, Shows, CausedBySource, IsOwnStep, IsOfLine};
 
 use crate::status::Status;
 use doc_types::Schema;
@@ -34,6 +34,9 @@ pub fn next_command<S: Source>(
         → Shows schema.now bits text reader.old result }
     ensures stands { (text : List ℕ) → StandsIn text reader.old (S.left source.old)
         → StandsIn text reader.new (S.left source.new) }
+    ensures last { IsNearEnd (S.gave source.old) reader.old.ahead → IsNearEnd (S.gave source.new) reader.new.ahead }
+    ensures ends { (text : List ℕ) → StandsIn text reader.old (S.left source.old)
+        → IsNearEnd (S.gave source.old) reader.old.ahead → EndsRead (S.gave source.new) text reader.old reader.new result }
     ensures own { IsOwnStep bits result }
     ensures count { S.faults source.old ≤ S.faults source.new }
     ensures cause { CausedBySource result S.last (S.faults source.old) (S.faults source.new) }

@@ -8,8 +8,9 @@ ghost use Rattle.lane_lives.specs.Settings.{IsSetting};
 ghost use Rattle.session_settings.specs.declared.choice.Choice.{Choice};
 ghost use Rattle.session_cluster.specs.Cells.{is_empty, journals_of};
 ghost use Rattle.cell_session.specs.Dealing.{EndsAs};
-ghost use Rattle.cell_session.specs.Ends.{IfTold, OfFirst, HasLanes, DealsWith, PassesLimit, Writes, UsageEnd};
+ghost use Rattle.cell_session.specs.Ends.{IfTold, OfFirst, HasLanes, DealsWith, ReadsNoMore, PassesLimit, Writes, UsageEnd};
 ghost use Rattle.cell_session.specs.Lines.{HaveLines};
+ghost use Rattle.cell_session.specs.Orders.{GoInOrder};
 ghost use Rattle.session_cluster.specs.Keeping.{IsKept};
 ghost use Rattle.cell_session.specs.SoFar.{IsUnserved};
 ghost use Rattle.session_cluster.specs.Steps.{AreSettled};
@@ -66,19 +67,24 @@ pub fn run_one<S: Source, K: Sink, C: Carriers>(
     ensures shown { (c : Choice) → Chooses (map string_bytes words.now) c → AreShownRight c.setting cluster.new }
 
     // the lines: which were dealt with; what each of them did, who heard which state, what became of messages, why lines
-    // were refused or lacked answers, how upkeep went, and that searches behind rest are full; and the bytes that answer
-    // them
+    // were refused or lacked answers, how upkeep went, that its passes went on in their order whatever was lost, and that
+    // searches behind rest are full; and the bytes that answer them
     ensures dealt_with { (c : Choice) → Chooses (map string_bytes words.now) c
         → IfTold (S.left source.old)
         (λ text. DealsWith result c.setting.schema c.setting.bits text cluster.new.dealt (S.left source.new)) }
     ensures lines { (c : Choice) → Chooses (map string_bytes words.now) c
         → HaveLines result c.setting c.setting.schema (C.plans carriers.old) (S.left source.old) cluster.new }
+    ensures passes_in_order { (c : Choice) → Chooses (map string_bytes words.now) c → GoInOrder c.setting cluster.new }
     ensures completeness { (c : Choice) → Chooses (map string_bytes words.now) c
         → AreComplete c.setting cluster.new.lanes }
     ensures bytes_written { (c : Choice) → Chooses (map string_bytes words.now) c
         → IfTold (S.left source.old) (λ text. OfFirst c.setting.schema c.setting.bits text cluster.new.dealt
         (λ commands. Writes result c.setting commands cluster.new
         (K.written sink.old) (K.written sink.new))) }
+
+    // after a fault of the sink the source is called no more: its last call gave the end of the line that was dealt with
+    ensures nothing_more { (c : Choice) → Chooses (map string_bytes words.now) c → result ≡ Status.WriteFault
+        → ReadsNoMore (S.left source.old) (S.left source.new) (S.gave source.new) cluster.new.dealt }
 
     // the searches: each counts a document once at most, and at full coverage as an operation left it that is no older
     // than what was acknowledged before
@@ -150,6 +156,8 @@ fn run_lines<S: Source, K: Sink, C: Carriers>(
     requires setting { IsSetting setting.now }
     ensures ended { EndsAs result setting.now setting.now.schema (C.plans carriers.old) (S.left source.old) (S.left source.new) cluster.new
         (K.written sink.old) (K.written sink.new) }
+    ensures nothing_more { result ≡ Status.WriteFault
+        → ReadsNoMore (S.left source.old) (S.left source.new) (S.gave source.new) cluster.new.dealt }
     ensures read_fault { result ≡ Status.ReadFault
         → HasRisen S.last (S.faults source.old) (S.faults source.new) }
     ensures write_fault { result ≡ Status.WriteFault
@@ -178,6 +186,8 @@ fn serve_lines<S: Source, K: Sink, C: Carrier + Drop>(
     ensures ended { (plans : ℕ → List Fate) → IsKept setting.now plans [] session.old.cell
         → EndsAs result setting.now setting.now.schema plans (S.left source.old) (S.left source.new) session.new.cell
         (K.written sink.old) (K.written sink.new) }
+    ensures nothing_more { result ≡ Status.WriteFault
+        → ReadsNoMore (S.left source.old) (S.left source.new) (S.gave source.new) session.new.cell.dealt }
     ensures read_fault { result ≡ Status.ReadFault
         → HasRisen S.last (S.faults source.old) (S.faults source.new) }
     ensures write_fault { result ≡ Status.WriteFault

@@ -8,6 +8,7 @@ use Rattle.documents.specs.declared.entry.Entry.{Entry}
 use Rattle.entry_rows.specs.declared.slots.Slot.{Slot}
 use Rattle.entry_maps.specs.EntryCodes.{Entries}
 use Rattle.entry_maps.specs.Entries.{is_newer, alone, HasNoneNewer, HasOneNewer}
+use Rattle.entry_maps.specs.Merging.{HasAsNew}
 use Rattle.entry_maps.specs.Slots.{IsKept, IsSlotOf, entries_of, entry_in}
 use Rattle.entry_maps.proofs.SlotLists.{same_id, get-entries_of}
 use Rattle.entry_maps.proofs.StoredLaws.{found_there}
@@ -44,3 +45,9 @@ alone_old there x old id e h = by_test (same_id id x.id) (sym (get_alone x id) �
 
 pub alone_newer : (there : Entries) (x : Entry) → is_newer x (fin.get there x.id) ≡ true → HasOneNewer (alone x) there
 alone_newer there x new = (x.id, x, its_own x x.id refl, new)
+
+-- slots that other slots have with the same or a greater stamp hold no newer entry
+pub none_newer_than : (there slots : List Slot) → All (HasAsNew there) slots → HasNoneNewer (entries_of slots) (entries_of there)
+none_newer_than there slots all = none_newer (entries_of there) slots (λ k d lt.
+    let s : Slot = get_or slots k d in
+    ap (is_newer s.entry) (get-entries_of there s.entry.id) ∙ all k d lt)

@@ -6,6 +6,7 @@ ghost use Rattle.entry_maps.specs.Entries.{is_newer, with_entry, with_instead, n
 ghost use Rattle.entry_maps.specs.Stamps.{stamps_of};
 
 use crate::kept::Kept;
+use crate::kept_stamps::KeptStamps;
 use bucket_ids::{Bucket, path_of};
 use document_ids::DocId;
 use documents::{Entry, SharedEntry};
@@ -19,12 +20,14 @@ use value_lists::{NoMemory, TryCopy};
 #[derive(Drop)]
 pub struct EntryMap {
     kept: Kept,
+    /// The stamps of its entries, where they are kept until one comes or goes.
+    stamps: Option<KeptStamps>,
     alloc: Global,
 }
 
 impl Model for EntryMap {
     ghost use Rattle.entry_maps.specs.EntryCodes.{Entries, entries_code};
-    ghost use Rattle.entry_maps.specs.Kept.{kept_entries, IsWell};
+    ghost use Rattle.entry_maps.specs.Kept.{kept_entries, IsMap};
 
     ghost Value = { Entries };
 
@@ -32,7 +35,7 @@ impl Model for EntryMap {
 
     ghost view = { λ m. kept_entries m.kept };
 
-    ghost invariant = { λ m. IsWell m.kept };
+    ghost invariant = { λ m. IsMap m.kept m.stamps };
 }
 
 /// The entry that is shared, if there is one.
@@ -45,6 +48,16 @@ fn lent(shared: Option<&SharedEntry>) -> Option<&Entry>
     }
 }
 
+/// The stamps that may be kept, shared.
+fn shared(alloc: Global, stamps: &Option<KeptStamps>) -> Result<Option<KeptStamps>, NoMemory>
+    ensures { IfOk result (λ copy. copy ≡ stamps.now) }
+{
+    match stamps {
+        Some(stamps) => Ok(Some(stamps.copy(alloc)?)),
+        None => Ok(None),
+    }
+}
+
 impl EntryMap {
     /// A map without entries.
     pub fn new(alloc: Global) -> EntryMap
@@ -52,6 +65,7 @@ impl EntryMap {
     {
         EntryMap {
             kept: Kept::none(alloc),
+            stamps: None,
             alloc,
         }
     }
@@ -62,6 +76,7 @@ impl EntryMap {
     {
         EntryMap {
             kept: Kept::One(entry),
+            stamps: None,
             alloc,
         }
     }
@@ -107,7 +122,21 @@ impl EntryMap {
     pub fn stamps(&self) -> Result<Vec<Stamp>, NoMemory>
         ensures { IfOk result (λ stamps. stamps.items ≡ stamps_of self.now) }
     {
-        self.kept.stamps(self.alloc)
+        match &self.stamps {
+            Some(stamps) => stamps.list(self.alloc),
+            None => self.kept.stamps(self.alloc),
+        }
+    }
+
+    /// Keeps the stamps of all entries until one comes or goes; copies share them till then.
+    pub fn keep_stamps(&mut self) -> Result<(), NoMemory>
+        ensures { self.new ≡ self.old }
+    {
+        if self.stamps.is_none() {
+            let stamps = self.kept.stamps(self.alloc)?;
+            self.stamps = Some(KeptStamps::new(self.alloc, stamps)?);
+        }
+        Ok(())
     }
 
     /// All entries, shared; their order isn't told.
@@ -136,6 +165,7 @@ impl EntryMap {
         ensures ok { OnOk result (self.new ≡ with_entry self.old entry) }
         ensures err { OnErr result (self.new ≡ self.old) }
     {
+        self.stamps = None;
         self.kept.put(self.alloc, path_of(key), entry)
     }
 
@@ -145,6 +175,7 @@ impl EntryMap {
         requires { key ≡ key_of entry.id }
         ensures { self.new ≡ with_instead self.old entry }
     {
+        self.stamps = None;
         self.kept.put_instead(path_of(key), entry);
     }
 
@@ -153,6 +184,7 @@ impl EntryMap {
         requires { key ≡ key_of id.now }
         ensures { self.new ≡ fin.remove self.old id.now }
     {
+        self.stamps = None;
         self.kept.remove(self.alloc, path_of(key), id);
     }
 
@@ -162,11 +194,12 @@ impl EntryMap {
             → fin.get self.new id ≡ newer_of (fin.get self.old id) (fin.get other.now id)) }
         ensures err { OnErr result (self.new ≡ self.old) }
     {
+        self.stamps = None;
         self.kept.merge(self.alloc, &other.kept)
     }
 
-    /// Whether it has a newer entry of some document than another map. It takes a search there for each entry, to the
-    /// first that is newer.
+    /// Whether it has a newer entry of some document than another map. It takes a walk over both, and where that finds one that
+    /// is new there, a search for each entry, to the first that is newer.
     pub fn has_newer(&self, there: &EntryMap) -> bool
         ensures none { result ≡ false → HasNoneNewer self.now there.now }
         ensures some { result ≡ true → HasOneNewer self.now there.now }
@@ -180,6 +213,7 @@ impl EntryMap {
     {
         Ok(EntryMap {
             kept: self.kept.within(self.alloc, bucket)?,
+            stamps: None,
             alloc: self.alloc,
         })
     }
@@ -188,6 +222,7 @@ impl EntryMap {
     pub fn remove_within(&mut self, bucket: Bucket)
         ensures { self.new ≡ fin.retain_keys self.old (λ id. not (in_bucket bucket id)) }
     {
+        self.stamps = None;
         self.kept.remove_within(self.alloc, bucket);
     }
 }
@@ -197,6 +232,7 @@ impl TryCopy for EntryMap {
     fn copy(&self, alloc: Global) -> Result<EntryMap, NoMemory> {
         Ok(EntryMap {
             kept: self.kept.shared(alloc)?,
+            stamps: shared(alloc, &self.stamps)?,
             alloc,
         })
     }

@@ -29,6 +29,7 @@ mod copies;
 pub mod entry_map;
 pub mod joins;
 mod kept;
+mod kept_stamps;
 pub mod laws;
 mod listing;
 mod merging;

@@ -154,7 +154,7 @@ impl Stored {
 
     /// Whether each entry of another map, whose first slot is lent, is here with the same or a greater stamp, so
     /// that a merge changes nothing. Both lists are walked side by side, to the first entry that is newer.
-    fn has_as_new(&self, other: &Stored, first: &Slot) -> bool
+    pub fn has_as_new(&self, other: &Stored, first: &Slot) -> bool
         requires own { IsStored self.now }
         requires other { IsStored other.now }
         ensures { result ≡ true → All (HasAsNew (slots_in self.now)) (slots_in other.now) }

@@ -23,6 +23,22 @@ fn is_newer(path: u64, entry: &SharedEntry, there: &Kept) -> bool
 }
 
 impl Stored {
+    #[tactic(auto, using(crate::proofs::NewerLaws::none_newer_than))]
+    /// Whether a walk over both maps side by side finds each entry there with the same or a greater stamp.
+    fn is_there(&self, there: &Kept) -> bool
+        requires own { IsStored self.now }
+        requires well { IsWell there.now }
+        ensures { result ≡ true → HasNoneNewer (entries_of (slots_in self.now)) (kept_entries there.now) }
+    {
+        let Kept::Rows(rows) = there else {
+            return false;
+        };
+        match self.list.slot(self.list.first()) {
+            Some(first) => rows.has_as_new(self, first),
+            None => false,
+        }
+    }
+
     /// Whether an entry is newer than what a map has of its document.
     fn has_newer(&self, there: &Kept) -> bool
         requires own { IsStored self.now }
@@ -30,6 +46,9 @@ impl Stored {
         ensures none { result ≡ false → HasNoneNewer (entries_of (slots_in self.now)) (kept_entries there.now) }
         ensures some { result ≡ true → HasOneNewer (entries_of (slots_in self.now)) (kept_entries there.now) }
     {
+        if self.is_there(there) {
+            return false;
+        }
         let mut at = self.list.first();
         while let Some(slot) = self.list.slot(at) {
             if is_newer(slot.path, &slot.entry, there) {

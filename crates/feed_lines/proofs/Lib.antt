@@ -6,5 +6,5 @@ mod SettingLaws
 mod SearchLaws
 mod TruthLaws
 mod CauseOrder
-mod BareLines
+mod GetsAndRemoves
 mod RangeLaws

@@ -22,7 +22,7 @@ use Rattle.feed_lines.specs.Values.{below, number_below, lane_end, most_fates, I
 use Rattle.feed_lines.specs.declared.command.Cause.TheVariants as cause
 use Rattle.feed_lines.specs.declared.command.Command.{Command}
 use Rattle.feed_lines.specs.declared.command.Command.TheVariants as command
-use Rattle.feed_lines.proofs.BareLines.{bare_get}
+use Rattle.feed_lines.proofs.GetsAndRemoves.{bare_get}
 use Rattle.feed_lines.proofs.LineLaws.{put_means, update_means, remove_means, get_means}
 use Rattle.feed_lines.proofs.SettingLaws.{stop_means, start_means, net_means}
 

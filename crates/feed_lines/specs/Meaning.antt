@@ -141,13 +141,10 @@ net_said (Some lane) (Some fates) = Ok (command.Net lane fates)
 net_said (Some lane) None = Err cause.Value
 net_said None fates = Err cause.Value
 
-abbrev pub maintain_said : Bool → Result Command Cause
-maintain_said true = Ok command.Maintain
-maintain_said false = Err cause.Value
-
-abbrev pub barrier_said : Bool → Result Command Cause
-barrier_said true = Ok command.Barrier
-barrier_said false = Err cause.Value
+-- a line of a verb whose one value is true
+abbrev pub bare_said : Command → Bool → Result Command Cause
+bare_said asked true = Ok asked
+bare_said asked false = Err cause.Value
 
 -- what a line of a verb says that has the right keys
 abbrev pub own_said : Types → ℕ → LineVerb → Data → Result Command Cause

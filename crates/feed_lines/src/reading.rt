@@ -9,8 +9,7 @@ use crate::keys::LineVerb;
 use crate::operations::feed_command;
 use crate::options::bad;
 use crate::settings::{
-    barrier_command, maintain_command, net_command, search_command, start_command, state_command,
-    stop_command,
+    bare_command, net_command, search_command, start_command, state_command, stop_command,
 };
 use crate::shape::{has_right_keys, verb_of};
 use doc_types::Schema;
@@ -56,8 +55,8 @@ fn own_command(
         LineVerb::Stop => stop_command(line),
         LineVerb::Start => start_command(line),
         LineVerb::Net => net_command(alloc, line, bits),
-        LineVerb::Maintain => maintain_command(line),
-        LineVerb::Barrier => barrier_command(line),
+        LineVerb::Maintain => bare_command("maintain", Command::Maintain, line),
+        LineVerb::Barrier => bare_command("barrier", Command::Barrier, line),
     }
 }
 

@@ -1,6 +1,6 @@
 ghost use Rattle.std.specs.Prelude.{◌≡◌, codes, IfOk};
 ghost use Rattle.serde_json.specs.View.{view};
-ghost use Rattle.feed_lines.specs.Meaning.{search_said, state_said, stop_said, start_said, net_said, maintain_said, barrier_said, Gives};
+ghost use Rattle.feed_lines.specs.Meaning.{search_said, state_said, stop_said, start_said, net_said, bare_said, Gives};
 ghost use Rattle.feed_lines.specs.Tests.{search_in, state_in, deaf_in, node_in, lane_in, fates_in, is_true_in};
 
 use crate::command::{Cause, Command, LineFault};
@@ -111,23 +111,12 @@ fn is_true_in(key: &str, line: &Value) -> bool
     }
 }
 
-/// Upkeep, which a line asks for.
-pub fn maintain_command(line: &Value) -> Result<Command, LineFault>
-    ensures { Gives result (maintain_said (is_true_in (codes "maintain") (view line.now))) }
+/// What a line asks for whose verb has the value true, and nothing else.
+pub fn bare_command(key: &str, asked: Command, line: &Value) -> Result<Command, LineFault>
+    ensures { Gives result (bare_said asked (is_true_in key.now (view line.now))) }
 {
-    if is_true_in("maintain", line) {
-        Ok(Command::Maintain)
-    } else {
-        Err(bad(Cause::Value))
-    }
-}
-
-/// A barrier, which a line asks for.
-pub fn barrier_command(line: &Value) -> Result<Command, LineFault>
-    ensures { Gives result (barrier_said (is_true_in (codes "barrier") (view line.now))) }
-{
-    if is_true_in("barrier", line) {
-        Ok(Command::Barrier)
+    if is_true_in(key, line) {
+        Ok(asked)
     } else {
         Err(bad(Cause::Value))
     }

@@ -4,8 +4,7 @@ use Rattle.std.proofs.lemmas.Bool.Decides.{nat_tests}
 use Rattle.std.proofs.lemmas.Bool.{false≢true}
 use Rattle.memchr.specs.Find.{IsFirstByte, is_byte}
 use Rattle.io_ends.specs.Lines.{NoLineFeed}
-use Rattle.io_ends.specs.Filling.{IsFeedAt, IsNearEnd}
-use Rattle.io_ends.specs.declared.sizes.TheConstants.{PIECE}
+use Rattle.io_ends.specs.Reading.{IsFeedAt, IsNearEnd}
 
 -- no line feed at any place
 pub NoLineFeed-from_places : (xs : List ℕ) → ((k : ℕ) → k < length xs → get_or xs k 0 ≡ 10 → ⊥) → NoLineFeed xs
@@ -29,9 +28,9 @@ feed_behind (x ∷ xs) (suc seen) (suc at) clear feed =
     let deeper : seen ≤ at = feed_behind xs seen at clear.1 (record { within = omega (arith, feed.within); before = feed.before.1; here = feed.here }) in
     omega (arith, deeper)
 
--- where all but a piece was seen, the first line feed stands in the last piece
-pub near_end-seen : (xs : List ℕ) (seen : ℕ) → NoLineFeed (take seen xs) → length xs ≤ seen + PIECE → IsNearEnd xs
-near_end-seen xs seen clear few at feed = omega (arith, few, feed_behind xs seen at clear feed)
+-- where all but so many bytes were seen, the first line feed stands among those
+pub near_end-seen : (size : ℕ) (xs : List ℕ) (seen : ℕ) → NoLineFeed (take seen xs) → length xs ≤ seen + size → IsNearEnd size xs
+near_end-seen size xs seen clear few at feed = omega (arith, few, feed_behind xs seen at clear feed)
 
 pub feed_none : (xs : List ℕ) (from : ℕ) → ((k : ℕ) → 0 ≤ k → k < length (drop from xs) → get_or (drop from xs) k 0 ≡ 10 → ⊥) → NoLineFeed (take from xs) → NoLineFeed xs
 feed_none xs from h p = NoLineFeed-whole xs from p (NoLineFeed-from_places (drop from xs) (λ k q. h k (omega arith) q))

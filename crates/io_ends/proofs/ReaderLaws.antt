@@ -1,12 +1,12 @@
 -- What a reader of lines knows of the text that it stands in.
-use Rattle.std.proofs.Common.{◌≡◌, ℕ, zero, suc, ◌+◌, ◌<◌, ◌≤◌, List, [], ◌∷◌, ◌++◌, length, drop, take, slice_get, Option, None, Some, refl, sym, ap, ◌∙◌, subst, arith, add-one, append-nil, append_assoc, length-append, length-drop, drop-drop, take-append-drop, add_assoc, get_or, nat_lt, true, false, MatchBool, ltb-true, drop-cons, length-take-le, le_of_lt, subst₂, add-zero, ap₂}
+use Rattle.std.proofs.Common.{◌≡◌, ℕ, zero, suc, ◌+◌, ◌<◌, ◌≤◌, List, [], ◌∷◌, ◌++◌, length, drop, take, slice_get, Option, None, Some, refl, sym, ap, ◌∙◌, subst, arith, add-one, append-nil, append_assoc, length-append, length-drop, drop-drop, take-append-drop, add_assoc, get_or, nat_lt, true, false, MatchBool, ltb-true, drop-cons, length-take-le, le_of_lt, subst₂, add-zero, ap₂, inl, inr}
 use Rattle.std.proofs.lemmas.List.{take-append-le}
 use Rattle.std.specs.Io.KnownBytes.{Keeps, IsAtEnd}
 use Rattle.io_ends.specs.Ahead.{Ahead}
 use Rattle.io_ends.specs.Fetching.{Fetches}
-use Rattle.io_ends.specs.Filling.{HoldsIn, IsLong, IsNearEnd, IsFeedAt, Passes, after_line, Gives, GivesLast}
+use Rattle.io_ends.specs.Filling.{HoldsIn, IsLong, Passes, after_line, Gives, GivesLast}
 use Rattle.io_ends.specs.Lines.{NoLineFeed, lines_of, end_of}
-use Rattle.io_ends.specs.Reading.{Reading, IsSplit, IsAt, StandsIn, Reaches, Tells}
+use Rattle.io_ends.specs.Reading.{IsFeedAt, IsNearEnd, Reading, IsSplit, IsAt, StandsIn, Reaches, Tells, CameLast, EndsLast}
 use Rattle.io_ends.specs.declared.next.Next.{Next}
 use Rattle.io_ends.specs.declared.next.Next.TheVariants as next
 use Rattle.io_ends.specs.declared.next.LimitKind.TheVariants as limit
@@ -56,8 +56,8 @@ pub record IsPassed (old new : Ahead) (room seen : ℕ) : Type 0 where
   pub long : IsLong new
 
 -- where all that lies ahead was seen, its last piece is where the first line feed stands, if there is one
-pub near_passed : (old new : Ahead) (room seen : ℕ) → IsPassed old new room seen → IsNearEnd new.ahead
-near_passed old new room seen p = near_end-seen new.ahead seen p.clear (omega (arith, p.all_seen))
+pub near_passed : (size : ℕ) (old new : Ahead) (room seen : ℕ) → IsPassed old new room seen → IsNearEnd size new.ahead
+near_passed size old new room seen p = near_end-seen size new.ahead seen p.clear (omega (arith, p.all_seen))
 
 pass_over : (old new : Ahead) (room size seen : ℕ) → (new ≡ record { ahead = []; passed = old.passed + length old.ahead }) × (seen ≡ 0) → LONGEST < size → length old.ahead ≡ size
     → NoLineFeed old.ahead → old.passed + size ≤ room → IsPassed old new room seen
@@ -89,9 +89,10 @@ passes old new room size seen h len clear fits long =
     ] refl h
 
 -- one more turn of the search
-pub sought_next : (first : Ahead) (told : Option (List ℕ)) (w mid new : Ahead) (left after : Option (List ℕ)) (room seen next n : ℕ) → IsSought first told w left room seen
-    → IsPassed w mid room next → Fetches mid new left after n → IsSought first told new after room next
-sought_next first told w mid new left after room seen next n s p f =
+pub sought_next : (first : Ahead) (told : Option (List ℕ)) (w mid new : Ahead) (left after : Option (List ℕ)) (room seen next n gave gives given : ℕ) → IsSought first told w left room seen gave gives
+    → IsPassed w mid room next → Fetches mid new left after n → given ≡ n → IsSought first told new after room next gave given
+sought_next first told w mid new left after room seen next n gave gives given s p f came =
+    let grown : length new.ahead ≡ next + n = omega (arith, p.all_seen, ap length f.ahead, length-append mid.ahead f.bytes, f.size) in
     let clear = subst NoLineFeed (sym (ap (take next) f.ahead ∙ take-append-le next mid.ahead f.bytes (omega (arith, p.all_seen)))) p.clear in
     record {
       seen_lies_ahead = omega (arith, p.all_seen, ap length f.ahead, length-append mid.ahead f.bytes);
@@ -99,7 +100,8 @@ sought_next first told w mid new left after room seen next n s p f =
       kept = λ bytes h. split_fetched bytes mid new left after n f (p.kept bytes left (s.kept bytes h));
       passed = omega (arith, f.passed, p.passed);
       long = subst (λ x. 0 < x → LONGEST < x) (sym f.passed) p.long;
-      near = near_end-seen new.ahead next clear (omega (arith, p.all_seen, ap length f.ahead, length-append mid.ahead f.bytes, f.size, f.few));
+      near = near_end-seen PIECE new.ahead next clear (omega (arith, grown, f.few));
+      last = λ _. near_end-seen given new.ahead next clear (omega (arith, grown, came));
     }
 
 -- ---- the line at the front of what is to come
@@ -329,6 +331,77 @@ input_stands text r w (Some left) s clear done (next.Limit which) new line g =
     subst (λ x. IsAt text new x) (sym done) (gives_stands text r w [] at [] (length w.ahead) 0 (last_begins text r w at clear (omega (arith, g.1))) (last_rest w) (next.Limit which) new line g.0)
 input_stands text r w (Some left) s clear done next.ReadFault new line g = absurd g
 input_stands text r w (Some left) s clear done next.NoMemory new line g = subst (λ x. IsAt text x left) (sym g) s
+
+-- ---- what came with the source's last call
+
+-- so many bytes are all that lies ahead, or more
+pub near_all : (size : ℕ) (ahead : List ℕ) → length ahead ≤ size → IsNearEnd size ahead
+near_all size ahead few at feed = omega arith
+
+gives_last : (text : List ℕ) (r : Reading) (w : Ahead) (size feed gave : ℕ) → CameLast gave text r.given (0 + length (drop (size + feed) w.ahead))
+    → (result : Next) (new : Reading) (line : List ℕ) → Gives (with_window r w) new size feed result line → EndsLast gave text r new result
+gives_last text r w size feed gave came (next.Line number) new line g = subst (λ (x : Reading). CameLast gave text r.given (x.passed + length x.ahead)) (sym g.after) came
+gives_last text r w size feed gave came (next.TooLong number) new line g = subst (λ (x : Reading). CameLast gave text r.given (x.passed + length x.ahead)) (sym g.after) came
+gives_last text r w size feed gave came next.End new line g = tt
+gives_last text r w size feed gave came (next.Limit which) new line g = tt
+gives_last text r w size feed gave came next.ReadFault new line g = tt
+gives_last text r w size feed gave came next.NoMemory new line g = tt
+
+gives_near : (r : Reading) (w : Ahead) (size feed gave : ℕ) → IsNearEnd gave w.ahead → IsNearEnd gave (drop (size + feed) w.ahead)
+    → (result : Next) (new : Reading) (line : List ℕ) → Gives (with_window r w) new size feed result line → IsNearEnd gave new.ahead
+gives_near r w size feed gave was now (next.Line number) new line g = subst (λ (x : Reading). IsNearEnd gave x.ahead) (sym g.after) now
+gives_near r w size feed gave was now (next.TooLong number) new line g = subst (λ (x : Reading). IsNearEnd gave x.ahead) (sym g.after) now
+gives_near r w size feed gave was now next.End new line g = absurd g
+gives_near r w size feed gave was now (next.Limit limit.Lines) new line g = absurd g
+gives_near r w size feed gave was now (next.Limit limit.Bytes) new line g = subst (λ (x : Reading). IsNearEnd gave x.ahead) (sym g.0) was
+gives_near r w size feed gave was now (next.Limit limit.States) new line g = absurd g
+gives_near r w size feed gave was now (next.Limit limit.Maintains) new line g = absurd g
+gives_near r w size feed gave was now next.ReadFault new line g = absurd g
+gives_near r w size feed gave was now next.NoMemory new line g = subst (λ (x : Reading). IsNearEnd gave x.ahead) (sym g) was
+
+-- what is left of what came with the last call
+behind_feed : (w : Ahead) (i gave : ℕ) → IsFeedAt w.ahead i → IsNearEnd gave w.ahead → length (drop (i + 1) w.ahead) < gave
+behind_feed w i gave feed near = omega (arith, near i feed, feed.within, length-drop (i + 1) w.ahead)
+
+pub feed_ends : (text : List ℕ) (r : Reading) (w : Ahead) (i gave : ℕ) → IsFeedAt w.ahead i → IsNearEnd gave w.ahead
+    → (result : Next) (new : Reading) (line : List ℕ) → Gives (with_window r w) new i 1 result line → EndsLast gave text r new result
+feed_ends text r w i gave feed near result new line g = gives_last text r w i 1 gave (inl (let less = behind_feed w i gave feed near in omega arith)) result new line g
+
+pub feed_near : (r : Reading) (w : Ahead) (i gave : ℕ) → IsFeedAt w.ahead i → IsNearEnd gave w.ahead
+    → (result : Next) (new : Reading) (line : List ℕ) → Gives (with_window r w) new i 1 result line → IsNearEnd gave new.ahead
+feed_near r w i gave feed near result new line g =
+    gives_near r w i 1 gave near (near_all gave (drop (i + 1) w.ahead) (le_of_lt (behind_feed w i gave feed near))) result new line g
+
+-- the bytes to come have no line feed
+none_left : (text : List ℕ) (r : Reading) (w : Ahead) (told : Option (List ℕ)) → StandsIn text (with_window r w) told → NoLineFeed w.ahead → IsAtEnd told → NoLineFeed (drop r.given text)
+none_left text r w None s clear done = absurd s
+none_left text r w (Some left) s clear done =
+    subst NoLineFeed (sym (s.after ∙ s.split.whole ∙ ap (λ x. s.split.front ++ (w.ahead ++ x)) done ∙ ap (λ x. s.split.front ++ x) (append-nil w.ahead)))
+    (NoLineFeed-append s.split.front w.ahead s.split.no_feed clear)
+
+pub input_ends : (text : List ℕ) (r : Reading) (w : Ahead) (told : Option (List ℕ)) (gave : ℕ) → StandsIn text (with_window r w) told → NoLineFeed w.ahead → IsAtEnd told
+    → (result : Next) (new : Reading) (line : List ℕ) → GivesLast (with_window r w) new result line → EndsLast gave text r new result
+input_ends text r w told gave s clear done (next.Line number) new line g = gives_last text r w (length w.ahead) 0 gave (inr (none_left text r w told s clear done)) (next.Line number) new line g.0
+input_ends text r w told gave s clear done (next.TooLong number) new line g = gives_last text r w (length w.ahead) 0 gave (inr (none_left text r w told s clear done)) (next.TooLong number) new line g
+input_ends text r w told gave s clear done next.End new line g = tt
+input_ends text r w told gave s clear done (next.Limit which) new line g = tt
+input_ends text r w told gave s clear done next.ReadFault new line g = tt
+input_ends text r w told gave s clear done next.NoMemory new line g = tt
+
+pub input_near : (r : Reading) (w : Ahead) (gave : ℕ) → IsNearEnd gave w.ahead
+    → (result : Next) (new : Reading) (line : List ℕ) → GivesLast (with_window r w) new result line → IsNearEnd gave new.ahead
+input_near r w gave near result new line g = by_case result g
+  where
+    now : IsNearEnd gave (drop (length w.ahead + 0) w.ahead)
+    now = near_all gave (drop (length w.ahead + 0) w.ahead) (omega (arith, ap length (whole_drop w.ahead)))
+
+    by_case : (result : Next) → GivesLast (with_window r w) new result line → IsNearEnd gave new.ahead
+    by_case (next.Line number) g = gives_near r w (length w.ahead) 0 gave near now (next.Line number) new line g.0
+    by_case (next.TooLong number) g = gives_near r w (length w.ahead) 0 gave near now (next.TooLong number) new line g
+    by_case next.End g = subst (λ (x : Reading). IsNearEnd gave x.ahead) (sym g.0) near
+    by_case (next.Limit which) g = gives_near r w (length w.ahead) 0 gave near now (next.Limit which) new line g.0
+    by_case next.ReadFault g = absurd g
+    by_case next.NoMemory g = subst (λ (x : Reading). IsNearEnd gave x.ahead) (sym g) near
 
 -- a line that has no end among more bytes than it may have
 pub past_told : (text : List ℕ) (r : Reading) (w : Ahead) (told : Option (List ℕ)) (room : ℕ) → StandsIn text (with_window r w) told → NoLineFeed w.ahead → room < w.passed + length w.ahead

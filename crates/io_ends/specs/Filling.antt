@@ -2,13 +2,13 @@
 use Rattle.std.specs.Prelude.{◌≡◌, ℕ, ◌+◌, ◌<◌, ◌≤◌, List, [], length, drop, take, slice_index, None, Some, Option, MatchOption, MatchBool, nat_lt}
 use Rattle.std.specs.Io.KnownBytes.{IsAtEnd}
 use Rattle.io_ends.specs.Lines.{NoLineFeed}
-use Rattle.io_ends.specs.Reading.{IsSplit, Reading}
+use Rattle.io_ends.specs.Reading.{IsFeedAt, IsSplit, Reading}
 use Rattle.io_ends.specs.declared.filling.LineEnd.{LineEnd}
 use Rattle.io_ends.specs.declared.filling.LineEnd.TheVariants as line_end
 use Rattle.io_ends.specs.declared.next.Next.{Next}
 use Rattle.io_ends.specs.declared.next.Next.TheVariants as next
 use Rattle.io_ends.specs.declared.next.LimitKind.TheVariants as limit
-use Rattle.io_ends.specs.declared.sizes.TheConstants.{LONGEST, PIECE}
+use Rattle.io_ends.specs.declared.sizes.TheConstants.{LONGEST}
 use Rattle.io_ends.specs.Ahead.{Ahead}
 
 -- these bytes are what the window passed over, what lies ahead, and what the source has left
@@ -19,16 +19,6 @@ HoldsIn bytes w (Some left) = IsSplit bytes w.passed w.ahead left
 -- what was passed over is longer than a line that is handed out
 abbrev pub IsLong : Ahead → Type 0
 IsLong w = 0 < w.passed → LONGEST < w.passed
-
--- the first line feed ahead
-pub record IsFeedAt (ahead : List ℕ) (at : ℕ) : Type 0 where
-  pub within : at < length ahead
-  pub before : NoLineFeed (take at ahead)
-  pub here : slice_index ahead at ≡ 10
-
--- the first line feed ahead, if there is one, stands in the last piece
-abbrev pub IsNearEnd : List ℕ → Type 0
-IsNearEnd ahead = (at : ℕ) → IsFeedAt ahead at → length ahead ≤ at + PIECE
 
 -- the first line feed, if there is one, of what follows `from` bytes
 abbrev pub FindsFeed : List ℕ → ℕ → Option ℕ → Type 0

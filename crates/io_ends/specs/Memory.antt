@@ -1,12 +1,14 @@
 -- Ends in memory.
 use Rattle.std.specs.Prelude.{ℕ, ◌+◌, ◌-◌, ◌^◌, ◌<◌, min, Bool, List, Contains}
 
--- a source: the bytes left, the numbers of the calls that fail, how many calls there were, how many failed
+-- a source: the bytes left, the numbers of the calls that fail, how many calls there were, how many failed, and how many
+-- bytes the last one gave
 pub record MemorySourceView : Type 0 where
   pub left : List ℕ
   pub failing : List ℕ
   pub calls : ℕ
   pub faults : ℕ
+  pub gave : ℕ
 
 -- a sink: the bytes written, the same numbers, and whether the last call wanted memory
 pub record MemorySinkView : Type 0 where

@@ -1,5 +1,5 @@
 -- What a reader of lines has read of a text.
-use Rattle.std.specs.Prelude.{◌≡◌, ℕ, ◌+◌, ◌<◌, ◌≤◌, List, ◌++◌, length, drop, slice_get, None, Some, Option}
+use Rattle.std.specs.Prelude.{◌≡◌, ◌⊎◌, ℕ, ◌+◌, ◌<◌, ◌≤◌, List, ◌++◌, length, drop, take, slice_get, slice_index, None, Some, Option}
 use Rattle.io_ends.specs.Lines.{NoLineFeed, lines_of, end_of}
 use Rattle.io_ends.specs.declared.next.Next.{Next}
 use Rattle.io_ends.specs.declared.next.Next.TheVariants as next
@@ -56,6 +56,16 @@ pub record Stays (old new : Reading) : Type 0 where
   pub max_lines : new.max_lines ≡ old.max_lines
   pub max_bytes : new.max_bytes ≡ old.max_bytes
 
+-- the first line feed ahead
+pub record IsFeedAt (ahead : List ℕ) (at : ℕ) : Type 0 where
+  pub within : at < length ahead
+  pub before : NoLineFeed (take at ahead)
+  pub here : slice_index ahead at ≡ 10
+
+-- the first line feed ahead, if there is one, stands among the last so many bytes
+abbrev pub IsNearEnd : ℕ → List ℕ → Type 0
+IsNearEnd size ahead = (at : ℕ) → IsFeedAt ahead at → length ahead ≤ at + size
+
 -- where a limit is answered, whatever the source tells: that on lines where as many were given as may be, and that on
 -- bytes before; the others aren't the reader's
 abbrev pub IsAtLimit : LimitKind → Reading → Type 0
@@ -85,6 +95,20 @@ HoldsLittle new next.End = Unit {0}
 HoldsLittle new (next.Limit which) = Unit {0}
 HoldsLittle new next.ReadFault = Unit {0}
 HoldsLittle new next.NoMemory = Unit {0}
+
+-- the source's last call gave so many bytes, and with them the last byte of a line and the bytes, so many, that were read
+-- behind it; or the line, which begins behind so many bytes of the text, has no line feed
+abbrev pub CameLast : ℕ → List ℕ → ℕ → ℕ → Type 0
+CameLast gave text begins held = (held < gave) ⊎ NoLineFeed (drop begins text)
+
+-- where a line is given no call of the source came after the one that gave its end
+abbrev pub EndsLast : ℕ → List ℕ → Reading → Reading → Next → Type 0
+EndsLast gave text old new (next.Line number) = CameLast gave text old.given (new.passed + length new.ahead)
+EndsLast gave text old new (next.TooLong number) = CameLast gave text old.given (new.passed + length new.ahead)
+EndsLast gave text old new next.End = Unit {0}
+EndsLast gave text old new (next.Limit which) = Unit {0}
+EndsLast gave text old new next.ReadFault = Unit {0}
+EndsLast gave text old new next.NoMemory = Unit {0}
 
 -- there is a further line, and it is past the limit; what lines ask for isn't known here
 abbrev pub Reaches : List ℕ → Reading → LimitKind → Type 0

@@ -1,7 +1,7 @@
-ghost use Rattle.std.specs.Prelude.{◌≤◌, List, ℕ, Option, OnErr};
+ghost use Rattle.std.specs.Prelude.{◌≡◌, ◌≤◌, List, ℕ, Option, OnErr};
 ghost use Rattle.std.specs.Io.{ReadsAtMost, WritesAtMost};
 ghost use Rattle.std.specs.Io.KnownBytes.{ReadConsumes, WriteAppends};
-ghost use Rattle.io_ends.specs.Causes.{HasRisen, TakesSome};
+ghost use Rattle.io_ends.specs.Causes.{HasRisen, TakesSome, given_by};
 
 use thiserror::Error;
 
@@ -21,11 +21,15 @@ pub trait Source {
     /// The number of faults that is counted last, where there is one.
     ghost last: { Option ℕ };
 
+    /// How many bytes its last call gave.
+    ghost gave: { Self → ℕ };
+
     /// Puts the next bytes in front of `into` and answers how many; 0 for a non-empty `into` is the
     /// end. A failed call takes no byte, and may be tried again.
     fn read(&mut self, into: &mut [u8]) -> Result<usize, Failed>
         ensures bound { ReadsAtMost result into.new }
         ensures bytes { ReadConsumes (left self.old) (left self.new) result into.new }
+        ensures gave { gave self.new ≡ given_by result }
         ensures count { faults self.old ≤ faults self.new }
         ensures fault { OnErr result (HasRisen last (faults self.old) (faults self.new)) };
 }

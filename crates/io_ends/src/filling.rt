@@ -1,6 +1,8 @@
 ghost use Rattle.std.specs.Prelude.{◌≡◌, ℕ, ◌+◌, ◌^◌, ◌<◌, ◌≤◌, List, length};
 ghost use Rattle.io_ends.specs.Causes.{HasRisen};
-ghost use Rattle.io_ends.specs.Filling.{HoldsIn, IsLong, IsNearEnd, Finds, Passes};
+ghost use Rattle.io_ends.specs.Filling.{HoldsIn, IsLong, Finds, Passes};
+ghost use Rattle.io_ends.specs.Reading.{IsNearEnd};
+ghost use Rattle.io_ends.specs.declared.sizes.TheConstants.{PIECE};
 
 use crate::ends::Source;
 use crate::fetching::FetchError;
@@ -27,13 +29,14 @@ pub enum LineEnd {
 pub fn find_end<S: Source>(window: &mut Window, source: &mut S, room: u64) -> LineEnd
     requires room { window.old.passed ≤ room }
     requires long { IsLong window.old }
-    requires near { IsNearEnd window.old.ahead }
+    requires near { IsNearEnd PIECE window.old.ahead }
     ensures found { Finds window.new room (S.left source.new) result }
     ensures kept { (bytes : List ℕ) → HoldsIn bytes window.old (S.left source.old)
         → HoldsIn bytes window.new (S.left source.new) }
     ensures room { window.new.passed ≤ room }
     ensures long { IsLong window.new }
-    ensures near { IsNearEnd window.new.ahead }
+    ensures near { IsNearEnd PIECE window.new.ahead }
+    ensures last { IsNearEnd (S.gave source.old) window.old.ahead → IsNearEnd (S.gave source.new) window.new.ahead }
     ensures count { S.faults source.old ≤ S.faults source.new }
     ensures fault { result ≡ LineEnd.Fault → HasRisen S.last (S.faults source.old) (S.faults source.new) }
 {

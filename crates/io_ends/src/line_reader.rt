@@ -2,7 +2,7 @@ ghost use Rattle.std.specs.Prelude.{◌≡◌, ℕ, ◌+◌, ◌<◌, ◌≤◌,
 ghost use Rattle.io_ends.specs.Causes.{HasRisen};
 ghost use Rattle.io_ends.specs.Lines.{NoLineFeed};
 ghost use Rattle.io_ends.specs.Filling.{Gives, GivesLast, after_line};
-ghost use Rattle.io_ends.specs.Reading.{Reading, StandsIn, Counts, Tells, Stays, IsLittle, HoldsLittle};
+ghost use Rattle.io_ends.specs.Reading.{IsNearEnd, Reading, StandsIn, Counts, Tells, Stays, IsLittle, HoldsLittle, EndsLast};
 
 use crate::ends::Source;
 use crate::fetching::FetchError;
@@ -67,7 +67,8 @@ impl LineReader {
 
     /// The next line, in `into`, or why there is none. A limit comes before the answer of the line
     /// that passes it, the one on lines first. After a fault what lies ahead is no whole line. For a
-    /// line the source is read to the piece in which the line ends, and no further.
+    /// line the source is read to the piece in which the line ends, and no further: what was read behind
+    /// the line came with the call that gave its last byte.
     pub fn next<S: Source>(&mut self, source: &mut S, into: &mut Vec<u8>) -> Next
         ensures counts { Counts self.old self.new result }
         ensures told { (text : List ℕ) → StandsIn text self.old (S.left source.old)
@@ -78,6 +79,9 @@ impl LineReader {
         ensures fault { result ≡ Next.ReadFault → HasRisen S.last (S.faults source.old) (S.faults source.new) }
         ensures unended { result ≡ Next.ReadFault → NoLineFeed self.new.ahead }
         ensures near { HoldsLittle self.new result }
+        ensures last { IsNearEnd (S.gave source.old) self.old.ahead → IsNearEnd (S.gave source.new) self.new.ahead }
+        ensures ends { (text : List ℕ) → StandsIn text self.old (S.left source.old)
+            → IsNearEnd (S.gave source.old) self.old.ahead → EndsLast (S.gave source.new) text self.old self.new result }
     {
         if self.lines == self.max_lines {
             return self.past_the_last(source);
@@ -96,6 +100,8 @@ impl LineReader {
         ensures count { S.faults source.old ≤ S.faults source.new }
         ensures fault { result ≡ Next.ReadFault → HasRisen S.last (S.faults source.old) (S.faults source.new) }
         ensures unended { result ≡ Next.ReadFault → NoLineFeed self.new.ahead }
+        ensures last { IsNearEnd (S.gave source.old) self.old.ahead → IsNearEnd (S.gave source.new) self.new.ahead }
+        ensures ends { (text : List ℕ) → EndsLast (S.gave source.new) text self.old self.new result }
     {
         if self.window.passed() > 0 {
             return Next::Limit {
@@ -132,6 +138,9 @@ impl LineReader {
         ensures fault { result ≡ Next.ReadFault → HasRisen S.last (S.faults source.old) (S.faults source.new) }
         ensures unended { result ≡ Next.ReadFault → NoLineFeed self.new.ahead }
         ensures near { HoldsLittle self.new result }
+        ensures last { IsNearEnd (S.gave source.old) self.old.ahead → IsNearEnd (S.gave source.new) self.new.ahead }
+        ensures ends { (text : List ℕ) → StandsIn text self.old (S.left source.old)
+            → IsNearEnd (S.gave source.old) self.old.ahead → EndsLast (S.gave source.new) text self.old self.new result }
     {
         let room = self.max_bytes - self.given;
         match find_end(&mut self.window, source, room) {

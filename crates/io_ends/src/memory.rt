@@ -1,7 +1,7 @@
 ghost use Rattle.std.specs.Prelude.{◌≡◌, ◌↔◌, ◌⊎◌, ◌+◌, ◌<◌, ◌≤◌, List, ℕ, [], true, false, Some, None, IsErr, OnErr, IsTrue, Contains};
 ghost use Rattle.std.specs.Io.{ReadsAtMost, WritesAtMost};
 ghost use Rattle.std.specs.Io.KnownBytes.{ReadConsumes, WriteAppends};
-ghost use Rattle.io_ends.specs.Causes.{HasRisen, TakesSome};
+ghost use Rattle.io_ends.specs.Causes.{HasRisen, TakesSome, given_by};
 ghost use Rattle.io_ends.specs.Memory.{MemorySourceView, MemorySinkView, IsToFail, last_count, one_more};
 
 use crate::ends::{Failed, Sink, Source};
@@ -23,6 +23,7 @@ pub struct MemorySource {
     failing: Vec<u64>,
     calls: u64,
     faults: u64,
+    gave: usize,
 }
 
 impl Model for MemorySource {
@@ -36,6 +37,7 @@ impl Model for MemorySource {
       failing = s.failing.items;
       calls = s.calls;
       faults = s.faults;
+      gave = s.gave;
     } };
 
     ghost invariant = { λ s. (s.at ≤ vec_len s.bytes) × (s.faults ≤ s.calls) };
@@ -44,7 +46,7 @@ impl Model for MemorySource {
 impl MemorySource {
     /// A source of these bytes whose calls of these numbers, from 0, fail.
     pub fn new(bytes: Vec<u8>, failing: Vec<u64>) -> MemorySource
-        ensures { result ≡ record { left = bytes.items; failing = failing.items; calls = 0; faults = 0 } }
+        ensures { result ≡ record { left = bytes.items; failing = failing.items; calls = 0; faults = 0; gave = 0 } }
     {
         MemorySource {
             bytes,
@@ -52,6 +54,7 @@ impl MemorySource {
             failing,
             calls: 0,
             faults: 0,
+            gave: 0,
         }
     }
 }
@@ -64,9 +67,12 @@ impl Source for MemorySource {
 
     ghost last = { None };
 
+    ghost gave = { λ s. s.gave };
+
     fn read(&mut self, into: &mut [u8]) -> Result<usize, Failed>
         ensures bound { ReadsAtMost result into.new }
         ensures bytes { ReadConsumes (Some self.old.left) (Some self.new.left) result into.new }
+        ensures gave { self.new.gave ≡ given_by result }
         ensures count { self.old.faults ≤ self.new.faults }
         ensures fault { OnErr result (HasRisen None self.old.faults self.new.faults) }
         ensures fails { IsErr result ↔ IsToFail self.old.failing self.old.calls }
@@ -75,6 +81,7 @@ impl Source for MemorySource {
     {
         let number = self.calls;
         self.calls = number.saturating_add(1);
+        self.gave = 0;
         if is_told(&self.failing, number) {
             self.faults += 1;
             return Err(Failed);
@@ -85,6 +92,7 @@ impl Source for MemorySource {
         let (front, _) = into.split_at_mut(count);
         front.copy_from_slice(next);
         self.at += count;
+        self.gave = count;
         Ok(count)
     }
 }

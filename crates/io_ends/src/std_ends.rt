@@ -10,6 +10,7 @@ use std::io::{Read, Write};
 pub struct StdSource<R: Read + Drop> {
     reader: R,
     faults: u64,
+    gave: usize,
 }
 
 impl<R: Read + Drop> StdSource<R> {
@@ -17,16 +18,23 @@ impl<R: Read + Drop> StdSource<R> {
     pub fn new(reader: R) -> StdSource<R>
         ensures reader { result.reader ≡ reader }
         ensures faults { result.faults ≡ 0 }
+        ensures gave { result.gave ≡ 0 }
     {
-        StdSource { reader, faults: 0 }
+        StdSource {
+            reader,
+            faults: 0,
+            gave: 0,
+        }
     }
 
-    /// Counts a fault; at its last value the count stands.
+    /// Counts a fault, which gave nothing; at its last value the count stands.
     fn failed(&mut self) -> Failed
         ensures reader { self.new.reader ≡ self.old.reader }
+        ensures gave { self.new.gave ≡ 0 }
         ensures fault { HasRisen (Some last_count) self.old.faults self.new.faults }
     {
         self.faults = self.faults.saturating_add(1);
+        self.gave = 0;
         Failed
     }
 }
@@ -38,9 +46,14 @@ impl<R: Read + Drop> Source for StdSource<R> {
 
     ghost last = { Some last_count };
 
+    ghost gave = { λ s. s.gave };
+
     fn read(&mut self, into: &mut [u8]) -> Result<usize, Failed> {
         match self.reader.read(into) {
-            Ok(count) => Ok(count),
+            Ok(count) => {
+                self.gave = count;
+                Ok(count)
+            }
             Err(_) => Err(self.failed()),
         }
     }

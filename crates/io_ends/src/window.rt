@@ -105,6 +105,7 @@ impl Window {
     /// Reads one piece of the source behind what lies ahead, and answers how many bytes came.
     pub fn fetch<S: Source>(&mut self, source: &mut S) -> Result<usize, FetchError>
         ensures ok { IfOk result (λ n. Fetches self.old self.new (S.left source.old) (S.left source.new) n) }
+        ensures gave { IfOk result (λ n. S.gave source.new ≡ n) }
         ensures err { OnErr result ((self.new ≡ self.old) × Keeps (S.left source.old) (S.left source.new)) }
         ensures count { S.faults source.old ≤ S.faults source.new }
         ensures fault { result ≡ Err FetchError.Fault

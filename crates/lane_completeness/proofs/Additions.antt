@@ -16,7 +16,7 @@ use Rattle.distributor_part.specs.declared.rules.Rules.{Rules}
 use Rattle.distributor_part.specs.Parts.{Part}
 use Rattle.merge_rounds.specs.Rounds.{RoundState, IsOver, IsNext}
 use Rattle.op_machine.specs.Outcomes.{Next, Asks, Finishes}
-use Rattle.lane_journals.specs.Readers.{before_line, began}
+use Rattle.lane_journals.specs.Readers.{Journal, began}
 use Rattle.lane_journals.specs.Meanings.{history}
 use Rattle.lane_journals.specs.Places.{state_in}
 use Rattle.lane_journals.specs.Buckets.{key_of}
@@ -26,7 +26,7 @@ use Rattle.lane_keeping.specs.Replaying.{sending}
 use Rattle.lane_keeping.specs.Acting.{IsActing}
 use Rattle.lane_keeping.specs.RoundKeeping.{KnowsRound}
 use Rattle.operation_keeping.specs.OperationKeeping.{beginning_of, IsUnderWay}
-use Rattle.operation_keeping.specs.Wants.{Adds, Wants, OpeningGives, RoundGives, BodyGives, NextGives, UnpreparedWants}
+use Rattle.operation_keeping.specs.Wants.{Adds, WantsSince, OpeningGives, RoundGives, BodyGives, NextGives, UnpreparedWants}
 
 -- the round ends for the owner under the state of the line, once nothing is left to send
 pub record Ending (lane : Low) (L : List LaneEvent) (line : ℕ) (o : Operation) (s : ClusterState) (r : RoundState) : Type 0 where
@@ -45,14 +45,14 @@ pub data Added (lane : Low) (L : List LaneEvent) (line : ℕ) (o : Operation) : 
   ARound : (d v : ℕ) (row : Low) (set : ℕ) → Added lane L line o (event.Decided d v (RoundBegun row set))
   AnEnd : (d : ℕ) (s : ClusterState) (r : RoundState) → Ending lane L line o s r → Added lane L line o (event.Decided d s.version (RoundEnded r.row r.holders))
 
-module _ (lane : Low) (rules : Rules) (L : List LaneEvent) (line : ℕ) (o : Operation) (e : LaneEvent) where
+module _ (lane : Low) (rules : Rules) (from : Journal) (L : List LaneEvent) (line : ℕ) (o : Operation) (e : LaneEvent) where
   abbrev Is : LaneEvent → Type 0
   Is x = Added lane L line o x
 
   same-event : (x : LaneEvent) → Adds e ≡ Adds x → x ≡ e
   same-event x h = cc
 
-  by_step : (d : ℕ) (s : ClusterState) (p : Part) (x : Step) → OpeningGives L (before_line line (history L)) d s p x (Adds e) → Is e
+  by_step : (d : ℕ) (s : ClusterState) (p : Part) (x : Step) → OpeningGives L from d s p x (Adds e) → Is e
   by_step d s p (step.Send m) g = subst Is (sym g.1) (ASending g.0 m)
   by_step d s p (step.Open buckets) g = subst Is (sym g) (AnOpening d s.version buckets)
   by_step d s p (step.Decide x) g = absurd g
@@ -79,14 +79,14 @@ module _ (lane : Low) (rules : Rules) (L : List LaneEvent) (line : ℕ) (o : Ope
     by_round r k (Some m) n g = subst Is (sym g.1) (ASending g.0 m)
     by_round r k None n g = subst Is (sym g) (AnEnd d s r (record { distributor = d; stamp = stamp; begun = under_way.begun_as; published = acting.published; knows = k; over = n }))
 
-    by_unprepared : UnpreparedWants lane rules L line (before_line line (history L)) (key_of o.id) d s (Adds e) → Is e
+    by_unprepared : UnpreparedWants lane rules L line from (key_of o.id) d s (Adds e) → Is e
     by_unprepared (inl x) = by_step d s x.part x.step x.gives
     by_unprepared (inr (inl x)) = subst Is (same-event _ x.is) (ARound d s.version (x.row).bucket x.receivers)
     by_unprepared (inr (inr (inl x))) = by_round x.round x.knows x.next x.is_next x.gives
     by_unprepared (inr (inr (inr (inl x)))) = subst Is (same-event _ x.is) (APreparing line (x.row).bucket (x.row).complete)
     by_unprepared (inr (inr (inr (inr x)))) = elim x.gives [ inl a ↦ absurd a.1 | inr a ↦ absurd a.1 ]
 
-  pub added : Wants lane rules line o L (Adds e) → Added lane L line o e
+  pub added : WantsSince lane rules line o from L (Adds e) → Added lane L line o e
   added w = elim w.wants [
     | inl u ↦ by_unprepared w.distributor w.state w.stamp w.acting w.under_way u.1
     | inr x ↦ by_next x.written _ x.gives

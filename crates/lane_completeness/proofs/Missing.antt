@@ -11,7 +11,7 @@ use Rattle.lane_journals.specs.States.{state_of}
 use Rattle.lane_journals.specs.Meanings.{history}
 use Rattle.lane_journals.specs.declared.event.LaneEvent.{LaneEvent}
 use Rattle.lane_journals.proofs.Basics.{returned-replied}
-use Rattle.operation_keeping.specs.OperationKeeping.{WasShort}
+use Rattle.operation_keeping.specs.OperationKeeping.{WasShortSince}
 use Rattle.lane_completeness.specs.Completeness.{HaveReturned, WantedMemory}
 use Rattle.lane_completeness.specs.Causes.{IsUnheard, IsOfPhase, IsMissing}
 use Rattle.lane_journals.proofs.Replies.{IsNewest, IsHeard, IsFenced, IsOwed, known-owed, not-fenced}
@@ -26,14 +26,14 @@ pub record Back (H : Journal) (k : ℕ) : Type 0 where
   pub reply : first_reply k H ≡ Some (Answer given.content given.names)
   pub back : returned k H ≡ true
 
--- it did, or memory was wanted, or nothing was heard of the message
-abbrev pub Came : Journal → ℕ → (Message → Type 0) → ℕ → Type 0
-Came H line test k = Back H k ⊎ (WasShort H line test ⊎ IsUnheard H k)
+-- it did, or memory was wanted since an earlier journal, or nothing was heard of the message
+abbrev pub Came : Journal → Journal → (Message → Type 0) → ℕ → Type 0
+Came from H test k = Back H k ⊎ (WasShortSince from H test ⊎ IsUnheard H k)
 
-module _ (lane : Low) (rules : Rules) (line d v : ℕ) (o : Operation) (stamp : Option Stamp) (J : List LaneEvent) (L : List LaneEvent) (a : At lane rules line d v o stamp J L) where
-  module _ (test : Message → Type 0) (k : ℕ) (m : Message) (late : sent k (before_line line (history L)) ≡ None) (s : sent k (history L) ≡ Some m) (holds : test m) where
+module _ (lane : Low) (rules : Rules) (line d v : ℕ) (o : Operation) (stamp : Option Stamp) (J F : List LaneEvent) (L : List LaneEvent) (a : At lane rules line d v o stamp J F L) where
+  module _ (from : Journal) (test : Message → Type 0) (k : ℕ) (m : Message) (late : sent k from ≡ None) (s : sent k (history L) ≡ Some m) (holds : test m) where
     -- the reply says so
-    came-back : returned k (history L) ≡ true → (r : Reply) → first_reply k (history L) ≡ Some r → IsHeard r ⊎ IsFenced r → Came (history L) line test k
+    came-back : returned k (history L) ≡ true → (r : Reply) → first_reply k (history L) ≡ Some r → IsHeard r ⊎ IsFenced r → Came from (history L) test k
     came-back back r f h = elim h [
       | inl heard ↦ elim heard [
         | inl answers ↦ (let g = answer-given r answers in inl (record { given = g.0; reply = f ∙ ap (λ (x : Reply). Some x) g.1; back = back }))
@@ -42,21 +42,21 @@ module _ (lane : Low) (rules : Rules) (line d v : ℕ) (o : Operation) (stamp : 
       | inr newer ↦ inr (inr (inr (newer.0, f ∙ ap (λ (x : Reply). Some x) newer.1)))
     ]
 
-    pub came : ((r : Reply) → first_reply k (history L) ≡ Some r → IsHeard r ⊎ IsFenced r) → Came (history L) line test k
+    pub came : ((r : Reply) → first_reply k (history L) ≡ Some r → IsHeard r ⊎ IsFenced r) → Came from (history L) test k
     came known = by_test (returned k (history L)) refl
       where
-        by_test : (t : Bool) → returned k (history L) ≡ t → Came (history L) line test k
+        by_test : (t : Bool) → returned k (history L) ≡ t → Came from (history L) test k
         by_test true back = let r = returned-replied rules.acks (state_of (history L)) (history L) a.legal k back in came-back back r.0 r.1 (known r.0 r.1)
         by_test false never = inr (inr (inl never))
 
     -- of what an opening or a round sends
-    pub owed-came : IsOwed m.body → Came (history L) line test k
+    pub owed-came : IsOwed m.body → Came from (history L) test k
     owed-came owed = came (λ r f. known-owed rules.acks (state_of (history L)) m.version k m r refl (history L) a.legal owed s f)
 
   -- who was asked since the line began, and whose answer didn't come, though no node wanted memory
-  pub missing : (test : Message → Type 0) (k : ℕ) (m : Message) (n : ℕ) → sent k (before_line line (history L)) ≡ None → sent k (history L) ≡ Some m → m.version ≡ v → m.receiver ≡ n
-      → IsOfPhase (history L) line (first lane rules line d v o stamp J) m → Came (history L) line test k → (Back (history L) k → ⊥) → (WasShort (history L) line test → ⊥) → IsMissing (history L) line n
-  missing test k m n late s under to phase c counts none = elim c [
+  pub missing : (from : Journal) (test : Message → Type 0) (k : ℕ) (m : Message) (n : ℕ) → sent k (before_line line (history L)) ≡ None → sent k (history L) ≡ Some m → m.version ≡ v → m.receiver ≡ n
+      → IsOfPhase (history L) line (first lane rules line d v o stamp J) m → Came from (history L) test k → (Back (history L) k → ⊥) → (WasShortSince from (history L) test → ⊥) → IsMissing (history L) line n
+  missing from test k m n late s under to phase c counts none = elim c [
     | inl back ↦ absurd (counts back)
     | inr other ↦ elim other [
       | inl short ↦ absurd (none short)
@@ -65,16 +65,16 @@ module _ (lane : Low) (rules : Rules) (line d v : ℕ) (o : Operation) (stamp : 
   ]
 
   -- nobody is missing where all came back, under the newest version
-  module _ (low : IsNewest v (history J)) (all : HaveReturned (start lane rules line d v o stamp J) L) where
+  module _ (low : IsNewest v (history L)) (all : HaveReturned (start lane rules line d v o stamp J) L) where
     pub none-missing : (n : ℕ) → IsMissing (history L) line n → ⊥
     none-missing n w = elim w.unheard [
-      | inl never ↦ true≢false (sym (all w.number w.message w.was_sent (not-sent lane rules line d v o stamp J L a w.number w.later)) ∙ never)
-      | inr newer ↦ not-fenced rules.acks (state_of (history L)) v w.number w.message (Newer newer.0) (w.version ∙ same-version) (history L) a.legal (a.newest low) w.was_sent newer.1 (newer.0, refl)
+      | inl never ↦ true≢false (sym (all w.number w.message w.was_sent (not-sent lane rules line d v o stamp J F L a w.number w.later)) ∙ never)
+      | inr newer ↦ not-fenced rules.acks (state_of (history L)) v w.number w.message (Newer newer.0) (w.version ∙ same-version) (history L) a.legal low w.was_sent newer.1 (newer.0, refl)
     ]
       where
         same-version : (w.beginning).version ≡ v
         same-version = let x = w.begun in let y = a.begun in let same : w.beginning ≡ first lane rules line d v o stamp J = cc in ap (λ (b : Beginning). b.version) same
 
--- whatever was asked
-pub any-short : (H : Journal) (line : ℕ) (test : Message → Type 0) → WasShort H line test → WantedMemory H line
-any-short H line test w = record { number = w.number; message = w.message; was_sent = w.was_sent; later = w.later; tested = tt; reply = w.reply; back = w.back }
+-- whatever was asked, where what wasn't sent before the search wasn't sent before the line
+pub any-short : (H : Journal) (line : ℕ) (from : Journal) → ((k : ℕ) → sent k from ≡ None → sent k (before_line line H) ≡ None) → (test : Message → Type 0) → WasShortSince from H test → WantedMemory H line
+any-short H line from earlier test w = record { number = w.number; message = w.message; was_sent = w.was_sent; later = earlier w.number w.later; tested = tt; reply = w.reply; back = w.back }

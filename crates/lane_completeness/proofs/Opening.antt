@@ -23,20 +23,20 @@ use Rattle.distributor_part.specs.declared.stage.Stage.TheVariants.{Before, Ende
 use Rattle.distributor_part.specs.Parts.{Part}
 use Rattle.distributor_part.specs.Steps.{LacksAnswers, IsStep}
 use Rattle.bucket_db.specs.Rows.{Rows}
-use Rattle.lane_journals.specs.Readers.{Message, before_line, asked, held, opened}
+use Rattle.lane_journals.specs.Readers.{Journal, Message, before_line, sent, asked, held, opened}
 use Rattle.lane_journals.specs.RowLists.{row_with, rows}
 use Rattle.lane_journals.specs.States.{state_of}
 use Rattle.lane_journals.specs.Meanings.{history}
 use Rattle.lane_journals.specs.Places.{state_in}
 use Rattle.lane_journals.specs.declared.event.LaneEvent.{LaneEvent}
 use Rattle.lane_keeping.specs.LaneKeeping.{KnowsOpening, Holds, PartKeeps}
-use Rattle.operation_keeping.specs.OperationKeeping.{WasShort}
+use Rattle.operation_keeping.specs.OperationKeeping.{WasShortSince}
 use Rattle.proof_basics.proofs.Tests.{not_answered}
 use Rattle.operation_keeping.specs.Wants.{Ends, EndsUnless, WasAskedSince, is_ask, OpeningGives, OpeningWants}
 use Rattle.lane_completeness.specs.Completeness.{WantedMemory}
 use Rattle.lane_completeness.specs.Causes.{OfOpening, IsMissing}
 use Rattle.lane_journals.proofs.Replies.{IsOwed}
-use Rattle.lane_completeness.proofs.Runs.{At}
+use Rattle.lane_completeness.proofs.Runs.{At, sent-later}
 use Rattle.lane_journals.proofs.Hearing.{ask-counts}
 use Rattle.lane_completeness.proofs.Missing.{owed-came, missing, any-short}
 
@@ -74,18 +74,18 @@ abbrev pub FallsShort : List LaneEvent → ℕ → Outcome → Type 0
 FallsShort L line x = IsShort L line x ⊎ IsLacking L line x
 
 -- an end for want of answers is one for want of memory, or else the absent node is missing
-pub falls-short : (L : List LaneEvent) (line : ℕ) (test : Message → Type 0) (answered needed absent : ℕ) (x : Outcome) → EndsUnless (WasShort (history L) line test) (TooFew answered needed absent) (Ends x)
-    → ((WasShort (history L) line test → ⊥) → IsMissing (history L) line absent) → FallsShort L line x
-falls-short L line test answered needed absent x e lacks = elim e [
-  | inl a ↦ inl (a.1, any-short (history L) line test a.0)
+pub falls-short : (L : List LaneEvent) (line : ℕ) (from : Journal) → ((k : ℕ) → sent k from ≡ None → sent k (before_line line (history L)) ≡ None) → (test : Message → Type 0) (answered needed absent : ℕ) (x : Outcome)
+    → EndsUnless (WasShortSince from (history L) test) (TooFew answered needed absent) (Ends x) → ((WasShortSince from (history L) test → ⊥) → IsMissing (history L) line absent) → FallsShort L line x
+falls-short L line from earlier test answered needed absent x e lacks = elim e [
+  | inl a ↦ inl (a.1, any-short (history L) line from earlier test a.0)
   | inr b ↦ inr (record { answered = answered; needed = needed; absent = absent; is = b.1; missing = lacks b.0 })
 ]
 
 -- ---- the opening
 
-module _ (lane : Low) (rules : Rules) (line d : ℕ) (o : Operation) (stamp : Option Stamp) (J : List LaneEvent) (L : List LaneEvent) (s : ClusterState) (a : At lane rules line d s.version o stamp J L)
+module _ (lane : Low) (rules : Rules) (line d : ℕ) (o : Operation) (stamp : Option Stamp) (J F : List LaneEvent) (L : List LaneEvent) (s : ClusterState) (a : At lane rules line d s.version o stamp J F L)
     (e : ℕ) (owner : IsOwner lane s e) (p : Part) (keeps : PartKeeps lane rules L e p) (heard : p.state ≡ Some s)
-    (was_asked : (n : ℕ) → (has_node p.asked n ≡ true) ↔ WasAskedSince (before_line line (history L)) (history L) s.version n) where
+    (was_asked : (n : ℕ) → (has_node p.asked n ≡ true) ↔ WasAskedSince (history F) (history L) s.version n) where
   abbrev HoldsState : Option ClusterState → Type 0
   HoldsState x = Holds lane e (held e (history L)) (λ w. state_in w L) (λ w n. asked w n (history L)) (λ w. opened w (history L)) (λ w key. row_with key (rows w (history L))) x p
 
@@ -93,10 +93,10 @@ module _ (lane : Low) (rules : Rules) (line d : ℕ) (o : Operation) (stamp : Op
   knows = let h : HoldsState (Some s) = subst HoldsState heard keeps.heard in h.2 owner
 
   -- who was asked and didn't answer
-  asked-missing : p.rows ≡ None → (WasShort (history L) line (is_ask s.version) → ⊥) → (n : ℕ) → WasAskedSince (before_line line (history L)) (history L) s.version n → has_node p.answered n ≡ false → IsMissing (history L) line n
-  asked-missing unopened none n w unanswered = missing lane rules line d s.version o stamp J L a (is_ask s.version) w.number w.message n w.later w.was_sent w.version w.receiver
+  asked-missing : p.rows ≡ None → (WasShortSince (history F) (history L) (is_ask s.version) → ⊥) → (n : ℕ) → WasAskedSince (history F) (history L) s.version n → has_node p.answered n ≡ false → IsMissing (history L) line n
+  asked-missing unopened none n w unanswered = missing lane rules line d s.version o stamp J F L a (history F) (is_ask s.version) w.number w.message n (sent-later lane rules line d s.version o stamp J F L a w.number w.later) w.was_sent w.version w.receiver
       (OfOpening (knows.opened_as ∙ ap is_some unopened) w.body)
-      (owed-came lane rules line d s.version o stamp J L a (is_ask s.version) w.number w.message w.later w.was_sent (w.version, w.body) (subst IsOwed (sym w.body) tt))
+      (owed-came lane rules line d s.version o stamp J F L a (history F) (is_ask s.version) w.number w.message w.later w.was_sent (w.version, w.body) (subst IsOwed (sym w.body) tt))
       (λ back. true≢false (sym (knows.answered_are n ∙ ask-counts rules.acks (state_of (history L)) s.version n w.number w.message back.given w.version w.receiver w.body (history L) a.legal back.back w.was_sent back.reply) ∙ unanswered))
       none
 
@@ -112,7 +112,7 @@ module _ (lane : Low) (rules : Rules) (line d : ℕ) (o : Operation) (stamp : Op
         by_answered none n serving false f = let i = in-set n serving f in absurd (true≢false (sym i ∙ none n (member_small set n i)))
 
     -- each of those that didn't answer was asked
-    in-missing : (WasShort (history L) line (is_ask s.version) → ⊥) → (n : ℕ) → has_node set n ≡ true → IsMissing (history L) line n
+    in-missing : (WasShortSince (history F) (history L) (is_ask s.version) → ⊥) → (n : ℕ) → has_node set n ≡ true → IsMissing (history L) line n
     in-missing none n has = by_asked (has_node p.asked n) refl
       where
         parts : (serves l.state n ≡ true) × (has_node p.answered n ≡ false)
@@ -136,15 +136,15 @@ module _ (lane : Low) (rules : Rules) (line d : ℕ) (o : Operation) (stamp : Op
       no-end : ◌≡◌ {A = Stage} Before (Ended set) → ⊥
       no-end h = cc
 
-pub opening-ends : (lane : Low) (rules : Rules) (line d : ℕ) (o : Operation) (stamp : Option Stamp) (J : List LaneEvent) (L : List LaneEvent) (s : ClusterState) → At lane rules line d s.version o stamp J L
-    → (key e : ℕ) → IsOwner lane s e → (x : Outcome) → OpeningWants lane rules L (before_line line (history L)) key e s (Ends x) → FallsShort L line x
-opening-ends lane rules line d o stamp J L s a key e owner x w = by_step w.step w.is_step w.gives
+pub opening-ends : (lane : Low) (rules : Rules) (line d : ℕ) (o : Operation) (stamp : Option Stamp) (J F : List LaneEvent) (L : List LaneEvent) (s : ClusterState) → At lane rules line d s.version o stamp J F L
+    → (key e : ℕ) → IsOwner lane s e → (x : Outcome) → OpeningWants lane rules L (history F) key e s (Ends x) → FallsShort L line x
+opening-ends lane rules line d o stamp J F L s a key e owner x w = by_step w.step w.is_step w.gives
   where
-    by_step : (y : Step) → IsStep w.part key y w.after → OpeningGives L (before_line line (history L)) e s w.part y (Ends x) → FallsShort L line x
+    by_step : (y : Step) → IsStep w.part key y w.after → OpeningGives L (history F) e s w.part y (Ends x) → FallsShort L line x
     by_step (step.Send m) i g = absurd g
     by_step (step.Open buckets) i g = absurd g
     by_step (step.Decide y) i g = absurd g
     by_step (step.Finished set) i g =
-        let l = over-lacks lane rules line d o stamp J L s a e owner w.part w.keeps w.heard w.asked key set w.after w.unopened w.no_round i in
-        falls-short L line (is_ask s.version) _ _ _ x g (λ none. in-missing lane rules line d o stamp J L s a e owner w.part w.keeps w.heard w.asked w.unopened set l none _
-        (absent-in lane rules line d o stamp J L s a e owner w.part w.keeps w.heard w.asked w.unopened set l))
+        let l = over-lacks lane rules line d o stamp J F L s a e owner w.part w.keeps w.heard w.asked key set w.after w.unopened w.no_round i in
+        falls-short L line (history F) (sent-later lane rules line d s.version o stamp J F L a) (is_ask s.version) _ _ _ x g (λ none. in-missing lane rules line d o stamp J F L s a e owner w.part w.keeps w.heard w.asked w.unopened set l none _
+        (absent-in lane rules line d o stamp J F L s a e owner w.part w.keeps w.heard w.asked w.unopened set l))

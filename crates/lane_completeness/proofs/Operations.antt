@@ -27,7 +27,7 @@ use Rattle.op_machine.specs.Standings.{next_at}
 use Rattle.distributor_part.specs.declared.rules.Rules.{Rules}
 use Rattle.lane_journals.specs.Buckets.{Id}
 use Rattle.lane_journals.specs.Events.{ReadDoc, Store}
-use Rattle.lane_journals.specs.Readers.{Beginning, Message, closed, wrote}
+use Rattle.lane_journals.specs.Readers.{Beginning, before_line, Message, closed, wrote}
 use Rattle.lane_journals.specs.States.{state_of}
 use Rattle.lane_journals.specs.Meanings.{history}
 use Rattle.lane_journals.specs.KeptJournals.{IsLegal}
@@ -118,8 +118,8 @@ pub data PreparedEnd (stamp : Option Stamp) (o : Operation) (L : List LaneEvent)
   EndsJudged : looks o ≡ true → IsJudged x → PreparedEnd stamp o L line x
   EndsShort : FallsShort L line x → PreparedEnd stamp o L line x
 
-module _ (lane : Low) (rules : Rules) (line d : ℕ) (o : Operation) (stamp : Option Stamp) (J L : List LaneEvent) (s : ClusterState)
-    (a : At lane rules line d s.version o stamp J L) (legal : IsLegal (setting_of lane rules) L) (some : 1 ≤ rules.acks) (e : ℕ) (x : Outcome) (w : OperationWants lane rules L line o e s (Ends x)) where
+module _ (lane : Low) (rules : Rules) (line d : ℕ) (o : Operation) (stamp : Option Stamp) (J F L : List LaneEvent) (s : ClusterState)
+    (a : At lane rules line d s.version o stamp J F L) (legal : IsLegal (setting_of lane rules) L) (some : 1 ≤ rules.acks) (e : ℕ) (x : Outcome) (w : OperationWants lane rules L line o e s (Ends x)) where
   abbrev p : Plan
   p = (w.standing).plan
 
@@ -167,10 +167,10 @@ module _ (lane : Low) (rules : Rules) (line d : ℕ) (o : Operation) (stamp : Op
       let stamped = sym stamp-is ∙ r.stamped in
       let body : r.message.body ≡ Store o.id r.stamp = r.body ∙ ap (λ (i : Id). Store i r.stamp) same-id in
       let written = own-wrote rules.acks (state_of (history L)) (history L) a.legal line _ r.stamp a.begun stamped r.number r.message p.operation.id r.was_sent r.body in
-      missing lane rules line d s.version o stamp J L a (IsStoreOf begin) r.number r.message n
-      (store-later lane rules line d o stamp J L s a some r.stamp stamped r.number r.message p.operation.id r.was_sent r.body) r.was_sent r.version r.receiver
+      missing lane rules line d s.version o stamp J F L a (before_line line (history L)) (IsStoreOf begin) r.number r.message n
+      (store-later lane rules line d o stamp J F L s a some r.stamp stamped r.number r.message p.operation.id r.was_sent r.body) r.was_sent r.version r.receiver
       (OfStoring r.stamp stamped written body)
-      (store-came lane rules line d o stamp J L s a some r.stamp stamped unclosed (IsStoreOf begin) r.number r.message p.operation.id r.was_sent r.body (r.version, (r.stamp, r.stamped, r.body)))
+      (store-came lane rules line d o stamp J F L s a some r.stamp stamped unclosed (IsStoreOf begin) r.number r.message p.operation.id r.was_sent r.body (r.version, (r.stamp, r.stamped, r.body)))
       (λ back. true≢false (sym ((((w.stands).knows).stores).answered n r.stamp r.stamped
       ∙ store-counts rules.acks (state_of (history L)) s.version n r.number p.operation.id r.stamp r.message back.given r.version r.receiver r.body (history L) a.legal back.back r.was_sent back.reply) ∙ unanswered))
       none
@@ -199,9 +199,9 @@ module _ (lane : Low) (rules : Rules) (line d : ℕ) (o : Operation) (stamp : Op
   read-missing unwritten all n has unanswered none =
       let r = ((((w.stands).knows).reads).told n).0 (told-all p reads all n has) in
       let body : r.message.body ≡ ReadDoc o.id = r.body ∙ ap ReadDoc same-id in
-      missing lane rules line d s.version o stamp J L a (IsReadOf begin) r.number r.message n r.later r.was_sent r.version r.receiver
+      missing lane rules line d s.version o stamp J F L a (before_line line (history L)) (IsReadOf begin) r.number r.message n r.later r.was_sent r.version r.receiver
       (OfLooking (ap is_some (((w.stands).knows).plan).prepared_as) unwritten body)
-      (read-came lane rules line d o stamp J L s a some (IsReadOf begin) r.number r.message unclosed r.was_sent r.later body (r.version, r.body))
+      (read-came lane rules line d o stamp J F L s a some (IsReadOf begin) r.number r.message unclosed r.was_sent r.later body (r.version, r.body))
       (λ back. true≢false (sym (told-read n r back) ∙ unanswered)) none
 
   -- ---- the end
@@ -210,7 +210,7 @@ module _ (lane : Low) (rules : Rules) (line d : ℕ) (o : Operation) (stamp : Op
   phase-short : (y : Answers) (test : Message → Type 0) → ((y.short ≡ true) ↔ WasShort (history L) line test) → Misses test y
       → lacks p y (absent_of p.active (lacks p y)) ≡ true → x ≡ too_few p y → FallsShort L line x
   phase-short y test short misses lacking is = elim (too-few-of p y x is) [
-    | inl wants ↦ inl (wants.1, any-short (history L) line test (short.0 wants.0))
+    | inl wants ↦ inl (wants.1, any-short (history L) line (before_line line (history L)) (λ k h. h) test (short.0 wants.0))
     | inr few ↦ (let n = absent_of p.active (lacks p y) in let z = lacks-parts p y n lacking in
         inr (record { answered = _; needed = _; absent = n; is = few.1; missing = misses n z.0 z.1 (λ wanted. true≢false (sym (short.1 wanted) ∙ few.0)) }))
   ]

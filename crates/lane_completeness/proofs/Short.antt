@@ -15,7 +15,7 @@ use Rattle.op_machine.specs.Outcomes.{absent_of}
 use Rattle.merge_rounds.specs.Rounds.{did_show, HaveAllShown}
 use Rattle.lane_journals.specs.Buckets.{key_of}
 use Rattle.lane_journals.specs.Events.{Body}
-use Rattle.lane_journals.specs.Readers.{Journal, Message, before_line, prepared, round_of, answer}
+use Rattle.lane_journals.specs.Readers.{Message, prepared, round_of, answer}
 use Rattle.lane_journals.specs.Facts.{AnsweredApply}
 use Rattle.lane_journals.specs.States.{state_of}
 use Rattle.lane_journals.specs.Meanings.{history}
@@ -24,12 +24,12 @@ use Rattle.lane_journals.specs.KeptJournals.{IsLegal}
 use Rattle.lane_journals.specs.declared.event.LaneEvent.{LaneEvent}
 use Rattle.lane_journals.proofs.Meant.{state-serves}
 use Rattle.lane_keeping.specs.LaneKeeping.{setting_of}
-use Rattle.operation_keeping.specs.OperationKeeping.{WasShort}
+use Rattle.operation_keeping.specs.OperationKeeping.{WasShortSince}
 use Rattle.operation_keeping.specs.Wants.{Ends, is_round_read, is_round_apply, ShortWants}
 use Rattle.operation_keeping.specs.RuleBounds.{AreRules}
 use Rattle.lane_completeness.specs.Causes.{IsOfRound, IsOfPhase, OfReading, OfUnion, IsMissing}
 use Rattle.lane_journals.proofs.Replies.{IsOwed}
-use Rattle.lane_completeness.proofs.Runs.{At, first, sent-since}
+use Rattle.lane_completeness.proofs.Runs.{At, first, sent-later}
 use Rattle.lane_journals.proofs.Hearing.{answer-counts}
 use Rattle.lane_completeness.proofs.Missing.{Back, owed-came, missing}
 use Rattle.lane_completeness.proofs.Opening.{absent-passes, FallsShort, falls-short}
@@ -43,8 +43,8 @@ but-not true true h = cc
 but-not true false h = (refl, refl)
 but-not false u h = cc
 
-module _ (lane : Low) (rules : Rules) (line d : ℕ) (o : Operation) (stamp : Option Stamp) (J L : List LaneEvent) (s : ClusterState)
-    (a : At lane rules line d s.version o stamp J L) (legal : IsLegal (setting_of lane rules) L) (unprepared : prepared line (history L) ≡ None) (x : Outcome) (w : ShortWants rules L (before_line line (history L)) (key_of o.id) s (Ends x)) where
+module _ (lane : Low) (rules : Rules) (line d : ℕ) (o : Operation) (stamp : Option Stamp) (J F L : List LaneEvent) (s : ClusterState)
+    (a : At lane rules line d s.version o stamp J F L) (legal : IsLegal (setting_of lane rules) L) (unprepared : prepared line (history L) ≡ None) (x : Outcome) (w : ShortWants rules L (history F) (key_of o.id) s (Ends x)) where
   abbrev b : Low
   b = (w.row).bucket
 
@@ -54,16 +54,16 @@ module _ (lane : Low) (rules : Rules) (line d : ℕ) (o : Operation) (stamp : Op
   shown : (n : ℕ) → is_some (answer s.version number n (history L)) ≡ is_some (answer s.version (round_of s.version (w.round).row (history L)) n (history L))
   shown n = ap (λ (c : Low). is_some (answer s.version (round_of s.version c (history L)) n (history L))) (sym w.same_row)
 
-  module _ (sp : IsSpent s.version J number b L) (at : state_in s.version L ≡ Some s) where
+  module _ (sp : IsSpent s.version F number b L) (at : state_in s.version L ≡ Some s) where
     -- to whom the round sent a message, and who didn't answer it
-    round-missing : {body : Body → Type 0} (test : Message → Type 0) (n : ℕ) (r : IsSentIn s.version number n J L body) → IsOwed r.message.body → test r.message
-        → IsOfPhase (history L) line (first lane rules line d s.version o stamp J) r.message → (Back (history L) r.number → ⊥) → (WasShort (history L) line test → ⊥) → IsMissing (history L) line n
+    round-missing : {body : Body → Type 0} (test : Message → Type 0) (n : ℕ) (r : IsSentIn s.version number n F L body) → IsOwed r.message.body → test r.message
+        → IsOfPhase (history L) line (first lane rules line d s.version o stamp J) r.message → (Back (history L) r.number → ⊥) → (WasShortSince (history F) (history L) test → ⊥) → IsMissing (history L) line n
     round-missing test n r owed holds phase counts =
-        let later = sent-since lane rules line d s.version o stamp J L a r.number r.late in
-        missing lane rules line d s.version o stamp J L a test r.number r.message n later r.was_sent r.version r.receiver phase
-        (owed-came lane rules line d s.version o stamp J L a test r.number r.message later r.was_sent holds owed) counts
+        let later = sent-later lane rules line d s.version o stamp J F L a r.number r.late in
+        missing lane rules line d s.version o stamp J F L a (history F) test r.number r.message n later r.was_sent r.version r.receiver phase
+        (owed-came lane rules line d s.version o stamp J F L a (history F) test r.number r.message r.late r.was_sent holds owed) counts
 
-    of-round : {body : Body → Type 0} (n : ℕ) (r : IsSentIn s.version number n J L body) → IsOfRound (history L) line (first lane rules line d s.version o stamp J) b r.message
+    of-round : {body : Body → Type 0} (n : ℕ) (r : IsSentIn s.version number n F L body) → IsOfRound (history L) line (first lane rules line d s.version o stamp J) b r.message
     of-round n r = record { unprepared = unprepared; row_is = ((w.has_row).known).is_row.row (key_of o.id) (w.has_row).inside; round_is = r.round }
 
     -- ---- Reads
@@ -71,7 +71,7 @@ module _ (lane : Low) (rules : Rules) (line d : ℕ) (o : Operation) (stamp : Op
     abbrev unread : ℕ → Bool
     unread n = serves s n && not (did_show n (w.round).shown)
 
-    unread-missing : (WasShort (history L) line (is_round_read s.version b number) → ⊥) → (n : ℕ) → unread n ≡ true → IsMissing (history L) line n
+    unread-missing : (WasShortSince (history F) (history L) (is_round_read s.version b number) → ⊥) → (n : ℕ) → unread n ≡ true → IsMissing (history L) line n
     unread-missing none n h =
         let z = but-not (serves s n) (did_show n (w.round).shown) h in
         let r = sp.reads s at n z.0 in
@@ -104,10 +104,10 @@ module _ (lane : Low) (rules : Rules) (line d : ℕ) (o : Operation) (stamp : Op
       are-holders : (n : ℕ) → has_node (w.round).holders n ≡ true → AnsweredApply s.version number n b (history L)
       are-holders n h = subst (λ (c : Low). AnsweredApply s.version (round_of s.version c (history L)) n c (history L)) w.same_row (((w.knows).holders_are n).0 h)
 
-      was-told : (n : ℕ) → has_node (w.round).receivers n ≡ true → IsSentIn s.version number n J L (is_union b)
+      was-told : (n : ℕ) → has_node (w.round).receivers n ≡ true → IsSentIn s.version number n F L (is_union b)
       was-told n has = sp.applies s at all-answered (w.round).receivers (subst (λ (c : Low). receivers_of s.version c L ≡ Some (w.round).receivers) w.same_row (w.knows).receivers_are) n has
 
-      has-union : (n : ℕ) (r : IsSentIn s.version number n J L (is_union b)) → Back (history L) r.number → has_node (w.round).holders n ≡ true
+      has-union : (n : ℕ) (r : IsSentIn s.version number n F L (is_union b)) → Back (history L) r.number → has_node (w.round).holders n ≡ true
       has-union n r back = holders-are n (record {
         number = r.number;
         message = r.message;
@@ -126,7 +126,7 @@ module _ (lane : Low) (rules : Rules) (line d : ℕ) (o : Operation) (stamp : Op
       abbrev unapplied : ℕ → Bool
       unapplied n = has_node (w.round).receivers n && not (has_node (w.round).holders n)
 
-      unapplied-missing : (WasShort (history L) line (is_round_apply s.version b number) → ⊥) → (n : ℕ) → unapplied n ≡ true → IsMissing (history L) line n
+      unapplied-missing : (WasShortSince (history F) (history L) (is_round_apply s.version b number) → ⊥) → (n : ℕ) → unapplied n ≡ true → IsMissing (history L) line n
       unapplied-missing none n h =
           let z = but-not (has_node (w.round).receivers n) (has_node (w.round).holders n) h in
           let r = was-told n z.0 in
@@ -153,10 +153,10 @@ module _ (lane : Low) (rules : Rules) (line d : ℕ) (o : Operation) (stamp : Op
               let is : unapplied n ≡ true = ap (λ (t : Bool). t && not (has_node (w.round).holders n)) has ∙ ap (λ (t : Bool). not t) f in
               absurd (true≢false (sym is ∙ none n (member_small (w.round).receivers n has)))
 
-  pub short-ends : AreRules rules → state_in s.version L ≡ Some s → RoundSince s.version J b L → FallsShort L line x
-  short-ends are at (NotBegun h) = absurd (w.since (h ∙ ap (λ (y : Journal). round_of s.version b y) (sym a.before)))
+  pub short-ends : AreRules rules → state_in s.version L ≡ Some s → RoundSince s.version F b L → FallsShort L line x
+  short-ends are at (NotBegun h) = absurd (w.since h)
   short-ends are at (UnderWay lt run) = absurd (true≢false (sym run ∙ (w.has_row).no_round))
   short-ends are at (Over sp) = elim w.gives [
-    | inl reads ↦ falls-short L line (is_round_read s.version b number) _ _ _ x reads.1 (λ none. unread-missing sp at none _ (some-unread sp at reads.0))
-    | inr applies ↦ falls-short L line (is_round_apply s.version b number) _ _ _ x applies.1 (λ none. unapplied-missing sp at applies.0 none _ (some-unapplied sp at applies.0 are))
+    | inl reads ↦ falls-short L line (history F) (sent-later lane rules line d s.version o stamp J F L a) (is_round_read s.version b number) _ _ _ x reads.1 (λ none. unread-missing sp at none _ (some-unread sp at reads.0))
+    | inr applies ↦ falls-short L line (history F) (sent-later lane rules line d s.version o stamp J F L a) (is_round_apply s.version b number) _ _ _ x applies.1 (λ none. unapplied-missing sp at applies.0 none _ (some-unapplied sp at applies.0 are))
   ]

@@ -53,8 +53,8 @@ module _ (acks : ℕ) (P : ℕ → ℕ → Bool) (v n k : ℕ) (id : Id) (s : St
   pub store-counts : (H : Journal) → Legal acks P H → returned k H ≡ true → sent k H ≡ Some m → first_reply k H ≡ Some (Answer g.content g.names) → answered_store v id s n H ≡ true
   store-counts = counts acks P (λ H. answered_store v id s n H ≡ true) k m (Answer g.content g.names) counts-now still
 
-module _ (lane : Low) (rules : Rules) (line d : ℕ) (o : Operation) (stamp : Option Stamp) (J L : List LaneEvent) (s : ClusterState)
-    (a : At lane rules line d s.version o stamp J L) (some : 1 ≤ rules.acks) where
+module _ (lane : Low) (rules : Rules) (line d : ℕ) (o : Operation) (stamp : Option Stamp) (J F L : List LaneEvent) (s : ClusterState)
+    (a : At lane rules line d s.version o stamp J F L) (some : 1 ≤ rules.acks) where
   -- a Store of the line's stamp is sent since it began
   module _ (t : Stamp) (stamped : stamp ≡ Some t) where
     own-line : (k : ℕ) (b : Beginning) → began k (history L) ≡ Some b → b.stamp ≡ Some t → k ≡ line
@@ -74,14 +74,14 @@ module _ (lane : Low) (rules : Rules) (line d : ℕ) (o : Operation) (stamp : Op
             absurd (cc)
 
     pub store-later : (k : ℕ) (m : Message) (id : Id) → sent k (history L) ≡ Some m → m.body ≡ Store id t → sent k (before_line line (history L)) ≡ None
-    store-later k m id was is = sent-since lane rules line d s.version o stamp J L a k (store-since k m id was is)
+    store-later k m id was is = sent-since lane rules line d s.version o stamp J F L a k (store-since k m id was is)
 
     -- while the line is open each of them is answered, or memory is wanted, or nothing is heard of it
-    pub store-came : closed line (history L) ≡ false → (test : Message → Type 0) (k : ℕ) (m : Message) (id : Id) → sent k (history L) ≡ Some m → m.body ≡ Store id t → test m → Came (history L) line test k
-    store-came unclosed test k m id was is holds = came lane rules line d s.version o stamp J L a test k m (store-later k m id was is) was holds
+    pub store-came : closed line (history L) ≡ false → (test : Message → Type 0) (k : ℕ) (m : Message) (id : Id) → sent k (history L) ≡ Some m → m.body ≡ Store id t → test m → Came (before_line line (history L)) (history L) test k
+    store-came unclosed test k m id was is holds = came lane rules line d s.version o stamp J F L a (before_line line (history L)) test k m (store-later k m id was is) was holds
         (λ r f. known-store rules.acks (state_of (history L)) m.version k m r refl some id t is (history L) a.legal (λ j b h e. subst (λ (i : ℕ). closed i (history L) ≡ false) (sym (own-line j b h e)) unclosed) was f)
 
   -- so is each Read of its document
-  pub read-came : (test : Message → Type 0) (k : ℕ) (m : Message) → closed line (history L) ≡ false → sent k (history L) ≡ Some m → sent k (before_line line (history L)) ≡ None → m.body ≡ ReadDoc o.id → test m → Came (history L) line test k
-  read-came test k m unclosed was late is holds = came lane rules line d s.version o stamp J L a test k m late was holds
+  pub read-came : (test : Message → Type 0) (k : ℕ) (m : Message) → closed line (history L) ≡ false → sent k (history L) ≡ Some m → sent k (before_line line (history L)) ≡ None → m.body ≡ ReadDoc o.id → test m → Came (before_line line (history L)) (history L) test k
+  read-came test k m unclosed was late is holds = came lane rules line d s.version o stamp J F L a (before_line line (history L)) test k m late was holds
       (λ r f. known-read rules.acks (state_of (history L)) m.version k m r refl some line (first lane rules line d s.version o stamp J) is (history L) a.legal (record { begun = a.begun; unclosed = unclosed; late = late }) was f)

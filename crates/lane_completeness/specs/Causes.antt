@@ -1,5 +1,5 @@
 -- Why an operation got too few answers: nothing was heard of the absent node.
-use Rattle.std.specs.Prelude.{◌≡◌, ◌⊎◌, ℕ, true, false, List, [], ◌∷◌, Option, None, Some, IsSome}
+use Rattle.std.specs.Prelude.{◌≡◌, ◌⊎◌, ◌≤◌, ℕ, true, false, List, [], ◌∷◌, ◌++◌, Option, None, Some, IsSome}
 use Rattle.bucket_ids.specs.Buckets.{Low}
 use Rattle.stamps.specs.declared.stamp.Stamp.{Stamp}
 use Rattle.carriers.specs.declared.fate.Fate.{Fate}
@@ -8,7 +8,7 @@ use Rattle.messages.specs.declared.outcome.Outcome.{Outcome}
 use Rattle.distributor_part.specs.declared.rules.Rules.{Rules}
 use Rattle.lane_journals.specs.Buckets.{Bucket, key_of}
 use Rattle.lane_journals.specs.Events.{Content, Ask, Read, Apply, ReadDoc, Store, Newer}
-use Rattle.lane_journals.specs.Readers.{Journal, Beginning, began, before_line, prepared, wrote, opened, row_at, round_of, answer, Message, sent, first_reply, returned}
+use Rattle.lane_journals.specs.Readers.{Journal, Beginning, published, began, before_line, prepared, wrote, opened, row_at, round_of, answer, Message, sent, first_reply, returned}
 use Rattle.lane_journals.specs.States.{state_of}
 use Rattle.lane_journals.specs.Meanings.{history}
 use Rattle.lane_journals.specs.KeptJournals.{IsLegal}
@@ -16,8 +16,8 @@ use Rattle.lane_journals.specs.declared.event.LaneEvent.{LaneEvent}
 use Rattle.lane_journals.specs.declared.event.LaneEvent.TheVariants.{Sent, Delivered, Returned}
 use Rattle.lane_carriage.specs.Readers.{fate_of, is_returned, receives}
 use Rattle.lane_keeping.specs.LaneKeeping.{setting_of}
-use Rattle.operation_keeping.specs.Wants.{IsRun, IsEnd}
-use Rattle.lane_completeness.specs.Completeness.{with_begun}
+use Rattle.operation_keeping.specs.Wants.{IsRun, IsEnd, IsRunSince, IsEndSince}
+use Rattle.lane_completeness.specs.Completeness.{HaveReturned, with_begun}
 
 -- ---- who is missing
 
@@ -85,3 +85,19 @@ pub record IsRunLine (lane : Low) (rules : Rules) (line d v : ℕ) (o : Operatio
   pub run : IsRun lane rules line o (with_begun line d v o stamp J) K
   pub in_turn : ReturnInTurn (with_begun line d v o stamp J) K
   pub end : IsEnd lane rules line o K outcome
+
+-- an operation was begun, and is over by what it wanted since a later journal: since then it searched its row, or was
+-- prepared already
+pub record IsRunLineSince (lane : Low) (rules : Rules) (line d v : ℕ) (o : Operation) (stamp : Option Stamp) (J F K : List LaneEvent) (outcome : Outcome) : Type 0 where
+  pub legal : IsLegal (setting_of lane rules) K
+  pub early : List LaneEvent
+  pub begun : F ≡ early ++ with_begun line d v o stamp J
+  pub run : IsRunSince lane rules line o (history F) F K
+  pub in_turn : ReturnInTurn F K
+  pub end : IsEndSince lane rules line o (history F) K outcome
+
+-- it is over so, or alone, under the newest state, and of all messages that were sent since it was begun the replies came back
+pub record IsHeardLine (lane : Low) (rules : Rules) (line d v : ℕ) (o : Operation) (stamp : Option Stamp) (J K : List LaneEvent) (outcome : Outcome) : Type 0 where
+  pub ran : IsRunLine lane rules line d v o stamp J K outcome ⊎ ((F : List LaneEvent) × IsRunLineSince lane rules line d v o stamp J F K outcome)
+  pub newest : (w : ℕ) → published w (history K) ≡ true → w ≤ v
+  pub all : HaveReturned (with_begun line d v o stamp J) K

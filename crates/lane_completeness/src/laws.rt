@@ -19,7 +19,7 @@ ghost use Rattle.lane_carriage.specs.Readers.{receives};
 ghost use Rattle.lane_keeping.specs.LaneKeeping.{setting_of};
 ghost use Rattle.lane_completeness.specs.Completeness.{AreAnswered, RunSince, NoneStops, IsUndisturbed, IsUndisturbedLine, IsDecided, EndsWell};
 ghost use Rattle.operation_keeping.specs.RuleBounds.{AreRules};
-ghost use Rattle.lane_completeness.specs.Causes.{IsMissing, IsLost, ReturnInTurn, IsRunLine};
+ghost use Rattle.lane_completeness.specs.Causes.{IsMissing, IsLost, ReturnInTurn, IsRunLine, IsRunLineSince, IsHeardLine};
 
 /// An operation that was begun under the newest state, and of which no message is lost, doesn't end for want
 /// of answers: it comes to what they say, or to NoMemory where a node wanted memory.
@@ -39,6 +39,19 @@ pub fn undisturbed_writes_end_well()
         → EndsWell stamp (history K) line outcome }
 {}
 
+/// So does one that others went on beside, whose search for its row may have begun with a later journal, where of each message
+/// that was sent since the operation began the reply came back.
+pub fn heard_operations_are_decided()
+    ensures decided { (lane : Low) (rules : Rules) → AreRules rules → (line d v : ℕ) (o : Operation) (stamp : Option Stamp)
+        (J K : List LaneEvent) (outcome : Outcome)
+        → IsHeardLine lane rules line d v o stamp J K outcome
+        → IsDecided (history K) line outcome }
+    ensures well { (lane : Low) (rules : Rules) → AreRules rules → (line d v : ℕ) (o : Operation) (stamp : Option Stamp)
+        (J K : List LaneEvent) (outcome : Outcome) → looks o ≡ false
+        → IsHeardLine lane rules line d v o stamp J K outcome
+        → EndsWell stamp (history K) line outcome }
+{}
+
 /// Where the fate of each message from a number on is to be delivered and answered at once, and its receiver
 /// runs, nothing that was sent since is lost; and where that is so of all messages, as with a perfect carrier
 /// and nodes that never stop, no line loses any. Where no node stops or starts since, those run then that run
@@ -55,11 +68,16 @@ pub fn answered_lines_are_undisturbed()
 {}
 
 /// An operation that ends with too few answers asked the absent node: since it began a message of the phase that ended
-/// it was sent there, and its reply didn't come back, or said just that the node took a newer version.
+/// it was sent there, and its reply didn't come back, or said just that the node took a newer version. So does one that
+/// others went on beside, whose search for its row began with a later journal.
 pub fn too_few_has_its_cause()
-    ensures { (lane : Low) (rules : Rules) → AreRules rules → (line d v : ℕ) (o : Operation) (stamp : Option Stamp)
+    ensures alone { (lane : Low) (rules : Rules) → AreRules rules → (line d v : ℕ) (o : Operation) (stamp : Option Stamp)
         (J K : List LaneEvent) (answered needed absent : ℕ)
         → IsRunLine lane rules line d v o stamp J K (TooFew answered needed absent)
+        → IsMissing (history K) line absent }
+    ensures since { (lane : Low) (rules : Rules) → AreRules rules → (line d v : ℕ) (o : Operation) (stamp : Option Stamp)
+        (J F K : List LaneEvent) (answered needed absent : ℕ)
+        → IsRunLineSince lane rules line d v o stamp J F K (TooFew answered needed absent)
         → IsMissing (history K) line absent }
 {}
 

@@ -23,7 +23,7 @@ use Rattle.operation_keeping.specs.OperationKeeping.{beginning_of}
 use Rattle.proof_basics.proofs.Options.{some_same as some-same}
 use Rattle.lane_states.specs.LaneStates.{journal_of, part_of}
 use Rattle.lane_states.proofs.SameStates.{same-state}
-use Rattle.lane_lives.specs.LaneValues.{IsPreparedIn}
+use Rattle.lane_calls.specs.LaneValues.{IsPreparedIn}
 use Rattle.lane_core.specs.declared.work.Job.{Job}
 use Rattle.lane_core.specs.declared.work.Work.{Work}
 use Rattle.lane_core.specs.Advancing.{IsHindered}

@@ -18,7 +18,7 @@ use Rattle.lane_lines.specs.Closing.{MayEndWith}
 use Rattle.lane_core.specs.declared.work.Job.{Job}
 use Rattle.lane_core.specs.declared.work.Phase.{Phase}
 use Rattle.lane_core.specs.declared.work.Phase.TheVariants.{Begun, Prepared, Over, Short}
-use Rattle.lane_lives.specs.LaneValues.{EndsAs}
+use Rattle.lane_calls.specs.LaneValues.{EndsAs}
 use Rattle.lane_core.specs.Works.{progress_of, IsJob, PhaseKeeps, PhaseEnds, MayMark, IsEndedBy, AreJobs, HasJobToClose, IsToClosePhase}
 use Rattle.lane_core.proofs.Working.{same-key}
 use Rattle.lane_core.proofs.Places.{get-one}

@@ -36,17 +36,17 @@ use Rattle.operation_keeping.proofs.OthersRuns.{run-others}
 use Rattle.lane_core.proofs.Places.{get-map, set-length}
 use Rattle.lane_core.proofs.JobLists.{jobs-set, off-line, off-document}
 use Rattle.lane_core.proofs.Working.{IsOnward, work-set, value_as, value-as}
-use Rattle.lane_lives.specs.declared.progress.Progress.TheVariants as progress
+use Rattle.lane_calls.specs.declared.progress.Progress.TheVariants as progress
 use Rattle.lane_states.specs.declared.lane_state.LaneState.{LaneState}
 use Rattle.lane_core.specs.declared.work.Job.{Job}
 use Rattle.lane_core.specs.declared.work.Phase.{Phase}
 use Rattle.lane_core.specs.declared.work.Phase.TheVariants as phase
-use Rattle.lane_lives.specs.declared.answers.Advance.{Advance}
-use Rattle.lane_lives.specs.declared.answers.Advance.TheVariants as advance
+use Rattle.lane_calls.specs.declared.answers.Advance.{Advance}
+use Rattle.lane_calls.specs.declared.answers.Advance.TheVariants as advance
 use Rattle.lane_core.specs.declared.work.Work.{Work}
 use Rattle.lane_states.specs.LaneStates.{journal_of, IsKept, HasRoom, AreResting}
 use Rattle.lane_core.proofs.Giving.{gives_few}
-use Rattle.lane_lives.specs.LaneValues.{LaneValue, with_run, under_way_of}
+use Rattle.lane_calls.specs.LaneValues.{LaneValue, with_run, under_way_of}
 use Rattle.lane_core.specs.Advancing.{IsFree, WentOn, Advances, AdvancesAt}
 use Rattle.stamps.specs.Places.{place_of}
 use Rattle.lane_states.specs.Written.{FindsEntries}

@@ -4,9 +4,9 @@ use Rattle.bucket_ids.specs.Buckets.{Low}
 use Rattle.carriers.specs.declared.fate.Fate.{Fate}
 use Rattle.distributor_part.specs.declared.rules.Rules.{Rules}
 use Rattle.lane_journals.specs.declared.event.LaneEvent.{LaneEvent}
-use Rattle.lane_lives.specs.declared.progress.UnderWay.{UnderWay}
-use Rattle.lane_lives.specs.declared.answers.Advance.{Advance}
-use Rattle.lane_lives.specs.LaneValues.{LaneValue, WantsMore, WantsEnd, MayAdvance, MayClose}
+use Rattle.lane_calls.specs.declared.progress.UnderWay.{UnderWay}
+use Rattle.lane_calls.specs.declared.answers.Advance.{Advance}
+use Rattle.lane_calls.specs.LaneValues.{LaneValue, WantsMore, WantsEnd, MayAdvance, MayClose}
 use Rattle.lane_core.specs.declared.work.Job.{Job}
 use Rattle.lane_core.specs.declared.work.Phase.{Phase}
 use Rattle.lane_core.specs.declared.work.Phase.TheVariants as phase

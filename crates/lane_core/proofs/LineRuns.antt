@@ -8,12 +8,13 @@ use Rattle.lane_journals.specs.declared.event.LaneEvent.TheVariants.{Refused}
 use Rattle.lane_keeping.specs.Lines.{IsFresh}
 use Rattle.lane_keeping.specs.Tidings.{heard_next}
 use Rattle.lane_states.proofs.Giving.{gives_same}
-use Rattle.lane_lives.specs.LaneValues.{LaneValue, IsLaneValue, Begins, BeginsAtOwner, Refuses, IsDocumentHeld, IsOwnerHeld, under_way_of}
-use Rattle.lane_lives.specs.declared.progress.Progress.TheVariants as progress
-use Rattle.lane_lives.specs.declared.progress.UnderWay.{UnderWay}
-use Rattle.lane_lives.specs.Lives.{FeedLine, outcome_in}
+use Rattle.lane_calls.specs.LaneValues.{LaneValue, IsLaneValue, Begins, BeginsAtOwner, Refuses, IsDocumentHeld, IsOwnerHeld, under_way_of}
+use Rattle.lane_calls.specs.declared.progress.Progress.TheVariants as progress
+use Rattle.lane_calls.specs.declared.progress.UnderWay.{UnderWay}
+use Rattle.lane_calls.specs.Lines.{FeedLine}
+use Rattle.lane_calls.specs.Readings.{outcome_in}
 use Rattle.lane_core.specs.Runs.{HasAlone, IsFinish, begun_with, IsLineRun}
-use Rattle.lane_lives.proofs.OneLine.{fresh_none, outcome_refused, run_outcome, passes_next}
+use Rattle.lane_calls.proofs.OneLine.{fresh_none, outcome_refused, run_outcome, passes_next}
 use Rattle.lane_core.proofs.Running.{none-first, begun_alone, HasRun, has_run}
 
 abbrev pub feed_line : ℕ → Operation → Option ℕ → FeedLine

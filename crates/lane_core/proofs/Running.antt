@@ -12,17 +12,17 @@ use Rattle.lane_journals.specs.Readers.{Preparing, prepared, sent, Message}
 use Rattle.lane_journals.specs.Meanings.{history}
 use Rattle.lane_journals.specs.declared.event.LaneEvent.{LaneEvent}
 use Rattle.lane_journals.specs.declared.event.LaneEvent.TheVariants.{Closed}
-use Rattle.lane_lives.specs.LaneValues.{LaneValue, under_way_of, with_run, IsPlace, OfFirst, WantsMore, MayAdvance, WantsEnd, MayClose, EndsAs, Closes, drawn}
+use Rattle.lane_calls.specs.LaneValues.{LaneValue, under_way_of, with_run, IsPlace, OfFirst, WantsMore, MayAdvance, WantsEnd, MayClose, EndsAs, Closes, drawn}
 use Rattle.lane_states.specs.LaneStates.{GivesOn}
 use Rattle.lane_states.proofs.Giving.{gives_then}
 use Rattle.lane_core.specs.Advancing.{IsHindered, WentOn, IsAdvance}
 use Rattle.operation_keeping.specs.Wants.{IsRunSince, IsCutRunSince, IsEndSince}
 use Rattle.operation_keeping.proofs.Since.{run-sent, run-then, run-of-search, end-of-search, cut-of-search, run-anew, end-anew, cut-anew}
-use Rattle.lane_lives.specs.declared.progress.UnderWay.{UnderWay}
-use Rattle.lane_lives.specs.declared.progress.Progress.{Progress}
-use Rattle.lane_lives.specs.declared.progress.Progress.TheVariants.{Begun, Runs, Over, Short}
-use Rattle.lane_lives.specs.declared.answers.Advance.TheVariants as advance
-use Rattle.lane_lives.specs.Lives.{FeedLine, begun_at, RunsTo, IsRunAt}
+use Rattle.lane_calls.specs.declared.progress.UnderWay.{UnderWay}
+use Rattle.lane_calls.specs.declared.progress.Progress.{Progress}
+use Rattle.lane_calls.specs.declared.progress.Progress.TheVariants.{Begun, Runs, Over, Short}
+use Rattle.lane_calls.specs.declared.answers.Advance.TheVariants as advance
+use Rattle.lane_calls.specs.Lines.{FeedLine, begun_at, RunsTo, IsRunAt}
 use Rattle.lane_core.specs.Runs.{Finishes, IsAlone, IsFinish, GoesOn, IsGoing, left_in, begun_with}
 
 -- ---- runs, one behind the other

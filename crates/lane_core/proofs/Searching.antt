@@ -20,15 +20,15 @@ use Rattle.lane_states.specs.declared.lane_state.LaneState.{LaneState}
 use Rattle.lane_core.specs.declared.work.Job.{Job}
 use Rattle.lane_core.specs.declared.work.Phase.{Phase}
 use Rattle.lane_core.specs.declared.work.Phase.TheVariants as phase
-use Rattle.lane_lives.specs.declared.progress.Progress.{Progress}
-use Rattle.lane_lives.specs.declared.progress.Progress.TheVariants as progress
-use Rattle.lane_lives.specs.declared.progress.UnderWay.{UnderWay}
-use Rattle.lane_lives.specs.declared.answers.Advance.TheVariants as advance
+use Rattle.lane_calls.specs.declared.progress.Progress.{Progress}
+use Rattle.lane_calls.specs.declared.progress.Progress.TheVariants as progress
+use Rattle.lane_calls.specs.declared.progress.UnderWay.{UnderWay}
+use Rattle.lane_calls.specs.declared.answers.Advance.TheVariants as advance
 use Rattle.lane_lines.specs.declared.readying.Shortage.{Shortage}
 use Rattle.lane_lines.specs.declared.readying.Shortage.TheVariants as shortage
 use Rattle.lane_core.specs.declared.work.Work.{Work}
 use Rattle.lane_states.specs.LaneStates.{journal_of, IsKept, HasRoom, GivesOn, part_of, IsResting, AreResting}
-use Rattle.lane_lives.specs.LaneValues.{LaneValue, WantsMore, with_run, under_way_of}
+use Rattle.lane_calls.specs.LaneValues.{LaneValue, WantsMore, with_run, under_way_of}
 use Rattle.lane_core.specs.Advancing.{IsFree, AdvancesAt}
 use Rattle.lane_core.specs.Works.{value_of, under_way_at, progress_of, IsItsRow, IsUnprepared, PhaseKeeps, PhaseLasts, IsJob, AreJobs, IsWork}
 use Rattle.lane_lines.specs.Steps.{IsUneventful}

@@ -14,14 +14,16 @@ use Rattle.lane_journals.specs.declared.event.LaneEvent.{LaneEvent}
 use Rattle.lane_keeping.specs.LaneKeeping.{setting_of}
 use Rattle.lane_keeping.specs.Lines.{IsFresh}
 use Rattle.lane_keeping.specs.Tidings.{announced, stopped_next, started_next, last_state}
-use Rattle.lane_lives.specs.LaneValues.{LaneValue, IsLaneValue}
+use Rattle.lane_calls.specs.LaneValues.{LaneValue, IsLaneValue}
 use Rattle.lane_lives.specs.declared.setting.Setting.{Setting}
-use Rattle.lane_lives.specs.Lives.{FeedLine, Deed, Announces, Stops, Starts, Runs, Maintains, Does, IsMaintained, IsCarriedOut, lines_of, last_line, AreRising, states_in, newest_in}
+use Rattle.lane_calls.specs.Lines.{FeedLine, IsCarriedOut, last_line, AreRising}
+use Rattle.lane_lives.specs.Lives.{Deed, Announces, Stops, Starts, Runs, Maintains, Does, lines_of, states_in, newest_in}
+use Rattle.lane_calls.specs.Upkept.{IsMaintained}
 use Rattle.lane_core.specs.Runs.{IsLineRun}
 use Rattle.lane_lives.specs.Upkeep.{MayBeUpkept, IsSpan}
 use Rattle.lane_lives.specs.declared.spans.UpkeepSpan.{UpkeepSpan}
 use Rattle.lane_lives.specs.Serving.{bucket_in, IsServing}
-use Rattle.lane_lives.proofs.Upkept.{pass_made}
+use Rattle.lane_calls.proofs.Upkept.{pass_made}
 use Rattle.lane_lives.proofs.Living.{heard_all, newest_published, states_published, others_fresh, later_none}
 
 abbrev told_of : ℕ → List ClusterState → Told

@@ -11,7 +11,7 @@ use Rattle.lane_keeping.specs.LaneKeeping.{setting_of, NodesKeep}
 use Rattle.lane_changes.specs.Changes.{changes_of}
 use Rattle.lane_states.specs.Told.{all_kept, ShowsOn}
 use Rattle.lane_states.specs.LaneStates.{journal_of, handed_of, IsCarriedBy, IsSetUp}
-use Rattle.lane_lives.specs.LaneValues.{LaneValue}
+use Rattle.lane_calls.specs.LaneValues.{LaneValue}
 use Rattle.lane_core.specs.declared.work.Work.{Work}
 use Rattle.lane_core.specs.Works.{SameHanded, IsWork}
 use Rattle.lane_core.specs.LaneInside.{IsLane}

@@ -16,7 +16,7 @@ use Rattle.lane_states.specs.Written.{FindsEntries}
 use Rattle.lane_states.specs.declared.lane_state.LaneState.{LaneState}
 use Rattle.stamps.specs.declared.places.StampPlaces.{StampPlaces}
 use Rattle.carriers.specs.declared.fate.Fate.{Fate}
-use Rattle.lane_lives.specs.LaneValues.{with_run}
+use Rattle.lane_calls.specs.LaneValues.{with_run}
 use Rattle.operation_keeping.specs.Others.{Same}
 use Rattle.lane_core.proofs.Places.{get-map, set-length}
 use Rattle.lane_core.proofs.JobLists.{jobs-set}

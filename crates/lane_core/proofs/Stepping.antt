@@ -11,8 +11,8 @@ use Rattle.operation_keeping.specs.Left.{messages_left}
 use Rattle.lane_states.specs.declared.lane_state.LaneState.{LaneState}
 use Rattle.lane_core.specs.declared.work.Phase.{Phase}
 use Rattle.lane_core.specs.declared.work.Phase.TheVariants as phase
-use Rattle.lane_lives.specs.declared.answers.Advance.{Advance}
-use Rattle.lane_lives.specs.declared.answers.Advance.TheVariants as advance
+use Rattle.lane_calls.specs.declared.answers.Advance.{Advance}
+use Rattle.lane_calls.specs.declared.answers.Advance.TheVariants as advance
 use Rattle.lane_lines.specs.Steps.{StandsIn, TellsOne}
 use Rattle.lane_core.specs.Phases.{IsPhaseOf, WantsMore, ComesTo}
 

@@ -17,12 +17,13 @@ use Rattle.upkeep_spans.specs.Causes.{first_absent, cause_of, IsCause, IsUndistu
 use Rattle.upkeep_spans.proofs.Leaving.{before}
 use Rattle.upkeep_spans.proofs.Rested.{all_back, was_undisturbed}
 use Rattle.upkeep_spans.proofs.Seeing.{length-past}
-use Rattle.lane_lives.specs.LaneValues.{LaneValue, OfFirst, IsAny}
+use Rattle.lane_calls.specs.LaneValues.{LaneValue, OfFirst, IsAny}
 use Rattle.lane_core.specs.declared.work.Job.{Job}
 use Rattle.lane_core.specs.declared.work.Work.{Work}
 use Rattle.lane_core.specs.Works.{value_of, under_way_at, under_way_in}
+use Rattle.lane_core.specs.Passes.{MakesPass, PassesBy, HasPassed}
 use Rattle.lane_core.specs.Upkeeping.{MaintainsBy, MayMaintain, OpensBy, RestsBy}
-use Rattle.lane_lives.specs.Upkept.{Maintains, HasOpened, HaveRun, IsLaneAtRest, IsUpkept}
+use Rattle.lane_calls.specs.Upkept.{Maintains, HasOpened, HaveRun, IsLaneAtRest, IsUpkept}
 
 -- ---- the answer
 
@@ -129,3 +130,19 @@ lane-short x y given now p q t u v result view planned kind idle m is =
     (subst (λ (a : List Fate). IsUpkept (value_of x given p t) (value_of y now a u) NoMemory) (sym planned)
     (subst (λ (a : Bool). IsUpkept (value_of x given p t) (value_of y now p a) NoMemory) (sym kind)
     (upkept-short x y given now p t idle m))))
+
+-- ---- the order of its pass
+
+passed-by : (v w : LaneValue) (answer : Upkeep) → MakesPass v.lane v.rules v.journal w.journal w.given → HasPassed v w answer
+passed-by v w Rested m = m
+passed-by v w (Blocked n) m = m
+passed-by v w (Disturbed n) m = m
+passed-by v w (Held by) m = tt
+passed-by v w NoMemory m = tt
+
+pub lane-passed : (x y : Work) (given now p q : List Fate) (t u : Bool) (v : LaneValue) (result : Upkeep) → value_of x given p t ≡ v → PassesBy x y now → HasPassed v (value_of y now q u) result
+lane-passed x y given now p q t u v result view m =
+    subst (λ (o : LaneValue). HasPassed o (value_of y now q u) result) view (passed-by (value_of x given p t) (value_of y now q u) result m)
+
+pub none-passed : (v w : LaneValue) (result : Upkeep) → result ≡ NoMemory → HasPassed v w result
+none-passed v w result is = subst (HasPassed v w) (sym is) tt

@@ -1,7 +1,7 @@
 -- What holds of the operations under way, of the lane's value as of its jobs.
 use Rattle.std.proofs.Common.{◌≡◌, ℕ, List, Some, slice_get, subst}
-use Rattle.lane_lives.specs.declared.progress.UnderWay.{UnderWay}
-use Rattle.lane_lives.specs.LaneValues.{OfNone, OfFirst}
+use Rattle.lane_calls.specs.declared.progress.UnderWay.{UnderWay}
+use Rattle.lane_calls.specs.LaneValues.{OfNone, OfFirst}
 use Rattle.lane_core.specs.declared.work.Job.{Job}
 use Rattle.lane_core.specs.Works.{under_way_at, under_way_in, OfNoJob, OfFirstJob}
 use Rattle.lane_core.proofs.Places.{get-map, get-map-back}

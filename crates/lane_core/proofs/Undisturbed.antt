@@ -25,8 +25,8 @@ use Rattle.upkeep_spans.specs.Scans.{ArePlaced}
 use Rattle.upkeep_spans.specs.declared.answers.Upkeep.{Upkeep}
 use Rattle.upkeep_spans.specs.declared.answers.Upkeep.TheVariants.{Rested, Blocked, Disturbed, Held, NoMemory}
 use Rattle.upkeep_spans.proofs.Placing.{placed}
-use Rattle.lane_lives.specs.LaneValues.{LaneValue, IsLaneValue, IsAny}
-use Rattle.lane_lives.specs.Upkept.{Maintains, IsUpkept}
+use Rattle.lane_calls.specs.LaneValues.{LaneValue, IsLaneValue, IsAny}
+use Rattle.lane_calls.specs.Upkept.{Maintains, IsUpkept}
 use Rattle.lane_core.specs.Undisturbed.{IsUndisturbed}
 use Rattle.lane_core.proofs.Newest.{newest_is}
 use Rattle.lane_core.proofs.Running.{none-first}

@@ -6,8 +6,9 @@ use Rattle.lane_journals.specs.declared.event.LaneEvent.{LaneEvent}
 use Rattle.upkeep_spans.specs.Causes.{IsCause}
 use Rattle.upkeep_spans.specs.declared.answers.Upkeep.{Upkeep}
 use Rattle.upkeep_spans.specs.declared.answers.Upkeep.TheVariants.{Rested, Blocked, Disturbed, NoMemory}
-use Rattle.lane_lives.specs.LaneValues.{LaneValue}
-use Rattle.lane_lives.specs.Upkept.{Maintains, IsUpkept}
+use Rattle.lane_calls.specs.LaneValues.{LaneValue}
+use Rattle.lane_calls.specs.Upkept.{Maintains, IsUpkept}
+use Rattle.lane_core.specs.Passes.{MakesPass, HasPassed, IsPassed}
 use Rattle.lane_core.specs.Undisturbed.{IsUndisturbed}
 use Rattle.lane_lives.specs.Upkeep.{WasCalm, IsSpan}
 use Rattle.lane_lives.specs.declared.spans.UpkeepSpan.{UpkeepSpan}
@@ -61,3 +62,12 @@ module _ (old new : LaneValue) (shown now : List LaneEvent) (before : past shown
     run = λ is. (subst (IsUpkept old new) is upkept).4;
     at_rest = λ is. (subst (IsUpkept old new) is upkept).5;
   }
+
+-- and its pass went in order
+told_passed : (old new : LaneValue) (answer : Upkeep) → IsTold answer → HasPassed old new answer → MakesPass old.lane old.rules old.journal new.journal new.given
+told_passed old new answer (inl is) m = subst (HasPassed old new) is m
+told_passed old new answer (inr (inl is)) m = subst (HasPassed old new) is.1 m
+told_passed old new answer (inr (inr is)) m = subst (HasPassed old new) is.1 m
+
+pub pass_told : (old new : LaneValue) (span : UpkeepSpan) (answer : Upkeep) → IsTold answer → HasPassed old new answer → IsSpan span old new → IsPassed span old new
+pass_told old new span answer told m is = record { spans = is; passes = told_passed old new answer told m }

@@ -20,7 +20,7 @@ use Rattle.lane_carriage.specs.Readers.{fate_of}
 use Rattle.lane_rest.specs.Rest.{IsAtRest}
 use Rattle.lane_states.specs.declared.lane_state.LaneState.{LaneState}
 use Rattle.lane_keeping.specs.Tidings.{is_older, heard_next, last_state}
-use Rattle.lane_states.specs.LaneStates.{journal_of, part_of, IsCarriedBy, GivesOn, IsResting, AreResting, IsSetUp}
+use Rattle.lane_states.specs.LaneStates.{journal_of, part_of, IsKept, IsCarriedBy, GivesOn, IsResting, AreResting, IsSetUp}
 use Rattle.lane_states.specs.Written.{writes_entry, AddsNoEntry}
 use Rattle.lane_lines.proofs.Entries.{adds-none, adds-one, finds-grown}
 use Rattle.upkeep_spans.specs.Spans.{IsUpkeepEvent, AreUpkeep, Nothing, More, OfUpkeep, later}
@@ -29,7 +29,9 @@ use Rattle.lane_upkeep.specs.declared.owner.Owner.{Owner}
 use Rattle.lane_upkeep.specs.Passing.{PassesOn}
 use Rattle.lane_upkeep.specs.Maintaining as maintaining
 use Rattle.lane_upkeep.specs.Maintaining.{IsBetween, AreReturned}
-use Rattle.lane_lives.specs.LaneValues.{LaneValue}
+use Rattle.lane_calls.specs.LaneValues.{LaneValue}
+use Rattle.lane_upkeep.specs.Taking.{OpensThenPasses}
+use Rattle.lane_core.specs.Passes.{PassesBy}
 use Rattle.lane_core.specs.Upkeeping.{MaintainsBy, OpensBy, RestsBy}
 use Rattle.lane_core.specs.declared.work.Work.{Work}
 use Rattle.lane_core.specs.declared.work.Job.{Job}
@@ -226,6 +228,23 @@ pub rests-on : {X E : Type 0} (r : Result X E) (x : Work) (y : LaneState) (now :
     → OnOk r (RestsBy x (record x { state = y }) now)
 rests-on (Ok a) x y now set_up f = f set_up set_up.searched
 rests-on (Err e) x y now set_up f = tt
+
+-- the pass goes in its order, from where the owner heard its state
+pub passes-by : {X E : Type 0} (r : Result X E) (x h y : Work) (o : Owner) (now : List Fate) → IsKept h.state → h.state.lane ≡ x.state.lane → h.state.rules ≡ x.state.rules → h.state.newest ≡ Some o.state
+    → journal_of h.state ≡ heard_next o.distributor (Some o.state) (journal_of x.state) → OnOk r (OpensThenPasses h.state y.state o now) → OnOk r (PassesBy x y now)
+passes-by (Err e) x h y o now kept lane rules newest grows p = tt
+passes-by (Ok a) x h y o now kept lane rules newest grows p = record {
+  before = h.state;
+  after = y.state;
+  owner = o;
+  kept = kept;
+  lane_is = lane;
+  rules_are = rules;
+  newest = newest;
+  begins = grows;
+  ends = refl;
+  passes = p;
+}
 
 -- ---- what holds whatever the answer
 

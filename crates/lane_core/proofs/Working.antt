@@ -31,7 +31,7 @@ use Rattle.op_machine.specs.Plans.{IsPlainGet}
 use Rattle.lane_core.specs.declared.work.Job.{Job}
 use Rattle.lane_core.specs.declared.work.Work.{Work}
 use Rattle.lane_states.specs.LaneStates.{journal_of, IsKept, HasRoom, StaysCarried, AreResting, IsSetUp}
-use Rattle.lane_lives.specs.LaneValues.{LaneValue, drawn, with_run}
+use Rattle.lane_calls.specs.LaneValues.{LaneValue, drawn, with_run}
 use Rattle.lane_keeping.specs.Tidings.{last_state}
 use Rattle.lane_states.specs.declared.lane_state.LaneState.{LaneState}
 use Rattle.stamps.specs.Places.{place_of}

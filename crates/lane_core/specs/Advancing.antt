@@ -10,12 +10,12 @@ use Rattle.lane_journals.specs.Meanings.{history}
 use Rattle.lane_journals.specs.declared.event.LaneEvent.{LaneEvent}
 use Rattle.lane_journals.specs.declared.event.LaneEvent.TheVariants.{Prepared}
 use Rattle.lane_keeping.specs.Acting.{IsActing, IsKnownRow}
-use Rattle.lane_lives.specs.LaneValues.{LaneValue, IsPlace, OfFirst, IsPreparedIn, WantsMore, under_way_of, with_run}
-use Rattle.lane_lives.specs.declared.progress.UnderWay.{UnderWay}
-use Rattle.lane_lives.specs.declared.progress.Progress.{Progress}
-use Rattle.lane_lives.specs.declared.progress.Progress.TheVariants.{Begun, Runs, Over, Short}
-use Rattle.lane_lives.specs.declared.answers.Advance.{Advance}
-use Rattle.lane_lives.specs.declared.answers.Advance.TheVariants as advance
+use Rattle.lane_calls.specs.LaneValues.{LaneValue, IsPlace, OfFirst, IsPreparedIn, WantsMore, under_way_of, with_run}
+use Rattle.lane_calls.specs.declared.progress.UnderWay.{UnderWay}
+use Rattle.lane_calls.specs.declared.progress.Progress.{Progress}
+use Rattle.lane_calls.specs.declared.progress.Progress.TheVariants.{Begun, Runs, Over, Short}
+use Rattle.lane_calls.specs.declared.answers.Advance.{Advance}
+use Rattle.lane_calls.specs.declared.answers.Advance.TheVariants as advance
 use Rattle.messages.specs.declared.outcome.Outcome.{Outcome}
 use Rattle.lane_states.specs.LaneStates.{GivesOn}
 use Rattle.lane_lines.specs.Steps.{GivesOne, GivesFew}

@@ -15,11 +15,11 @@ use Rattle.lane_keeping.specs.Acting.{IsActing, IsKnownRow}
 use Rattle.operation_keeping.specs.Wants.{WantsSince, Adds}
 use Rattle.lane_core.specs.declared.work.Job.{Job}
 use Rattle.lane_core.specs.Works.{OfJob}
-use Rattle.lane_lives.specs.declared.progress.Progress.TheVariants.{Runs, Over}
-use Rattle.lane_lives.specs.declared.progress.UnderWay.{UnderWay}
+use Rattle.lane_calls.specs.declared.progress.Progress.TheVariants.{Runs, Over}
+use Rattle.lane_calls.specs.declared.progress.UnderWay.{UnderWay}
 use Rattle.lane_states.specs.declared.lane_state.LaneState.{LaneState}
 use Rattle.lane_states.specs.LaneStates.{journal_of}
-use Rattle.lane_lives.specs.LaneValues.{LaneValue, under_way_of, with_run}
+use Rattle.lane_calls.specs.LaneValues.{LaneValue, under_way_of, with_run}
 
 -- the state is opened, and the row of the operation's key has enough complete members
 pub record IsReadyFor (c : LaneState) (j : Job) : Type 0 where

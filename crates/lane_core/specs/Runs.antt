@@ -4,15 +4,16 @@ use Rattle.cluster_states.specs.declared.cluster_state.ClusterState.{ClusterStat
 use Rattle.messages.specs.declared.outcome.Outcome.{Outcome}
 use Rattle.lane_journals.specs.declared.event.LaneEvent.{LaneEvent}
 use Rattle.lane_journals.specs.declared.event.LaneEvent.TheVariants.{Closed}
-use Rattle.lane_lives.specs.LaneValues.{LaneValue, IsLaneValue, under_way_of}
+use Rattle.lane_calls.specs.LaneValues.{LaneValue, IsLaneValue, under_way_of}
 use Rattle.lane_states.specs.LaneStates.{GivesOn}
 use Rattle.messages.specs.declared.outcome.Outcome.TheVariants.{NoMemory}
 use Rattle.lane_journals.specs.Readers.{prepared}
 use Rattle.lane_journals.specs.Meanings.{history}
 use Rattle.operation_keeping.specs.Wants.{IsRunSince, IsCutRunSince, IsEndSince}
-use Rattle.lane_lives.specs.declared.progress.UnderWay.{UnderWay}
-use Rattle.lane_lives.specs.declared.progress.Progress.TheVariants.{Begun, Runs}
-use Rattle.lane_lives.specs.Lives.{FeedLine, begun_at, IsCarriedOut, outcome_in}
+use Rattle.lane_calls.specs.declared.progress.UnderWay.{UnderWay}
+use Rattle.lane_calls.specs.declared.progress.Progress.TheVariants.{Begun, Runs}
+use Rattle.lane_calls.specs.Lines.{FeedLine, begun_at, IsCarriedOut}
+use Rattle.lane_calls.specs.Readings.{outcome_in}
 
 -- the operation that was under way alone went on to its end, by what it wanted since
 pub record Finishes (u : UnderWay) (old new : LaneValue) (outcome : Outcome) : Type 0 where

@@ -5,17 +5,17 @@ use Rattle.carriers.specs.declared.fate.Fate.{Fate}
 use Rattle.lane_journals.specs.Readers.{Journal}
 use Rattle.lane_journals.specs.Meanings.{history}
 use Rattle.operation_keeping.specs.Wants.{IsEndSince}
-use Rattle.lane_lives.specs.declared.answers.Advance.{Advance}
+use Rattle.lane_calls.specs.declared.answers.Advance.{Advance}
 use Rattle.lane_core.specs.declared.work.Job.{Job}
 use Rattle.lane_core.specs.declared.work.Phase.{Phase}
 use Rattle.lane_core.specs.declared.work.Phase.TheVariants as phase
-use Rattle.lane_lives.specs.declared.progress.Progress.TheVariants as progress
-use Rattle.lane_lives.specs.declared.progress.UnderWay.{UnderWay}
+use Rattle.lane_calls.specs.declared.progress.Progress.TheVariants as progress
+use Rattle.lane_calls.specs.declared.progress.UnderWay.{UnderWay}
 use Rattle.lane_lines.specs.declared.readying.Shortage.{Shortage}
 use Rattle.lane_core.specs.declared.work.Work.{Work}
 use Rattle.lane_states.specs.LaneStates.{journal_of, part_of}
 use Rattle.lane_states.specs.FreeRows.{IsRowFree}
-use Rattle.lane_lives.specs.LaneValues.{LaneValue}
+use Rattle.lane_calls.specs.LaneValues.{LaneValue}
 use Rattle.lane_core.specs.Advancing.{IsHindered, IsFree, WentOn, AdvancesAt}
 use Rattle.lane_core.specs.Works.{value_of, under_way_at, OfValues, OfJob}
 use Rattle.lane_core.specs.Preparations.{IsReady, MayFallShort}

@@ -3,7 +3,7 @@ use Rattle.std.specs.Prelude.{◌≡◌, ◌++◌, List, refl}
 use Rattle.std.specs.Coded.{Coded, code_by, coded×}
 use Rattle.view_changes.specs.declared.change.LaneChange.{LaneChange}
 use Rattle.shelves.specs.Shelves.{Holds}
-use Rattle.lane_lives.specs.LaneValues.{LaneValue, lane_code}
+use Rattle.lane_calls.specs.LaneValues.{LaneValue, lane_code}
 
 pub record Shelved (H : Type 0) : Type 0 where
   pub lane : LaneValue

@@ -8,7 +8,7 @@ use Rattle.lane_carriage.specs.Readers.{fate_of, is_returned}
 use Rattle.upkeep_spans.specs.Spans.{later}
 use Rattle.upkeep_spans.specs.Causes.{first_late}
 use Rattle.lane_keeping.specs.Tidings.{last_state}
-use Rattle.lane_lives.specs.LaneValues.{LaneValue}
+use Rattle.lane_calls.specs.LaneValues.{LaneValue}
 
 -- no operation is under way, each node that serves under the newest state runs, the fate of each message of the call
 -- lets its reply come back, and no late message is delivered

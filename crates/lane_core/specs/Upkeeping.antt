@@ -10,7 +10,7 @@ use Rattle.upkeep_spans.specs.Spans.{later}
 use Rattle.upkeep_spans.specs.Causes.{first_absent, IsUndisturbed}
 use Rattle.lane_core.specs.declared.work.Work.{Work}
 use Rattle.lane_core.specs.Works.{value_of, SameValue}
-use Rattle.lane_lives.specs.Upkept.{Maintains, HasOpened, HaveRun}
+use Rattle.lane_calls.specs.Upkept.{Maintains, HasOpened, HaveRun}
 
 -- the owner made a pass, whatever was planned
 abbrev pub MaintainsBy : Work → Work → List Fate → List Fate → Type 0

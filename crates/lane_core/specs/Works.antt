@@ -34,15 +34,15 @@ use Rattle.operation_keeping.specs.Left.{messages_left}
 use Rattle.lane_core.specs.declared.work.Job.{Job}
 use Rattle.lane_core.specs.declared.work.Phase.{Phase}
 use Rattle.lane_core.specs.declared.work.Phase.TheVariants.{Begun, Prepared, Over, Short}
-use Rattle.lane_lives.specs.declared.progress.Progress.{Progress}
-use Rattle.lane_lives.specs.declared.progress.Progress.TheVariants as progress
-use Rattle.lane_lives.specs.declared.progress.UnderWay.{UnderWay}
+use Rattle.lane_calls.specs.declared.progress.Progress.{Progress}
+use Rattle.lane_calls.specs.declared.progress.Progress.TheVariants as progress
+use Rattle.lane_calls.specs.declared.progress.UnderWay.{UnderWay}
 use Rattle.lane_core.specs.declared.work.Work.{Work}
 use Rattle.lane_states.specs.LaneStates.{journal_of, handed_of, IsKept, HasRoom, AreResting, IsSetUp}
 use Rattle.stamps.specs.Places.{place_of}
 use Rattle.lane_states.specs.Written.{FindsEntries}
 use Rattle.operation_keeping.specs.Wants.{IsAtStanding}
-use Rattle.lane_lives.specs.LaneValues.{LaneValue, drawn, under_way_of}
+use Rattle.lane_calls.specs.LaneValues.{LaneValue, drawn, under_way_of}
 use Rattle.lane_keeping.specs.Tidings.{last_state}
 
 -- ---- the value

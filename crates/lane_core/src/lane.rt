@@ -16,24 +16,25 @@ ghost use Rattle.lane_keeping.specs.LaneKeeping.{setting_of};
 ghost use Rattle.lane_keeping.specs.Lines.{IsFresh};
 ghost use Rattle.op_machine.specs.Plans.{IsPlainGet};
 ghost use Rattle.lane_keeping.specs.Tidings.{announced, stopped_next, started_next, last_state};
-ghost use Rattle.lane_lives.specs.LaneValues.{LaneValue, new_value, IsLaneValue, IsHearing, IsBeginning, IsBeginningAtOwner, MayAdvance, MayClose, Closes};
+ghost use Rattle.lane_calls.specs.LaneValues.{LaneValue, new_value, IsLaneValue, IsHearing, IsBeginning, IsBeginningAtOwner, MayAdvance, MayClose, Closes};
 ghost use Rattle.lane_core.specs.Advancing.{IsAdvance};
 ghost use Rattle.lane_states.specs.LaneStates.{IsSetUp};
 ghost use Rattle.lane_states.specs.Told.{ShowsOn, change_count};
 ghost use Rattle.lane_keeping.specs.Shown.{node_or_new, HasEntries, HasRows};
-ghost use Rattle.lane_lives.specs.Upkept.{IsUpkept};
+ghost use Rattle.lane_calls.specs.Upkept.{IsUpkept};
 ghost use Rattle.lane_lives.specs.Settings.{IsSetting};
 ghost use Rattle.lane_lives.specs.Serving.{IsServing};
 ghost use Rattle.lane_core.specs.Runs.{IsLineRun, HasAlone, IsFinish};
 ghost use Rattle.lane_core.specs.Shelved.{HoldsFirst};
-ghost use Rattle.lane_core.specs.Showing.{IsSettled};
+ghost use Rattle.lane_core.specs.Showing.{IsSettled, AreActivated};
 ghost use Rattle.lane_changes.specs.Changes.{changes_of};
 ghost use Rattle.view_changes.specs.declared.change.LaneChange.{LaneChange};
 ghost use Rattle.view_changes.specs.Kept.{IsView};
 ghost use Rattle.search_laws.specs.Searches.{LieIn};
 ghost use Rattle.journal_views.specs.JournalViews.{view_of, Shows, FindRoom};
 ghost use Rattle.shelves.specs.Shelves.{ShowsSame};
-ghost use Rattle.lane_lives.specs.Upkeep.{IsSpan, MayBeUpkept};
+ghost use Rattle.lane_lives.specs.Upkeep.{MayBeUpkept};
+ghost use Rattle.lane_core.specs.Passes.{HasPassed, IsPassed};
 ghost use Rattle.lane_core.specs.Undisturbed.{IsUndisturbed};
 ghost use Rattle.upkeep_spans.specs.declared.answers.Upkeep.{Upkeep};
 ghost use Rattle.upkeep_spans.specs.declared.answers.Upkeep.TheVariants as upkeep;
@@ -46,11 +47,11 @@ use carriers::{Carrier, Carriers, Fate};
 use cluster_states::ClusterState;
 use distributor_part::Rules;
 use documents::Entry;
+use lane_calls::answers::{Advance, Begin, Hear};
 use lane_carriage::laws::messages_are_carried;
 use lane_journals::LaneEvent;
 use lane_journals::laws::states_are_published;
 use lane_lives::Setting;
-use lane_lives::answers::{Advance, Begin, Hear};
 use lane_lives::spans::UpkeepSpan;
 use lane_states::known_owner::KnownOwner;
 use lane_states::written::entry_in;
@@ -277,11 +278,12 @@ impl<C: Carrier + Drop, H: Shelf + Drop> Lane<C, H> {
     // ---- upkeep
 
     /// The lane's owner under the newest state hears it, and makes a pass of upkeep, unless an operation is under way; then the first is named.
-    /// `Rested`, `Blocked` and `Disturbed` say what came of its messages, and `Rested` that the lane is at rest; after
-    /// `NoMemory` what was done stays.
+    /// `Rested`, `Blocked` and `Disturbed` say what came of its messages, and `Rested` that the lane is at rest. A missing
+    /// answer leaves out what needs it, and the pass goes on; after `NoMemory` what was done stays.
     pub fn upkeep(&mut self) -> Upkeep
         requires published { IsSome (last_state self.old.lane.journal) }
         ensures upkept { IsUpkept self.old.lane self.new.lane result }
+        ensures passes { HasPassed self.old.lane self.new.lane result }
         ensures shelf { self.new.shelf ≡ self.old.shelf }
     {
         upkeep_goes_on();
@@ -431,7 +433,8 @@ impl<C: Carrier + Drop, H: Shelf + Drop> Lane<C, H> {
 
     /// The rows of a distributor in rising bucket number; none before it opened its state.
     pub fn rows(&self, distributor: u8) -> &[Row]
-        ensures { HasRows self.now.lane.lane self.now.lane.rules self.now.lane.journal distributor result.now }
+        ensures rows { HasRows self.now.lane.lane self.now.lane.rules self.now.lane.journal distributor result.now }
+        ensures activated { AreActivated distributor self.now.lane.journal result.now }
     {
         self.work.state.rows_at(distributor)
     }
@@ -638,15 +641,15 @@ pub fn start<C: Carrier + Drop, H: Shelf + Drop>(lane: &mut Lane<C, H>, node: u8
     let _journal = lane.journal();
 }
 
-/// Upkeep in a lane: the owner under the newest state hears it and makes a pass, which comes to what its span tells,
-/// and rests where nothing disturbs it; where it rests the lane is at rest. At want of memory a part of the pass may
+/// Upkeep in a lane: the owner under the newest state hears it and makes a pass in the order of its rule, which comes to what
+/// its span tells, and rests where nothing disturbs it; where it rests the lane is at rest. At want of memory a part of the pass may
 /// have been made.
 pub fn maintain<C: Carrier + Drop, H: Shelf + Drop>(
     lane: &mut Lane<C, H>,
 ) -> Result<UpkeepSpan, NoMemory>
     requires idle { lane.old.lane.under_way ≡ [] }
     requires published { IsSome (last_state lane.old.lane.journal) }
-    ensures ok { IfOk result (λ span. IsSpan span lane.old.lane lane.new.lane) }
+    ensures ok { IfOk result (λ span. IsPassed span lane.old.lane lane.new.lane) }
     ensures err { OnErr result (MayBeUpkept lane.old.lane lane.new.lane) }
     ensures holds { IsLaneValue lane.new.lane }
     ensures shelf { lane.new.shelf ≡ lane.old.shelf }

@@ -2,7 +2,7 @@
 //!
 //! A `Work` is a `LaneState` with the operations under way: it begins one at the owner of the lane, or refuses it, and closes it.
 //! `operation_keeping` says what the operation of a line wants next. A `Lane` is a `Work` with the carrier of its messages and
-//! a shelf, to which the changes of its view go; a contract sees it as its value (`LaneValues` of `lane_lives`) beside what its
+//! a shelf, to which the changes of its view go; a contract sees it as its value (`LaneValues` of `lane_calls`) beside what its
 //! shelf is (`specs/Shelved.antt`). A call that leaves the shelf alone says so; `settle` shows all changes. `open_lane` publishes the first state there, `run_line` runs a
 //! line from its beginning to its end, and `maintain` makes a pass of upkeep: they are the deeds of `lane_lives`.
 //!

@@ -1,5 +1,7 @@
 ghost use Rattle.std.specs.Prelude.{◌≡◌, Some, ◌<◌, ◌≤◌, ◌+◌, [], ◌∷◌, ◌++◌, ℕ, Bool, true, false, IsSome, IfSome, IfNone, IfOk, OnOk, OnErr, List, length, vec_len, vec_capacity};
-ghost use Rattle.lane_lives.specs.LaneValues.{Closes, IsHearing, new_value};
+ghost use Rattle.lane_calls.specs.LaneValues.{Closes, IsHearing, new_value};
+ghost use Rattle.lane_core.specs.Passes.{PassesBy};
+ghost use Rattle.lane_upkeep.specs.Taking.{OpensThenPasses};
 ghost use Rattle.lane_core.specs.Works.{IsWork, OfValues, OfNoJob, OfFirstJob, IsToClosePhase, HasJobToClose, IsEndedBy, value_of, SameValue, SameHanded};
 ghost use Rattle.lane_states.specs.LaneStates.{StaysCarried, journal_of, handed_of, IsCarriedBy, GivesOn, HasRoom, IsSetUp};
 ghost use Rattle.lane_states.specs.Told.{ShowsOn};
@@ -24,10 +26,10 @@ use bucket_ids::Bucket;
 use carriers::Carrier;
 use cluster_states::ClusterState;
 use distributor_part::Rules;
+use lane_calls::answers::Hear;
 use lane_carriage::laws::late_messages_wait;
 use lane_journals::laws::kept_journals_mean_legal_ones;
 use lane_lines::closing::note_end;
-use lane_lives::answers::Hear;
 use lane_states::known_owner::KnownOwner;
 use lane_states::lane_state::LaneState;
 use lane_upkeep::{Owner, maintain};
@@ -456,6 +458,7 @@ impl Work {
         ensures on { PassesOn self.old.state self.new.state owner.now }
         ensures opened { OnOk result (AreReturned self.old.state self.new.state → HasOpened self.new.state owner.now) }
         ensures run { OnOk result (AreReturned self.old.state self.new.state → HaveRun self.new.state owner.now) }
+        ensures passes { OnOk result (OpensThenPasses self.old.state self.new.state owner.now (C.given carrier.new)) }
         ensures rests { OnOk result (RestsBy self.old self.new (C.given carrier.new)) }
         ensures after { self.new ≡ record self.old { state = self.new.state } }
         ensures handed { SameHanded self.old self.new }
@@ -482,6 +485,7 @@ impl Work {
         ensures kind { C.takes_plans carrier.new ≡ C.takes_plans carrier.old }
         ensures ok { OnOk result (MaintainsBy self.old self.new (C.given carrier.old) (C.given carrier.new)) }
         ensures opened { OnOk result (OpensBy self.old self.new) }
+        ensures passes { OnOk result (PassesBy self.old self.new (C.given carrier.new)) }
         ensures rests { OnOk result (RestsBy self.old self.new (C.given carrier.new)) }
         ensures err { OnErr result (MayMaintain self.old self.new (C.given carrier.old) (C.given carrier.new)) }
         ensures idle { self.new.jobs.items ≡ [] }

@@ -26,7 +26,7 @@ use Rattle.lane_rest.specs.Rest.{IsActivated}
 use Rattle.messages.specs.declared.decision.Decision.TheVariants as choice
 use Rattle.lane_lives.specs.declared.setting.Setting.{Setting}
 use Rattle.lane_lives.specs.Rested.{RestsIn, IsCovered}
-use Rattle.lane_lives.specs.Upkept.{HaveRun}
+use Rattle.lane_calls.specs.Upkept.{HaveRun}
 
 -- ---- the newest state
 

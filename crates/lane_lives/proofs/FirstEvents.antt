@@ -12,10 +12,10 @@ use Rattle.lane_journals.specs.Meanings.{history}
 use Rattle.lane_journals.specs.declared.event.LaneEvent.{LaneEvent}
 use Rattle.lane_journals.specs.declared.event.LaneEvent.TheVariants.{Published, Heard}
 use Rattle.lane_keeping.specs.Tidings.{heard_below, announced}
-use Rattle.lane_lives.specs.LaneValues.{LaneValue, new_value, IsLaneValue}
+use Rattle.lane_calls.specs.LaneValues.{LaneValue, new_value, IsLaneValue}
 use Rattle.lane_lives.specs.declared.setting.Setting.{Setting}
 use Rattle.lane_lives.specs.Serving.{bucket_in, IsServing}
-use Rattle.lane_lives.proofs.Told.{same_deaf}
+use Rattle.lane_calls.proofs.Told.{same_deaf}
 
 -- each of those below a number that isn't deaf holds the state
 pub held_below : (deaf : ℕ) (s : ClusterState) (J : List LaneEvent) (d e : ℕ) → e < d → has_node deaf e ≡ false → held e (history (heard_below d deaf s J)) ≡ Some s.version

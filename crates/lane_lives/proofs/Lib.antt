@@ -1,9 +1,9 @@
 -- Shared: other crates cite these.
 pub mod FirstEvents
-pub mod Upkept
-pub mod OneLine
+pub mod Deeds
+pub mod DeedStates
 pub mod Living
-pub mod Told
-pub mod Quiet
-pub mod Leaving
 pub mod Covered
+-- Of this crate alone.
+mod Alone
+mod Fed

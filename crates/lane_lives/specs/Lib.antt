@@ -3,7 +3,5 @@
 pub mod Lives
 pub mod Upkeep
 pub mod Serving
-pub mod LaneValues
-pub mod Upkept
 pub mod Settings
 pub mod Rested

@@ -3,9 +3,10 @@ use Rattle.std.specs.Prelude.{◌≡◌, ℕ, List, []}
 use Rattle.bucket_ids.specs.Buckets.{Low}
 use Rattle.carriers.specs.declared.fate.Fate.{Fate}
 use Rattle.global_ids.specs.Keys.{lane_bucket}
-use Rattle.lane_lives.specs.LaneValues.{LaneValue, IsLaneValue}
+use Rattle.lane_calls.specs.LaneValues.{LaneValue, IsLaneValue}
 use Rattle.lane_lives.specs.declared.setting.Setting.{Setting}
-use Rattle.lane_lives.specs.Lives.{Deed, IsLife, lines_of, AreRising}
+use Rattle.lane_lives.specs.Lives.{Deed, IsLife, lines_of}
+use Rattle.lane_calls.specs.Lines.{AreRising}
 
 -- the lane of a number among those that the bits tell apart
 abbrev pub bucket_in : Setting → ℕ → Low

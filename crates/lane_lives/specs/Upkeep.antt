@@ -13,11 +13,11 @@ use Rattle.upkeep_spans.specs.Causes.{first_late, IsCause}
 use Rattle.upkeep_spans.specs.Spans.{later}
 use Rattle.upkeep_spans.specs.declared.answers.Upkeep.TheVariants.{Rested}
 use Rattle.lane_keeping.specs.Tidings.{last_state}
-use Rattle.lane_lives.specs.LaneValues.{LaneValue}
-use Rattle.lane_lives.specs.Upkept.{Maintains, HaveRun, IsLaneAtRest}
+use Rattle.lane_calls.specs.LaneValues.{LaneValue}
+use Rattle.lane_calls.specs.Upkept.{Maintains, HaveRun, IsLaneAtRest, IsMaintained}
 use Rattle.lane_lives.specs.Rested.{RestsIn}
 use Rattle.lane_lives.specs.declared.setting.Setting.{Setting}
-use Rattle.lane_lives.specs.Lives.{Deed, IsLife, IsMaintained}
+use Rattle.lane_lives.specs.Lives.{Deed, IsLife}
 use Rattle.lane_lives.specs.declared.spans.UpkeepSpan.{UpkeepSpan}
 
 -- ---- one upkeep

@@ -4,15 +4,15 @@ use Rattle.cluster_states.specs.declared.cluster_state.ClusterState.{ClusterStat
 use Rattle.ideal_nodes.specs.Placement.{IsOwner}
 use Rattle.messages.specs.declared.outcome.Outcome.{Outcome}
 use Rattle.lane_keeping.specs.Tidings.{last_state}
-use Rattle.lane_lives.specs.declared.answers.Hear.{Hear}
-use Rattle.lane_lives.specs.declared.answers.Begin.{Begin}
-use Rattle.lane_lives.specs.declared.answers.Advance.{Advance}
-use Rattle.lane_lives.specs.declared.answers.Advance.TheVariants as advance
-use Rattle.lane_lives.specs.declared.progress.Progress.TheVariants.{Runs, Over, Short}
-use Rattle.lane_lives.specs.LaneValues.{LaneValue, IsHearing, Closes}
-use Rattle.lane_lives.specs.Lives.{FeedLine, Lines}
+use Rattle.lane_calls.specs.declared.answers.Hear.{Hear}
+use Rattle.lane_calls.specs.declared.answers.Begin.{Begin}
+use Rattle.lane_calls.specs.declared.answers.Advance.{Advance}
+use Rattle.lane_calls.specs.declared.answers.Advance.TheVariants as advance
+use Rattle.lane_calls.specs.declared.progress.Progress.TheVariants.{Runs, Over, Short}
+use Rattle.lane_calls.specs.LaneValues.{LaneValue, IsHearing, Closes}
+use Rattle.lane_calls.specs.Lines.{FeedLine, Lines}
 use Rattle.lane_core.specs.Advancing.{IsAdvance}
-use Rattle.lane_segments.specs.Segments.{IsNext, BeginsAs, IsCall, Hears, Starts, Continues, Ends, Stays}
+use Rattle.lane_calls.specs.Segments.{IsNext, BeginsAs, IsCall, Hears, Starts, Continues, Ends, Stays}
 
 module _ (feeders : ℕ) (lines : Lines) (v w : LaneValue) where
   pub hear-call : (d : ℕ) (s : ClusterState) (answer : Hear) → last_state v.journal ≡ Some s → IsOwner v.lane s d → IsHearing d v w answer → IsCall feeders lines v w

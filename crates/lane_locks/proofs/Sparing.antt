@@ -13,21 +13,22 @@ use Rattle.lane_journals.specs.declared.event.LaneEvent.TheVariants as event
 use Rattle.lane_keeping.specs.Lines.{IsFresh, IsNotOf}
 use Rattle.operation_keeping.specs.Wants.{IsCarriage, IsRunSince, Still, Longer, IsCutRunSince}
 use Rattle.operation_keeping.proofs.Lines.{fresh-waits}
-use Rattle.lane_lives.specs.declared.answers.Begin.{Begin}
-use Rattle.lane_lives.specs.declared.answers.Begin.TheVariants as begin
-use Rattle.lane_lives.specs.declared.answers.Advance.{Advance}
-use Rattle.lane_lives.specs.declared.answers.Advance.TheVariants as advance
-use Rattle.lane_lives.specs.declared.progress.UnderWay.{UnderWay}
-use Rattle.lane_lives.specs.declared.progress.Progress.{Progress}
-use Rattle.lane_lives.specs.LaneValues.{LaneValue, IsPlace, WantsMore, WantsEnd, MayAdvance, MayClose, Closes, with_run}
-use Rattle.lane_lives.specs.Lives.{FeedLine, outcome_in}
-use Rattle.lane_lives.proofs.Quiet.{AddsFor, since_adds}
-use Rattle.lane_lives.proofs.Told.{next_keeps}
+use Rattle.lane_calls.specs.declared.answers.Begin.{Begin}
+use Rattle.lane_calls.specs.declared.answers.Begin.TheVariants as begin
+use Rattle.lane_calls.specs.declared.answers.Advance.{Advance}
+use Rattle.lane_calls.specs.declared.answers.Advance.TheVariants as advance
+use Rattle.lane_calls.specs.declared.progress.UnderWay.{UnderWay}
+use Rattle.lane_calls.specs.declared.progress.Progress.{Progress}
+use Rattle.lane_calls.specs.LaneValues.{LaneValue, IsPlace, WantsMore, WantsEnd, MayAdvance, MayClose, Closes, with_run}
+use Rattle.lane_calls.specs.Lines.{FeedLine}
+use Rattle.lane_calls.specs.Readings.{outcome_in}
+use Rattle.lane_calls.proofs.Quiet.{AddsFor, since_adds}
+use Rattle.lane_calls.proofs.Told.{next_keeps}
 use Rattle.lane_core.specs.Advancing.{IsAdvance}
 use Rattle.lane_core.proofs.Places.{skip-back, get-one, get-set, get-set-off, get-old, get-new, get-remove}
-use Rattle.lane_segments.specs.Segments.{BeginsAs}
-use Rattle.lane_segments.proofs.Growing.{carries}
-use Rattle.lane_segments.proofs.Ordering.{adds-not, carries-not}
+use Rattle.lane_calls.specs.Segments.{BeginsAs}
+use Rattle.lane_calls.proofs.Growing.{carries}
+use Rattle.lane_calls.proofs.Ordering.{adds-not, carries-not}
 
 -- ---- what holds on over such events
 

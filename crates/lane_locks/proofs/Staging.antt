@@ -5,24 +5,25 @@ use Rattle.lane_journals.specs.Readers.{began, closed}
 use Rattle.lane_journals.specs.Meanings.{history}
 use Rattle.lane_keeping.specs.Lines.{IsFresh}
 use Rattle.lane_keeping.specs.LaneKeeping.{setting_of}
-use Rattle.lane_lives.specs.declared.answers.Begin.{Begin}
-use Rattle.lane_lives.specs.declared.answers.Begin.TheVariants as begin
-use Rattle.lane_lives.specs.declared.answers.Advance.{Advance}
-use Rattle.lane_lives.specs.declared.answers.Advance.TheVariants as advance
-use Rattle.lane_lives.specs.declared.progress.UnderWay.{UnderWay}
-use Rattle.lane_lives.specs.LaneValues.{LaneValue, IsLaneValue, IsPlace, WantsMore, WantsEnd, MayAdvance, MayClose, Closes}
-use Rattle.lane_lives.specs.Lives.{FeedLine, Lines, outcome_in}
-use Rattle.lane_lives.proofs.OneLine.{unended_none, fresh_none, outcome_own, outcome_refused}
+use Rattle.lane_calls.specs.declared.answers.Begin.{Begin}
+use Rattle.lane_calls.specs.declared.answers.Begin.TheVariants as begin
+use Rattle.lane_calls.specs.declared.answers.Advance.{Advance}
+use Rattle.lane_calls.specs.declared.answers.Advance.TheVariants as advance
+use Rattle.lane_calls.specs.declared.progress.UnderWay.{UnderWay}
+use Rattle.lane_calls.specs.LaneValues.{LaneValue, IsLaneValue, IsPlace, WantsMore, WantsEnd, MayAdvance, MayClose, Closes}
+use Rattle.lane_calls.specs.Lines.{FeedLine, Lines}
+use Rattle.lane_calls.specs.Readings.{outcome_in}
+use Rattle.lane_calls.proofs.OneLine.{unended_none, fresh_none, outcome_own, outcome_refused}
 use Rattle.lane_core.specs.Advancing.{IsAdvance}
 use Rattle.lane_core.proofs.Places.{get-one, get-set-cases, set-length}
-use Rattle.lane_segments.specs.Segments.{HasTurn, IsNext, BeginsAs, IsSegment}
-use Rattle.lane_segments.proofs.Answering.{unrefused}
-use Rattle.lane_segments.proofs.Calling.{segment-holds, segment-goes}
+use Rattle.lane_calls.specs.Segments.{HasTurn, IsNext, BeginsAs, IsSegment}
+use Rattle.lane_calls.proofs.Answering.{unrefused}
+use Rattle.lane_calls.proofs.Calling.{segment-holds, segment-goes}
 use Rattle.lane_locks.specs.declared.lines.Line.{Line}
 use Rattle.lane_locks.specs.declared.lines.Stage.{Stage}
 use Rattle.lane_locks.specs.declared.lines.Stage.TheVariants.{Waiting, Going, Ending, Answered}
 use Rattle.lane_locks.specs.Lines.{line_of, AreLines}
-use Rattle.lane_locks.specs.Served.{StageIs, HasStarted, AreStages, IsServed}
+use Rattle.lane_locks.specs.Served.{StageIs, HasStarted, AreStages, IsRunSoFar}
 use Rattle.lane_locks.specs.Turns.{stages_begun, stages_gone}
 use Rattle.lane_locks.proofs.Calls.{begin-call, advance-call, close-call}
 use Rattle.lane_locks.proofs.Sparing.{such-new, such-here, Outcomes, Spares, begin-spares, advance-spares, close-spares, begin-outcomes, advance-outcomes, close-outcomes}
@@ -135,12 +136,12 @@ module _ (feeders : ℕ) (lines : Lines) (ls : List Line) (are : AreLines feeder
 
 -- ---- what was served
 
-module _ (feeders : ℕ) (lines : Lines) (first v : LaneValue) (ls : List Line) (stages : List Stage) (are : AreLines feeders ls) (k : IsServed feeders lines first v ls stages) where
-  same-served : (w : LaneValue) → w ≡ v → IsServed feeders lines first w ls stages
-  same-served w e = subst (λ (z : LaneValue). IsServed feeders lines first z ls stages) (sym e) k
+module _ (feeders : ℕ) (lines : Lines) (first v : LaneValue) (ls : List Line) (stages : List Stage) (are : AreLines feeders ls) (k : IsRunSoFar feeders lines first v ls stages) where
+  same-served : (w : LaneValue) → w ≡ v → IsRunSoFar feeders lines first w ls stages
+  same-served w e = subst (λ (z : LaneValue). IsRunSoFar feeders lines first z ls stages) (sym e) k
 
   pub begun-served : (place : ℕ) (l : Line) (w : LaneValue) (answer : Begin) → slice_get ls place ≡ Some l → IsNext feeders lines (line_of l) v.journal → BeginsAs (line_of l) l.via v w answer → IsLaneValue w
-      → IsServed feeders lines first w ls (stages_begun place answer stages)
+      → IsRunSoFar feeders lines first w ls (stages_begun place answer stages)
   begun-served place l w answer found next b now = record { segment = goes; stages_are = by answer b }
     where
       goes : IsSegment feeders lines first w
@@ -166,7 +167,7 @@ module _ (feeders : ℕ) (lines : Lines) (first v : LaneValue) (ls : List Line) 
   turn-of place l s found at started = (k.stages_are).turns place l s found at started
 
   pub gone-served : (place : ℕ) (l : Line) (w : LaneValue) (answer : Advance) → slice_get ls place ≡ Some l → slice_get stages place ≡ Some Going → IsAdvance l.number v w answer → IsLaneValue w
-      → IsServed feeders lines first w ls (stages_gone place answer stages)
+      → IsRunSoFar feeders lines first w ls (stages_gone place answer stages)
   gone-served place l w answer found going a now = record { segment = segment-goes feeders lines first v k.segment w (advance-call feeders lines v w l.number answer a) now; stages_are = by answer a }
     where
       turn : HasTurn feeders lines (line_of l) v.journal
@@ -180,7 +181,7 @@ module _ (feeders : ℕ) (lines : Lines) (first v : LaneValue) (ls : List Line) 
       by advance.NoMemory a = stages-go feeders lines ls are v stages k.stages_are place l found w (λ n off. advance-spares n l.number v w advance.NoMemory off a) (advance-outcomes l.number v w advance.NoMemory a) Ending (short-stage l.number v w a) turn
 
   pub closed-served : (place : ℕ) (l : Line) (w : LaneValue) (x : Outcome) → slice_get ls place ≡ Some l → slice_get stages place ≡ Some Ending → Closes l.number x v w → IsLaneValue w
-      → IsServed feeders lines first w ls (slice_set stages place (Answered x))
+      → IsRunSoFar feeders lines first w ls (slice_set stages place (Answered x))
   closed-served place l w x found ending c now = record {
     segment = segment-goes feeders lines first v k.segment w (close-call feeders lines v w l.number x c) now;
     stages_are = stages-go feeders lines ls are v stages k.stages_are place l found w (λ n off. close-spares n l.number x v w off c) (close-outcomes l.number x v w c) (Answered x)

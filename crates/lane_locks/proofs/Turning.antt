@@ -9,26 +9,27 @@ use Rattle.lane_journals.specs.Meanings.{history}
 use Rattle.lane_journals.specs.declared.event.LaneEvent.{LaneEvent}
 use Rattle.lane_journals.specs.declared.event.LaneEvent.TheVariants as event
 use Rattle.lane_keeping.specs.Tidings.{last_state}
-use Rattle.lane_lives.specs.declared.answers.Begin.{Begin}
-use Rattle.lane_lives.specs.declared.answers.Advance.{Advance}
-use Rattle.lane_lives.specs.declared.progress.Progress.{Progress}
-use Rattle.lane_lives.specs.declared.progress.Progress.TheVariants as progress
-use Rattle.lane_lives.specs.declared.progress.UnderWay.{UnderWay}
-use Rattle.lane_lives.specs.LaneValues.{LaneValue, IsLaneValue, WantsMore, WantsEnd, MayAdvance, MayClose, Closes}
-use Rattle.lane_lives.specs.Lives.{FeedLine, Lines, outcome_in}
-use Rattle.lane_lives.proofs.OneLine.{fresh_none}
-use Rattle.lane_lives.proofs.Told.{some_or}
+use Rattle.lane_calls.specs.declared.answers.Begin.{Begin}
+use Rattle.lane_calls.specs.declared.answers.Advance.{Advance}
+use Rattle.lane_calls.specs.declared.progress.Progress.{Progress}
+use Rattle.lane_calls.specs.declared.progress.Progress.TheVariants as progress
+use Rattle.lane_calls.specs.declared.progress.UnderWay.{UnderWay}
+use Rattle.lane_calls.specs.LaneValues.{LaneValue, IsLaneValue, WantsMore, WantsEnd, MayAdvance, MayClose, Closes}
+use Rattle.lane_calls.specs.Lines.{FeedLine, Lines}
+use Rattle.lane_calls.specs.Readings.{outcome_in}
+use Rattle.lane_calls.proofs.OneLine.{fresh_none}
+use Rattle.lane_calls.proofs.Told.{some_or}
 use Rattle.lane_core.proofs.Places.{get-one, get-map, get-map-back, get-index, get-within, within-get}
 use Rattle.lane_core.specs.Advancing.{IsAdvance}
-use Rattle.lane_segments.specs.Segments.{feeder_of, IsAmong, HasTurn, IsNext, BeginsAs, Here, IsSegment}
-use Rattle.lane_segments.specs.Growth.{IsLater}
-use Rattle.lane_segments.proofs.Calling.{segment-holds, segment-grows, segment-same, keeps}
-use Rattle.lane_segments.proofs.Growing.{grows-later}
+use Rattle.lane_calls.specs.Segments.{feeder_of, IsAmong, HasTurn, IsNext, BeginsAs, Here, IsSegment}
+use Rattle.lane_calls.specs.Growth.{IsLater}
+use Rattle.lane_calls.proofs.Calling.{segment-holds, segment-grows, segment-same, keeps}
+use Rattle.lane_calls.proofs.Growing.{grows-later}
 use Rattle.lane_locks.specs.declared.lines.Line.{Line}
 use Rattle.lane_locks.specs.declared.lines.Stage.{Stage}
 use Rattle.lane_locks.specs.declared.lines.Stage.TheVariants.{Waiting, Going, Ending, Answered}
 use Rattle.lane_locks.specs.Lines.{line_of, lines_of, feeder_at, IsLast, AreLines, AreWaiting, IsOfLane, AreOfLane, AreFresh}
-use Rattle.lane_locks.specs.Served.{StageIs, HasStarted, AreStages, IsServed, is_answered, is_waiting, is_going, is_ending, came, may_begin}
+use Rattle.lane_locks.specs.Served.{StageIs, HasStarted, AreStages, IsRunSoFar, is_answered, is_waiting, is_going, is_ending, came, may_begin}
 use Rattle.lane_locks.specs.Slots.{IsKept}
 use Rattle.lane_locks.specs.declared.slot.Turn.{Turn}
 use Rattle.lane_locks.specs.declared.slot.Turn.TheVariants as turn
@@ -312,24 +313,24 @@ module _ (feeders : ℕ) (lines : Lines) (first v : LaneValue) (ls : List Line) 
   close-left place h = inr (record { none = not-ending place h; same = refl; left = refl })
 
   module _ (place : ℕ) (l : Line) (found : slice_get ls place ≡ Some l) (w : LaneValue) (now : IsLaneValue w) where
-    kept : (after : List Stage) → IsServed feeders lines first w ls after → IsKept feeders lines first w ls after
+    kept : (after : List Stage) → IsRunSoFar feeders lines first w ls after → IsKept feeders lines first w ls after
     kept after s = record { lines_are = k.lines_are; are = k.are; of_lane = k.of_lane; served = s }
 
     pub begun-kept : may_begin (slice_get ls place) (slice_get stages place) stages ≡ true → (answer : Begin) → BeginsAs (line_of l) l.via v w answer → (after : List Stage) → after ≡ stages_begun place answer stages → IsKept feeders lines first w ls after
-    begun-kept h answer b after is = kept after (subst (λ (ss : List Stage). IsServed feeders lines first w ls ss) (sym is)
+    begun-kept h answer b after is = kept after (subst (λ (ss : List Stage). IsRunSoFar feeders lines first w ls ss) (sym is)
         (begun-served feeders lines first v ls stages k.are k.served place l w answer found (next-at place l found h) b now))
 
     pub begun-at : may_begin (slice_get ls place) (slice_get stages place) stages ≡ true → (answer : Begin) → BeginsAs (line_of l) l.via v w answer → (t : Turn) → t ≡ turn_of_begin answer → BeginsAt feeders lines place v w t
     begun-at h answer b t is = inl (record { line = line_of l; found = line-found place l found; next = next-at place l found h; answer = answer; begins = b; turn_is = is })
 
     pub gone-kept : slice_get stages place ≡ Some Going → (answer : Advance) → IsAdvance l.number v w answer → (after : List Stage) → after ≡ stages_gone place answer stages → IsKept feeders lines first w ls after
-    gone-kept going answer a after is = kept after (subst (λ (ss : List Stage). IsServed feeders lines first w ls ss) (sym is) (gone-served feeders lines first v ls stages k.are k.served place l w answer found going a now))
+    gone-kept going answer a after is = kept after (subst (λ (ss : List Stage). IsRunSoFar feeders lines first w ls ss) (sym is) (gone-served feeders lines first v ls stages k.are k.served place l w answer found going a now))
 
     pub gone-at : (answer : Advance) → IsAdvance l.number v w answer → (t : Turn) → t ≡ turn_of_advance answer → AdvancesAt lines place v w t
     gone-at answer a t is = inl (record { line = line_of l; found = line-found place l found; answer = answer; advances = a; turn_is = is })
 
     pub closed-kept : slice_get stages place ≡ Some Ending → (x : Outcome) → Closes l.number x v w → (after : List Stage) → after ≡ slice_set stages place (Answered x) → IsKept feeders lines first w ls after
-    closed-kept ending x c after is = kept after (subst (λ (ss : List Stage). IsServed feeders lines first w ls ss) (sym is) (closed-served feeders lines first v ls stages k.are k.served place l w x found ending c now))
+    closed-kept ending x c after is = kept after (subst (λ (ss : List Stage). IsRunSoFar feeders lines first w ls ss) (sym is) (closed-served feeders lines first v ls stages k.are k.served place l w x found ending c now))
 
     pub closed-at : (x : Outcome) → Closes l.number x v w → ClosesAt lines place v w turn.Over
     closed-at x c = inl (record { line = line_of l; found = line-found place l found; outcome = x; closes = c; over = refl })

@@ -11,9 +11,9 @@ use Rattle.lane_journals.specs.Readers.{held}
 use Rattle.lane_journals.specs.Meanings.{history}
 use Rattle.lane_keeping.specs.Lines.{IsFresh}
 use Rattle.lane_keeping.specs.Tidings.{last_state}
-use Rattle.lane_lives.specs.LaneValues.{LaneValue}
-use Rattle.lane_lives.specs.Lives.{FeedLine, Lines}
-use Rattle.lane_segments.specs.Segments.{feeder_of}
+use Rattle.lane_calls.specs.LaneValues.{LaneValue}
+use Rattle.lane_calls.specs.Lines.{FeedLine, Lines}
+use Rattle.lane_calls.specs.Segments.{feeder_of}
 use Rattle.lane_locks.specs.declared.lines.Line.{Line}
 use Rattle.lane_locks.specs.declared.lines.Stage.{Stage}
 use Rattle.lane_locks.specs.declared.lines.Stage.TheVariants.{Waiting}

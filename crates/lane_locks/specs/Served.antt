@@ -2,9 +2,10 @@
 use Rattle.std.specs.Prelude.{◌≡◌, ◌&&◌, ℕ, Bool, true, false, List, length, Option, None, Some, slice_get}
 use Rattle.lane_journals.specs.Meanings.{history}
 use Rattle.lane_keeping.specs.Lines.{IsFresh}
-use Rattle.lane_lives.specs.LaneValues.{LaneValue, MayAdvance, MayClose}
-use Rattle.lane_lives.specs.Lives.{Lines, outcome_in}
-use Rattle.lane_segments.specs.Segments.{HasTurn, IsSegment}
+use Rattle.lane_calls.specs.LaneValues.{LaneValue, MayAdvance, MayClose}
+use Rattle.lane_calls.specs.Lines.{Lines}
+use Rattle.lane_calls.specs.Readings.{outcome_in}
+use Rattle.lane_calls.specs.Segments.{HasTurn, IsSegment}
 use Rattle.lane_locks.specs.declared.lines.Line.{Line}
 use Rattle.lane_locks.specs.declared.lines.Stage.{Stage}
 use Rattle.lane_locks.specs.declared.lines.Stage.TheVariants.{Waiting, Going, Ending, Answered}
@@ -30,7 +31,7 @@ pub record AreStages (feeders : ℕ) (lines : Lines) (v : LaneValue) (ls : List 
   pub turns : (at : ℕ) (l : Line) (s : Stage) → slice_get ls at ≡ Some l → slice_get stages at ≡ Some s → HasStarted s → HasTurn feeders lines (line_of l) v.journal
 
 -- the lane came by calls for the lines from the one value to the other
-pub record IsServed (feeders : ℕ) (lines : Lines) (first v : LaneValue) (ls : List Line) (stages : List Stage) : Type 0 where
+pub record IsRunSoFar (feeders : ℕ) (lines : Lines) (first v : LaneValue) (ls : List Line) (stages : List Stage) : Type 0 where
   pub segment : IsSegment feeders lines first v
   pub stages_are : AreStages feeders lines v ls stages
 

@@ -2,13 +2,13 @@
 use Rattle.std.specs.Prelude.{◌≡◌, ℕ, List, [], false, refl}
 use Rattle.std.specs.FinMap as fin
 use Rattle.std.specs.Coded.{Coded, code_by, coded×, coded_ℕ}
-use Rattle.lane_lives.specs.LaneValues.{LaneValue, new_value}
-use Rattle.lane_lives.specs.Lives.{Lines}
+use Rattle.lane_calls.specs.LaneValues.{LaneValue, new_value}
+use Rattle.lane_calls.specs.Lines.{Lines}
 use Rattle.lane_core.specs.Shelved.{Shelved, shelved_code}
 use Rattle.lane_locks.specs.declared.lines.Line.{Line}
 use Rattle.lane_locks.specs.declared.lines.Stage.{Stage}
 use Rattle.lane_locks.specs.Lines.{lines_of, AreLines, AreOfLane}
-use Rattle.lane_locks.specs.Served.{IsServed}
+use Rattle.lane_locks.specs.Served.{IsRunSoFar}
 
 pub record Behind (H : Type 0) : Type 0 where
   pub number : ℕ
@@ -22,7 +22,7 @@ pub record IsKept (feeders : ℕ) (lines : Lines) (first v : LaneValue) (ls : Li
   pub lines_are : lines_of ls ≡ lines
   pub are : AreLines feeders ls
   pub of_lane : AreOfLane first lines
-  pub served : IsServed feeders lines first v ls stages
+  pub served : IsRunSoFar feeders lines first v ls stages
 
 -- the value of a lane of no documents in which nothing happened
 abbrev pub nothing : LaneValue

@@ -1,14 +1,14 @@
 -- What a call for the line at a place does to its lane.
 use Rattle.std.specs.Prelude.{◌≡◌, ◌⊎◌, ℕ, List, Some, slice_get, slice_set}
 use Rattle.messages.specs.declared.outcome.Outcome.{Outcome}
-use Rattle.lane_lives.specs.declared.answers.Begin.{Begin}
-use Rattle.lane_lives.specs.declared.answers.Begin.TheVariants as begin
-use Rattle.lane_lives.specs.declared.answers.Advance.{Advance}
-use Rattle.lane_lives.specs.declared.answers.Advance.TheVariants as advance
-use Rattle.lane_lives.specs.LaneValues.{LaneValue, MayAdvance, MayClose, Closes}
-use Rattle.lane_lives.specs.Lives.{FeedLine, Lines}
+use Rattle.lane_calls.specs.declared.answers.Begin.{Begin}
+use Rattle.lane_calls.specs.declared.answers.Begin.TheVariants as begin
+use Rattle.lane_calls.specs.declared.answers.Advance.{Advance}
+use Rattle.lane_calls.specs.declared.answers.Advance.TheVariants as advance
+use Rattle.lane_calls.specs.LaneValues.{LaneValue, MayAdvance, MayClose, Closes}
+use Rattle.lane_calls.specs.Lines.{FeedLine, Lines}
 use Rattle.lane_core.specs.Advancing.{IsAdvance}
-use Rattle.lane_segments.specs.Segments.{IsNext, BeginsAs}
+use Rattle.lane_calls.specs.Segments.{IsNext, BeginsAs}
 use Rattle.lane_locks.specs.declared.lines.Stage.{Stage}
 use Rattle.lane_locks.specs.declared.lines.Stage.TheVariants.{Going, Ending, Answered}
 use Rattle.lane_locks.specs.declared.slot.Turn.{Turn}

@@ -5,13 +5,13 @@ ghost use Rattle.cluster_states.specs.declared.cluster_state.ClusterState.{Clust
 ghost use Rattle.ideal_nodes.specs.Placement.{IsOwner};
 ghost use Rattle.messages.specs.declared.outcome.Outcome.{Outcome};
 ghost use Rattle.lane_keeping.specs.Tidings.{last_state};
-ghost use Rattle.lane_lives.specs.declared.answers.Hear.{Hear};
-ghost use Rattle.lane_lives.specs.declared.answers.Begin.{Begin};
-ghost use Rattle.lane_lives.specs.declared.answers.Advance.{Advance};
-ghost use Rattle.lane_lives.specs.LaneValues.{LaneValue, IsHearing, Closes};
-ghost use Rattle.lane_lives.specs.Lives.{FeedLine, Lines};
+ghost use Rattle.lane_calls.specs.declared.answers.Hear.{Hear};
+ghost use Rattle.lane_calls.specs.declared.answers.Begin.{Begin};
+ghost use Rattle.lane_calls.specs.declared.answers.Advance.{Advance};
+ghost use Rattle.lane_calls.specs.LaneValues.{LaneValue, IsHearing, Closes};
+ghost use Rattle.lane_calls.specs.Lines.{FeedLine, Lines};
 ghost use Rattle.lane_core.specs.Advancing.{IsAdvance};
-ghost use Rattle.lane_segments.specs.Segments.{IsNext, BeginsAs, IsCall};
+ghost use Rattle.lane_calls.specs.Segments.{IsNext, BeginsAs, IsCall};
 
 /// Each call of a lane is a call of a segment, whatever it answers: the owner hears the newest state, a line of which it is
 /// the turn begins, its operation goes on, and is closed.

@@ -3,7 +3,7 @@
 //! A `Slot` has the lane, its lines of the segment, and how far each is. A feeder passes only a place among the lines:
 //! whether it is the line's turn, and what its operation wants, is found without a walk over the others, and a call that
 //! isn't for the line leaves all as it is. Whatever is called, in whatever order, the lane came by calls of a segment
-//! (`IsSegment` of `lane_segments`) from the value with which the segment began; that and how far each line is stands in
+//! (`IsSegment` of `lane_calls`) from the value with which the segment began; that and how far each line is stands in
 //! the invariant (`IsKept` in `specs/Slots.antt`), and comes out with `into_parts`. Contracts see a slot as the lane's
 //! number and the lane; `specs/Turns.antt` says what each call does there.
 //!

@@ -1,5 +1,8 @@
 //! What feeders call of a slot.
 
+ghost use Rattle.std.specs.Prelude.{◌≡◌};
+ghost use Rattle.lane_locks.specs.Feeding.{went_of};
+
 use crate::names::Segment;
 use crate::slot::{Slot, Turn};
 use carriers::Carrier;
@@ -7,7 +10,9 @@ use line_feeders::{LineTurns, Went};
 use shelves::Shelf;
 
 /// What a feeder is told of a turn.
-fn went(turn: Turn) -> Went {
+fn went(turn: Turn) -> Went
+    ensures { result ≡ went_of turn }
+{
     match turn {
         Turn::On => Went::On,
         Turn::Waits { .. } => Went::Waits,
@@ -18,7 +23,11 @@ fn went(turn: Turn) -> Went {
 }
 
 impl<S: Segment<H::Name>, C: Carrier + Drop, H: Shelf + Drop> LineTurns for Slot<S, C, H> {
+    ghost use Rattle.lane_locks.specs.Feeding.{TellsTurn};
+
     ghost number = { λ s. s.number };
+
+    ghost does = { λ call place old new told. TellsTurn S.feeders S.lines call place old new told };
 
     fn number(&self) -> u8 {
         Slot::number(self)

@@ -6,8 +6,8 @@ use std::sync::ledger::Ledger;
 /// What a segment begins with; its shelves are named by values of `N`. Each run of a program picks it.
 pub trait Segment<N>: Ledger {
     ghost use Rattle.std.specs.Prelude.{ℕ};
-    ghost use Rattle.lane_lives.specs.LaneValues.{LaneValue};
-    ghost use Rattle.lane_lives.specs.Lives.{Lines};
+    ghost use Rattle.lane_calls.specs.LaneValues.{LaneValue};
+    ghost use Rattle.lane_calls.specs.Lines.{Lines};
 
     /// How each lane was.
     ghost began: { ℕ → LaneValue };

@@ -11,7 +11,7 @@ use Rattle.lane_journals.specs.KeptJournals.{IsLegal, IsLegalStep}
 use Rattle.lane_journals.specs.declared.event.LaneEvent.{LaneEvent}
 use Rattle.lane_journals.specs.declared.event.LaneEvent.TheVariants as event
 use Rattle.lane_journals.proofs.Basics.{or_else-some, or_else-cases, only_if-some}
-use Rattle.lane_lives.specs.Lives.{outcome_in}
+use Rattle.lane_calls.specs.Readings.{outcome_in}
 
 entry_stays : (J : List LaneEvent) (e : LaneEvent) (t : Stamp) (x : Entry) → entry_at t J ≡ Some x → entry_at t (e ∷ J) ≡ Some x
 entry_stays J e t x is = grind (arith, or_else-some)

@@ -19,11 +19,15 @@ use Rattle.lane_completeness.specs.Completeness.{NoneStops}
 use Rattle.operation_keeping.specs.Wants.{IsRun, Same, More, IsCutRun}
 use Rattle.lane_keeping.specs.Tidings.{heard_next, announced, stopped_next, started_next}
 use Rattle.lane_lives.specs.declared.setting.Setting.{Setting}
-use Rattle.lane_lives.specs.Lives.{FeedLine, RunsTo, begun_at, IsRunAt, IsRefused, IsCarriedOut, Deed, Announces, Stops, Starts, Runs, Maintains, Does, IsMaintained}
+use Rattle.lane_calls.specs.Lines.{FeedLine, RunsTo, begun_at, IsRunAt, IsRefused, IsCarriedOut}
+use Rattle.lane_lives.specs.Lives.{Deed, Announces, Stops, Starts, Runs, Feeds, Maintains, Does}
+use Rattle.lane_calls.specs.Upkept.{IsMaintained}
 use Rattle.lane_promises.proofs.CarriedBefore.{IsCarriedThen, carried_then}
-use Rattle.lane_lives.proofs.Quiet.{AddsFor, wanted_adds, cut_adds}
-use Rattle.lane_lives.proofs.Told.{heard_down, next_down}
-use Rattle.lane_lives.proofs.Upkept.{pass_or_none, upkeep_down}
+use Rattle.lane_calls.proofs.Quiet.{AddsFor, wanted_adds, cut_adds}
+use Rattle.lane_calls.proofs.Told.{heard_down, next_down}
+use Rattle.lane_lives.proofs.Deeds.{pass_or_none}
+use Rattle.lane_calls.proofs.Steps.{grown-down}
+use Rattle.lane_calls.proofs.Upkept.{upkeep_down}
 
 -- ---- down a run
 
@@ -140,6 +144,7 @@ module _ (P : List LaneEvent → Type 0) (step : (e : LaneEvent) (L : List LaneE
   before_deed s lane (Stops n) J K does p = before_stop n J (subst P does p)
   before_deed s lane (Starts n) J K does p = before_start n J (subst P does p)
   before_deed s lane (Runs line) J K does p = before_line lane s.rules line line.via J K does p
+  before_deed s lane (Feeds feeders lines left) J K does p = grown-down feeders lines lane s.rules P (λ e L is q. step e L q) J K does.grew p
   before_deed s lane (Maintains noted) J K does p = before_upkeep lane J K (pass_or_none lane noted J K does) p
 
 pub legal_before : (S : places.Setting) (s : Setting) (lane : Low) (deed : Deed) (J K : List LaneEvent) → Does s lane deed J K → IsLegal S K → IsLegal S J
@@ -151,7 +156,7 @@ legal_before S = before_deed (IsLegal S) (λ e L legal. legal.0)
 abbrev pub Grown : List LaneEvent → List LaneEvent → Type 0
 Grown whole J = (M : List LaneEvent) × (whole ≡ M ++ J)
 
-grown_before : (whole : List LaneEvent) (e : LaneEvent) (J : List LaneEvent) → Grown whole (e ∷ J) → Grown whole J
+pub grown_before : (whole : List LaneEvent) (e : LaneEvent) (J : List LaneEvent) → Grown whole (e ∷ J) → Grown whole J
 grown_before whole e J h = (h.0 ++ e ∷ [], h.1 ∙ sym (append_assoc h.0 (e ∷ []) J))
 
 pub grown_deed : (whole : List LaneEvent) (s : Setting) (lane : Low) (deed : Deed) (J K : List LaneEvent) → Does s lane deed J K → Grown whole K → Grown whole J

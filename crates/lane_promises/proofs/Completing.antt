@@ -1,5 +1,5 @@
 -- A line of which no message is lost comes to what nodes answer.
-use Rattle.std.proofs.Common.{◌≡◌, ◌⊎◌, ◌↔◌, ◌<◌, ◌≤◌, ℕ, true, false, not, List, [], ◌∷◌, ◌++◌, length, Option, None, Some, is_some, inl, inr, refl, sym, ap, ◌∙◌, subst, arith}
+use Rattle.std.proofs.Common.{◌≡◌, ◌⊎◌, ◌↔◌, ◌<◌, ◌≤◌, ℕ, true, false, not, List, ◌∷◌, ◌++◌, length, Option, None, Some, is_some, inl, inr, refl, sym, ap, ◌∙◌, subst, arith}
 use Rattle.std.specs.Option.{IsSome}
 use Rattle.std.proofs.lemmas.Bool.{false≢true}
 use Rattle.std.proofs.lemmas.Bool.Decides.{nat_tests}
@@ -28,19 +28,19 @@ use Rattle.operation_keeping.specs.Wants.{IsRun, IsEnd}
 use Rattle.lane_carriage.specs.Carriage.{IsCarried, Other}
 use Rattle.lane_carriage.specs.Readers.{fate_of, is_returned, receives}
 use Rattle.lane_completeness.specs.Completeness.{AreAnswered, RunSince, NoneStops, IsUndisturbed, IsUndisturbedLine, IsDecided, EndsWell}
+use Rattle.lane_completeness.specs.Causes.{IsHeardLine, ReturnInTurn}
 use Rattle.operation_keeping.specs.RuleBounds.{AreRules}
 use Rattle.lane_keeping.specs.Tidings.{heard_next, last_state}
-use Rattle.lane_lives.specs.LaneValues.{LaneValue, drawn}
-use Rattle.lane_lives.specs.declared.setting.Setting.{Setting}
-use Rattle.lane_lives.specs.Lives.{FeedLine, RunsTo, begun_at, IsRunAt, IsRefused, IsCarriedOut, Deed, Announces, Stops, Starts, Runs, Maintains, Does, IsLife, outcome_in}
-use Rattle.lane_promises.specs.Promises.{LacksNothing, IsAcked, IsServed, LosesNone, GoesToOwner, IsNoRefusal, IsPromised, AreServed, IsComplete}
-use Rattle.lane_promises.proofs.Before.{runs_add, legal_begun, legal_before, run_carried, begun_carried, Grown, grown_deed, carried_line}
+use Rattle.lane_calls.specs.LaneValues.{drawn}
+use Rattle.lane_calls.specs.Lines.{FeedLine, RunsTo, begun_at, IsRunAt, IsRefused, IsCarriedOut}
+use Rattle.lane_calls.specs.Readings.{outcome_in}
+use Rattle.lane_promises.specs.Promises.{LacksNothing, IsAcked, IsServed, LosesNone, GoesToOwner, IsNoRefusal}
+use Rattle.lane_promises.proofs.Before.{runs_add, legal_begun, run_carried, begun_carried}
 use Rattle.lane_promises.proofs.CarriedBefore.{IsCarriedThen, fate_then}
-use Rattle.lane_promises.proofs.Later.{Stays, stays_itself, stays-trans, deed_stays, served_later}
-use Rattle.lane_lives.proofs.Leaving.{Leaves, leaves_to}
+use Rattle.lane_calls.proofs.Leaving.{Leaves, leaves_to}
 use Rattle.lane_promises.proofs.Newest.{IsNewest, newest_is, held_newest}
-use Rattle.lane_lives.proofs.OneLine.{outcome_own, unended_none}
-use Rattle.lane_lives.proofs.Told.{next_keeps}
+use Rattle.lane_calls.proofs.OneLine.{outcome_own, unended_none}
+use Rattle.lane_calls.proofs.Told.{next_keeps}
 
 -- ---- what is known of operations that run undisturbed
 
@@ -52,18 +52,30 @@ abbrev pub WritesEndWell : Type 0
 WritesEndWell = (lane : Low) (rules : Rules) → AreRules rules → (line d v : ℕ) (o : Operation) (stamp : Option Stamp) (J K : List LaneEvent) (outcome : Outcome) → looks o ≡ false
     → IsUndisturbedLine lane rules line d v o stamp J K outcome → EndsWell stamp (history K) line outcome
 
+-- and beside others
+abbrev pub HeardDecided : Type 0
+HeardDecided = (lane : Low) (rules : Rules) → AreRules rules → (line d v : ℕ) (o : Operation) (stamp : Option Stamp) (J K : List LaneEvent) (outcome : Outcome)
+    → IsHeardLine lane rules line d v o stamp J K outcome → IsDecided (history K) line outcome
+
+abbrev pub HeardEndWell : Type 0
+HeardEndWell = (lane : Low) (rules : Rules) → AreRules rules → (line d v : ℕ) (o : Operation) (stamp : Option Stamp) (J K : List LaneEvent) (outcome : Outcome) → looks o ≡ false
+    → IsHeardLine lane rules line d v o stamp J K outcome → EndsWell stamp (history K) line outcome
+
 -- fates that answer what was sent since leave a lane undisturbed, where the receivers ran; and which numbers were sent
 pub record Laws : Type 0 where
   pub decided : AllDecided
   pub well : WritesEndWell
+  pub heard : HeardDecided
+  pub heard_well : HeardEndWell
   pub since : (before given : List Fate) (J K : List LaneEvent) → IsCarried before J → IsCarried given K → AreAnswered (length before) given → RunSince J K → IsUndisturbed J K
   pub running : (J M : List LaneEvent) → NoneStops M → (number : ℕ) (m : Message) → sent number (history (M ++ J)) ≡ Some m → sent number (history J) ≡ None
       → receives number number (M ++ J) ≡ not (stopped m.receiver (history (M ++ J)))
   pub numbers : (given : List Fate) (k : ℕ) → IsSome (fate_of k given) ↔ ((1 ≤ k) × (k ≤ length given))
   pub was_sent : (given : List Fate) (J : List LaneEvent) → IsCarried given J → (k : ℕ) → 1 ≤ k → k ≤ length given → IsSome (sent k (history J))
   pub unsent : (given : List Fate) (J : List LaneEvent) → IsCarried given J → (k : ℕ) → fate_of k given ≡ None → sent k (history J) ≡ None
+  pub in_turn : (given : List Fate) (J K : List LaneEvent) → IsCarried given K → ReturnInTurn J K
 
-lacks_nothing : (H : Journal) (line : ℕ) (x : Outcome) → IsDecided H line x → LacksNothing x
+pub lacks_nothing : (H : Journal) (line : ℕ) (x : Outcome) → IsDecided H line x → LacksNothing x
 lacks_nothing H line (Acked t) h = tt
 lacks_nothing H line (Nothing t) h = tt
 lacks_nothing H line (Found t) h = tt
@@ -75,7 +87,7 @@ lacks_nothing H line (OwnedElsewhere o v) h = absurd h
 lacks_nothing H line NoMemory h = tt
 
 -- a line that was closed wasn't refused
-no_refusal : (S : places.Setting) (J : List LaneEvent) (line : ℕ) (b : Beginning) (x : Outcome) → MayEnd S J line b x → IsNoRefusal x
+pub no_refusal : (S : places.Setting) (J : List LaneEvent) (line : ℕ) (b : Beginning) (x : Outcome) → MayEnd S J line b x → IsNoRefusal x
 no_refusal S J line b (Acked t) h = tt
 no_refusal S J line b (Nothing t) h = tt
 no_refusal S J line b (Found t) h = tt
@@ -86,10 +98,10 @@ no_refusal S J line b (TooFew a n x) h = tt
 no_refusal S J line b (OwnedElsewhere o v) h = absurd h
 no_refusal S J line b NoMemory h = tt
 
-began_first : (n d v : ℕ) (id : Id) (t : Option Stamp) (H : Journal) → began n H ≡ None → began n (plain.Begun n d v id t ∷ H) ≡ Some (record { distributor = d; version = v; id = id; stamp = t })
+pub began_first : (n d v : ℕ) (id : Id) (t : Option Stamp) (H : Journal) → began n H ≡ None → began n (plain.Begun n d v id t ∷ H) ≡ Some (record { distributor = d; version = v; id = id; stamp = t })
 began_first n d v id t H h = grind (arith, nat_tests)
 
-some_of : {A : Type 0} (o : Option A) → IsSome o → (x : A) × (o ≡ Some x)
+pub some_of : {A : Type 0} (o : Option A) → IsSome o → (x : A) × (o ≡ Some x)
 some_of None h = absurd (false≢true h)
 some_of (Some x) h = (x, refl)
 
@@ -227,7 +239,7 @@ module _ (laws : Laws) (lane : Low) (rules : Rules) (are : AreRules rules) (give
   since_heard : (d : ℕ) (s : ClusterState) → LosesNone given J K → LosesNone given (heard_next d (Some s) J) K
   since_heard d s none number m is was = none number m is (next_keeps (λ L. sent number (history L) ≡ None → sent number (history J) ≡ None) (λ e v L old h. old h) d s J (λ h. h) was)
 
-  well_by : (via : Option ℕ) → IsCarriedOut lane rules line via J K → GoesToOwner lane via J → RunsWell given line J K
+  pub well_by : (via : Option ℕ) → IsCarriedOut lane rules line via J K → GoesToOwner lane via J → RunsWell given line J K
   well_by None c goes =
       let L = heard_next c.owner (Some c.state) J in
       let begun = legal_begun (setting_of lane rules) lane rules line c.owner c.state L K c.run legal in
@@ -248,34 +260,3 @@ module _ (laws : Laws) (lane : Low) (rules : Rules) (are : AreRules rules) (give
       by_end (inr r) =
           let refused = subst (IsLegal (setting_of lane rules)) r.refused legal in
           absurd (r.not_owner (subst (λ (s : ClusterState). IsOwner lane s d) (sym (same refused.0)) goes.owns))
-
--- ---- all deeds
-
-module _ (laws : Laws) (s : Setting) (are : AreRules s.rules) (lane : Low) (v : LaneValue) (carried : IsCarried v.given v.journal) where
-  promised : (deed : Deed) (J K : List LaneEvent) → IsLegal (setting_of lane s.rules) K → Grown v.journal K → Stays K v.journal → Does s lane deed J K → IsPromised lane v deed J K
-  promised (Announces state deaf) J K legal grown keep does = tt
-  promised (Stops n) J K legal grown keep does = tt
-  promised (Starts n) J K legal grown keep does = tt
-  promised (Maintains noted) J K legal grown keep does = tt
-  promised (Runs line) J K legal grown keep does = λ goes.
-      let t = carried_line v.given v.journal lane s.rules line line.via J K does carried grown in
-      let w = well_by laws lane s.rules are v.given line J K legal t line.via does goes in
-      record {
-        outcome = w.outcome;
-        ended = keep.outcomes line.number w.outcome w.ended;
-        unrefused = w.unrefused;
-        served = λ none. served_later K v.journal keep line (w.served none);
-      }
-
-  deeds_promised : (deeds : List Deed) (K : List LaneEvent) → IsLegal (setting_of lane s.rules) K → Grown v.journal K → Stays K v.journal → (life : IsLife s lane deeds K) → AreServed s lane v deeds K life
-  deeds_promised [] K legal grown keep life = tt
-  deeds_promised (deed ∷ deeds) K legal grown keep life =
-      let J = life.0 in
-      let does = life.1.1 in (
-        promised deed J K legal grown keep does,
-        deeds_promised deeds J (legal_before (setting_of lane s.rules) s lane deed J K does legal) (grown_deed v.journal s lane deed J K does grown)
-            (stays-trans J K v.journal (deed_stays s lane deed J K does) keep) life.1.0,
-      )
-
-pub all_served : Laws → (s : Setting) → AreRules s.rules → (lane : Low) (v : LaneValue) → IsLegal (setting_of lane s.rules) v.journal → IsCarried v.given v.journal → IsComplete s lane v
-all_served laws s are lane v legal carried deeds life = deeds_promised laws s are lane v carried deeds v.journal legal ([], refl) (stays_itself v.journal) life

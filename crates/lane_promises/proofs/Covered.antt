@@ -21,12 +21,12 @@ use Rattle.upkeep_spans.proofs.Leaving as leaving
 use Rattle.upkeep_spans.specs.declared.answers.Upkeep.TheVariants.{Rested}
 use Rattle.lane_lives.specs.declared.setting.Setting.{Setting}
 use Rattle.lane_lives.specs.declared.spans.UpkeepSpan.{UpkeepSpan}
-use Rattle.lane_lives.specs.Lives.{Deed, Announces, Stops, Starts, Runs, Maintains, IsLife, newest_in, deed_events}
+use Rattle.lane_lives.specs.Lives.{Deed, Announces, Stops, Starts, Runs, Feeds, Maintains, IsLife, newest_in, deed_events}
 use Rattle.lane_lives.specs.Rested.{RestsIn, IsCovered, AreCalm}
 use Rattle.lane_lives.specs.Upkeep.{SpanStands}
-use Rattle.lane_lives.specs.Upkept.{HaveRun}
+use Rattle.lane_calls.specs.Upkept.{HaveRun}
 use Rattle.lane_lives.proofs.Living.{events_told, newest_published}
-use Rattle.lane_lives.proofs.Told.{stopped_told}
+use Rattle.lane_calls.proofs.Told.{stopped_told}
 use Rattle.lane_promises.proofs.Before.{Grown, grown_deed, legal_tail}
 use Rattle.lane_promises.proofs.Newest.{newest_is}
 
@@ -38,6 +38,7 @@ newest_same s (Announces state deaf ∷ more) deeds calm = absurd calm
 newest_same s (Stops n ∷ more) deeds calm = absurd calm
 newest_same s (Starts n ∷ more) deeds calm = newest_same s more deeds calm
 newest_same s (Runs line ∷ more) deeds calm = newest_same s more deeds calm
+newest_same s (Feeds feeders lines left ∷ more) deeds calm = newest_same s more deeds calm
 newest_same s (Maintains noted ∷ more) deeds calm = newest_same s more deeds calm
 
 started_runs : (n m : ℕ) (E : List LaneEvent) (t : Bool) → stopped n (history E) ≡ false → stopped n (history (if t then Started m ∷ E else E)) ≡ false
@@ -55,16 +56,17 @@ runs_on s (Announces state deaf ∷ more) deeds calm n h = absurd calm
 runs_on s (Stops m ∷ more) deeds calm n h = absurd calm
 runs_on s (Starts m ∷ more) deeds calm n h = let E = deed_events s (more ++ deeds) in started_runs n m E (stopped m (history E)) (runs_on s more deeds calm n h)
 runs_on s (Runs line ∷ more) deeds calm n h = runs_on s more deeds calm n h
+runs_on s (Feeds feeders lines left ∷ more) deeds calm n h = runs_on s more deeds calm n h
 runs_on s (Maintains noted ∷ more) deeds calm n h = runs_on s more deeds calm n h
 
 -- ---- the journal before them
 
-record WasBefore (s : Setting) (lane : Low) (deeds : List Deed) (whole : List LaneEvent) : Type 0 where
-  journal : List LaneEvent
-  life : IsLife s lane deeds journal
-  grown : Grown whole journal
+pub record WasBefore (s : Setting) (lane : Low) (deeds : List Deed) (whole : List LaneEvent) : Type 0 where
+  pub journal : List LaneEvent
+  pub life : IsLife s lane deeds journal
+  pub grown : Grown whole journal
 
-was_before : (whole : List LaneEvent) (s : Setting) (lane : Low) (more deeds : List Deed) (K : List LaneEvent) → IsLife s lane (more ++ deeds) K → Grown whole K → WasBefore s lane deeds whole
+pub was_before : (whole : List LaneEvent) (s : Setting) (lane : Low) (more deeds : List Deed) (K : List LaneEvent) → IsLife s lane (more ++ deeds) K → Grown whole K → WasBefore s lane deeds whole
 was_before whole s lane [] deeds K life grown = record { journal = K; life = life; grown = grown }
 was_before whole s lane (deed ∷ more) deeds K life grown = was_before whole s lane more deeds life.0 life.1.0 (grown_deed whole s lane deed life.0 K life.1.1 grown)
 

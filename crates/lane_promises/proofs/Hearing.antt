@@ -14,14 +14,19 @@ use Rattle.lane_keeping.specs.Tidings.{is_older, heard_next, heard_below, stoppe
 use Rattle.upkeep_spans.specs.Spans.{IsUpkeepEvent}
 use Rattle.lane_lives.specs.declared.setting.Setting.{Setting}
 use Rattle.lane_promises.specs.Hearings.{deaf_in, WasTold, HeardNewest}
-use Rattle.lane_lives.specs.Lives.{FeedLine, begun_at, IsRunAt, IsRefused, IsCarriedOut, Deed, Announces, Stops, Starts, Runs, Maintains, IsMaintained, IsLife, newest_in}
+use Rattle.lane_calls.specs.Lines.{FeedLine, Lines, begun_at, IsRunAt, IsRefused, IsCarriedOut}
+use Rattle.lane_lives.specs.Lives.{Deed, Announces, Stops, Starts, Runs, Feeds, Maintains, IsLife, newest_in}
+use Rattle.lane_calls.specs.Upkept.{IsMaintained}
 use Rattle.lane_promises.proofs.Before.{runs_down}
 use Rattle.lane_lives.proofs.FirstEvents.{held_told}
-use Rattle.lane_lives.proofs.Leaving.{leaves_to}
+use Rattle.lane_calls.proofs.Leaving.{leaves_to}
 use Rattle.lane_lives.proofs.Living.{newest_published}
-use Rattle.lane_lives.proofs.Quiet.{AddsFor}
-use Rattle.lane_lives.proofs.Told.{heard_keeps}
-use Rattle.lane_lives.proofs.Upkept.{upkeep_adds, leaves_upkeep, upkeep_down, pass_or_none}
+use Rattle.lane_calls.proofs.Quiet.{AddsFor}
+use Rattle.lane_calls.proofs.Told.{heard_keeps, last_told}
+use Rattle.lane_calls.proofs.Upkept.{upkeep_adds, leaves_upkeep, upkeep_down}
+use Rattle.lane_lives.proofs.Deeds.{pass_or_none}
+use Rattle.lane_calls.specs.Growth.{IsHeard, IsStep, Grows, Same, More}
+use Rattle.lane_calls.proofs.Steps.{step-hears, unheard-held, step-tells, grown-up}
 
 -- ---- who isn't deaf holds the newest state
 
@@ -65,6 +70,30 @@ held_upkeep lane J K t d last is (inr m) =
     let was : holds d J ≡ Some (m.state).version = is ∙ ap (λ (x : ClusterState). Some x.version) (sym same) in
     (leaves_upkeep 0 m.owner (m.state).version _ K m.pass).held_is d ∙ held_next m.owner m.state J d was ∙ ap (λ (x : ClusterState). Some x.version) same
 
+-- nor do feeders take it from anybody: who hears a state there hears the newest
+held_step : (lane : Low) (t : ClusterState) (d : ℕ) (e : LaneEvent) (L : List LaneEvent) → IsHeard lane L e ⊎ IsNoHearing e → last_state L ≡ Some t → holds d L ≡ Some t.version → holds d (e ∷ L) ≡ Some t.version
+held_step lane t d e L (inr none) last is = unheard-held d e L none ∙ is
+held_step lane t d e L (inl h) last is =
+    let same : h.state ≡ t = one_state (sym h.newest ∙ last) in
+    ap (λ (x : LaneEvent). holds d (x ∷ L)) h.event ∙ over (h.distributor == d) same
+  where
+    over : (b : Bool) → h.state ≡ t → (if b then Some (h.state).version else holds d L) ≡ Some t.version
+    over true same = ap (λ (x : ClusterState). Some x.version) same
+    over false same = is
+
+record HoldsNewest (t : ClusterState) (d : ℕ) (J : List LaneEvent) : Type 0 where
+  last : last_state J ≡ Some t
+  held_is : holds d J ≡ Some t.version
+
+pub held_fed : (feeders : ℕ) (lines : Lines) (lane : Low) (rules : Rules) (J K : List LaneEvent) (t : ClusterState) (d : ℕ) → Grows feeders lines lane rules J K → last_state J ≡ Some t → holds d J ≡ Some t.version → holds d K ≡ Some t.version
+held_fed feeders lines lane rules J K t d grew last is = (grown-up feeders lines lane rules (HoldsNewest t d) (λ e L step h. record {
+  last = last_told_on e L step ∙ h.last;
+  held_is = held_step lane t d e L (step-hears feeders lines lane rules L e step) h.last h.held_is;
+}) J K grew (record { last = last; held_is = is })).held_is
+  where
+    last_told_on : (e : LaneEvent) (L : List LaneEvent) → IsStep feeders lines lane rules L e → last_state (e ∷ L) ≡ last_state L
+    last_told_on e L step = sym (last_told (e ∷ L)) ∙ ap last_state (step-tells feeders lines lane rules L e step) ∙ last_told L
+
 held_stop : (n : ℕ) (J : List LaneEvent) (d : ℕ) → holds d (stopped_next n J) ≡ holds d J
 held_stop n J d = by_test (stopped n (history J))
   where
@@ -86,6 +115,8 @@ told_hold s lane (Stops n ∷ deeds) K life d small hears = ap (holds d) life.1.
 told_hold s lane (Starts n ∷ deeds) K life d small hears = ap (holds d) life.1.1 ∙ held_start n life.0 d ∙ told_hold s lane deeds life.0 life.1.0 d small hears
 told_hold s lane (Maintains noted ∷ deeds) K life d small hears =
     held_upkeep lane life.0 K (newest_in s deeds) d (newest_published s lane deeds life.0 life.1.0) (told_hold s lane deeds life.0 life.1.0 d small hears) (pass_or_none lane noted life.0 K life.1.1)
+told_hold s lane (Feeds feeders lines left ∷ deeds) K life d small hears =
+    held_fed feeders lines lane s.rules life.0 K (newest_in s deeds) d (life.1.1).grew (newest_published s lane deeds life.0 life.1.0) (told_hold s lane deeds life.0 life.1.0 d small hears)
 told_hold s lane (Runs line ∷ deeds) K life d small hears =
     held_line lane s.rules line line.via life.0 K (newest_in s deeds) d (newest_published s lane deeds life.0 life.1.0) (told_hold s lane deeds life.0 life.1.0 d small hears) life.1.1
 
@@ -209,6 +240,25 @@ module _ (d v : ℕ) (before : List LaneEvent) where
       by_end (inl r) = inr (in_run lane rules line e c.state J K r.1 h)
       by_end (inr r) = inr (passes _ J tt (subst Has r.refused h))
 
+  -- ---- in a segment
+
+  in_step : (lane : Low) (e : LaneEvent) (L : List LaneEvent) → IsHeard lane L e ⊎ IsNoHearing e → Has (e ∷ L) → IsByOwner lane ⊎ Has L
+  in_step lane e L (inr none) h = inr (passes e L none h)
+  in_step lane e L (inl heard) h = by_place (is_in e L h)
+    where
+      by_place : IsIn e L → IsByOwner lane ⊎ Has L
+      by_place (Here is rest) =
+          let same = one_hearer (sym heard.event ∙ is) in
+          inl (record { state = heard.state; newest = ap last_state (sym rest) ∙ heard.newest; version_is = sym same.1; owns = subst (IsOwner lane heard.state) same.0 heard.owns })
+      by_place (Below h) = inr h
+
+  in_segment : (feeders : ℕ) (lines : Lines) (lane : Low) (rules : Rules) (J K : List LaneEvent) → Grows feeders lines lane rules J K → Has K → IsByOwner lane ⊎ Has J
+  in_segment feeders lines lane rules J K Same h = inr h
+  in_segment feeders lines lane rules J K (More e L grew step) h = elim (in_step lane e L (step-hears feeders lines lane rules L e step) h) [
+    | inl owner ↦ inl owner
+    | inr old ↦ in_segment feeders lines lane rules J L grew old
+  ]
+
   -- ---- at upkeep
 
   upkeep_no_hearing : (e w : ℕ) (x : LaneEvent) → IsUpkeepEvent e w x → IsNoHearing x
@@ -279,6 +329,10 @@ module _ (d v : ℕ) (before : List LaneEvent) where
     hears_newest (Maintains noted ∷ deeds) K life h = elim (in_upkeep lane life.0 K (pass_or_none lane noted life.0 K life.1.1) h) [
       | inl owner ↦ by_owner (Maintains noted ∷ deeds) owner
       | inr old ↦ later (Maintains noted) deeds (hears_newest deeds life.0 life.1.0 old)
+    ]
+    hears_newest (Feeds feeders lines left ∷ deeds) K life h = elim (in_segment feeders lines lane s.rules life.0 K (life.1.1).grew h) [
+      | inl owner ↦ by_owner (Feeds feeders lines left ∷ deeds) owner
+      | inr old ↦ later (Feeds feeders lines left) deeds (hears_newest deeds life.0 life.1.0 old)
     ]
     hears_newest (Runs line ∷ deeds) K life h = elim (in_line lane s.rules line line.via life.0 K life.1.1 h) [
       | inl owner ↦ by_owner (Runs line ∷ deeds) owner

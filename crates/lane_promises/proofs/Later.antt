@@ -1,20 +1,24 @@
 -- What was known of a line stays known over each deed.
-use Rattle.std.proofs.Common.{◌≡◌, ◌⊎◌, ℕ, List, Option, None, Some, inl, inr, sym, ap, ◌∙◌, subst}
+use Rattle.std.proofs.Common.{◌≡◌, ◌⊎◌, ℕ, List, ◌∷◌, Option, None, Some, inl, inr, sym, ap, ◌∙◌, subst}
 use Rattle.bucket_ids.specs.Buckets.{Low}
 use Rattle.cluster_states.specs.declared.cluster_state.ClusterState.{ClusterState}
 use Rattle.distributor_part.specs.declared.rules.Rules.{Rules}
 use Rattle.ideal_nodes.specs.Placement.{IsOwner}
 use Rattle.messages.specs.declared.outcome.Outcome.{Outcome}
 use Rattle.lane_journals.specs.Readers.{Beginning, began}
-use Rattle.lane_journals.specs.Meanings.{history}
+use Rattle.lane_journals.specs.Meanings.{history, meaning}
 use Rattle.lane_journals.specs.declared.event.LaneEvent.{LaneEvent}
-use Rattle.lane_journals.proofs.Basics.{or_else-some}
+use Rattle.lane_journals.specs.declared.event.LaneEvent.TheVariants as event
+use Rattle.lane_journals.proofs.Basics.{or_else-some, began-stays}
 use Rattle.lane_lives.specs.declared.setting.Setting.{Setting}
-use Rattle.lane_lives.specs.Lives.{FeedLine, begun_at, IsRunAt, IsRefused, IsCarriedOut, Deed, Announces, Stops, Starts, Runs, Maintains, Does, outcome_in}
+use Rattle.lane_calls.specs.Lines.{FeedLine, begun_at, IsRunAt, IsRefused, IsCarriedOut}
+use Rattle.lane_lives.specs.Lives.{Deed, Announces, Stops, Starts, Runs, Feeds, Maintains, Does}
+use Rattle.lane_calls.specs.Readings.{outcome_in}
 use Rattle.lane_promises.specs.Promises.{IsServed}
-use Rattle.lane_lives.proofs.Leaving.{leaves_to}
-use Rattle.lane_lives.proofs.OneLine.{Passes, passes_announced, passes_next, passes_stop, passes_start, passes_upkeep}
-use Rattle.lane_lives.proofs.Upkept.{pass_or_none}
+use Rattle.lane_calls.proofs.Leaving.{leaves_to}
+use Rattle.lane_calls.proofs.OneLine.{Passes, passes_announced, passes_next, passes_stop, passes_start, passes_upkeep}
+use Rattle.lane_lives.proofs.Deeds.{pass_or_none}
+use Rattle.lane_calls.proofs.Steps.{grown-up}
 
 pub record Stays (J K : List LaneEvent) : Type 0 where
   pub outcomes : (j : ℕ) (x : Outcome) → outcome_in j J ≡ Some x → outcome_in j K ≡ Some x
@@ -51,11 +55,21 @@ stays_line lane rules line (Some d) J K c = by_end c.ends
     by_end (inl r) = stays_run lane rules line d c.state J K r.1
     by_end (inr r) = stays_refused lane line d c.state J K r
 
+-- over any event
+outcome_on : (e : LaneEvent) (J : List LaneEvent) (j : ℕ) (x : Outcome) → outcome_in j J ≡ Some x → outcome_in j (e ∷ J) ≡ Some x
+outcome_on (event.Closed l outcome) J j x h = or_else-some (outcome_in j J) _ x h
+outcome_on (event.Refused l d outcome) J j x h = or_else-some (outcome_in j J) _ x h
+outcome_on _ J j x h = h
+
+pub stays_event : (e : LaneEvent) (J : List LaneEvent) → Stays J (e ∷ J)
+stays_event e J = record { outcomes = λ j x h. outcome_on e J j x h; beginnings = λ j b h. began-stays j (history J) b (meaning J e) h }
+
 pub deed_stays : (s : Setting) (lane : Low) (deed : Deed) (J K : List LaneEvent) → Does s lane deed J K → Stays J K
 deed_stays s lane (Announces state deaf) J K does = subst (Stays J) (sym does) (stays_passes J _ (passes_announced deaf state J))
 deed_stays s lane (Stops n) J K does = subst (Stays J) (sym does) (stays_passes J _ (passes_stop n J))
 deed_stays s lane (Starts n) J K does = subst (Stays J) (sym does) (stays_passes J _ (passes_start n J))
 deed_stays s lane (Runs line) J K does = stays_line lane s.rules line line.via J K does
+deed_stays s lane (Feeds feeders lines left) J K does = grown-up feeders lines lane s.rules (Stays J) (λ e L step stays. stays-trans J L (e ∷ L) stays (stays_event e L)) J K does.grew (stays_itself J)
 deed_stays s lane (Maintains noted) J K does = stays_passes J K (passes_upkeep lane J K (pass_or_none lane noted J K does))
 
 -- a line that was served is served later

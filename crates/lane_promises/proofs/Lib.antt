@@ -6,8 +6,12 @@ mod Newest
 mod CarriedBefore
 mod Later
 mod Completing
+mod CompletingBeside
+mod Complete
 mod Ends
 mod Refusals
 mod Shortfalls
+mod ShortfallsBeside
 mod Hearing
 mod Covered
+mod Order

@@ -10,10 +10,11 @@ use Rattle.lane_journals.specs.declared.event.LaneEvent.{LaneEvent}
 use Rattle.lane_journals.specs.declared.event.LaneEvent.TheVariants.{Refused, Closed}
 use Rattle.lane_keeping.specs.LaneKeeping.{setting_of}
 use Rattle.lane_lives.specs.declared.setting.Setting.{Setting}
-use Rattle.lane_lives.specs.Lives.{Deed, IsLife, lines_of, outcome_in}
+use Rattle.lane_lives.specs.Lives.{Deed, IsLife, lines_of}
+use Rattle.lane_calls.specs.Readings.{outcome_in}
 use Rattle.lane_promises.specs.Promises.{WasRefused}
 use Rattle.lane_promises.proofs.Before.{legal_tail}
-use Rattle.lane_promises.proofs.Ends.{Arrival, Refusal, Ending, Ran, Was, WasEnded, ended_by}
+use Rattle.lane_promises.proofs.Ends.{Arrival, Refusal, Ending, Ran, Was, Went, WasEnded, ended_by}
 
 same_owner : {a b v w : ℕ} → OwnedElsewhere a v ≡ OwnedElsewhere b w → a ≡ b
 same_owner e = cc
@@ -29,6 +30,13 @@ module _ (s : Setting) (lane : Low) (deeds : List Deed) (J : List LaneEvent) (le
       let closing : IsLegal (setting_of lane s.rules) (Closed (w.line).number (a.run).outcome ∷ (a.run).run) = subst (IsLegal (setting_of lane s.rules)) (a.run).closed after in
       let ended = closing.1.ended in
       subst (MayEnd (setting_of lane s.rules) (a.run).run (w.line).number ended.0) is ended.2
+
+  not_closed : w.after ≡ Closed (w.line).number (OwnedElsewhere owner version) ∷ w.before → ⊥
+  not_closed is =
+      let after : IsLegal (setting_of lane s.rules) w.after = legal_tail (setting_of lane s.rules) (w.grown).0 w.after (subst (IsLegal (setting_of lane s.rules)) (w.grown).1 legal) in
+      let closing : IsLegal (setting_of lane s.rules) (Closed (w.line).number (OwnedElsewhere owner version) ∷ w.before) = subst (IsLegal (setting_of lane s.rules)) is after in
+      let ended = closing.1.ended in
+      ended.2
 
   refusal : (r : Refusal lane w.line w.before w.after) → OwnedElsewhere (r.refused).owner (r.state).version ≡ OwnedElsewhere owner version → WasRefused lane (lines_of deeds) J number owner version
   refusal r is =
@@ -54,6 +62,7 @@ module _ (s : Setting) (lane : Low) (deeds : List Deed) (J : List LaneEvent) (le
   by_ending : Ending lane s.rules w.line w.before w.after (OwnedElsewhere owner version) → WasRefused lane (lines_of deeds) J number owner version
   by_ending (Ran a is) = absurd (not_run a is)
   by_ending (Was r is) = refusal r is
+  by_ending (Went ended is) = absurd (not_closed is)
 
 pub refused_with_cause : (s : Setting) (lane : Low) (deeds : List Deed) (J : List LaneEvent) → IsLife s lane deeds J → IsLegal (setting_of lane s.rules) J → (number owner version : ℕ)
     → outcome_in number J ≡ Some (OwnedElsewhere owner version) → WasRefused lane (lines_of deeds) J number owner version

@@ -14,17 +14,19 @@ use Rattle.lane_journals.specs.declared.event.LaneEvent.{LaneEvent}
 use Rattle.lane_journals.specs.declared.event.LaneEvent.TheVariants.{Closed}
 use Rattle.lane_carriage.specs.Carriage.{IsCarried}
 use Rattle.lane_carriage.specs.Readers.{fate_of, is_returned}
-use Rattle.lane_completeness.specs.Causes.{IsMissing, IsLost, ReturnInTurn, IsRunLine}
+use Rattle.lane_completeness.specs.Causes.{IsMissing, IsLost, ReturnInTurn, IsRunLine, IsRunLineSince}
 use Rattle.operation_keeping.specs.RuleBounds.{AreRules}
 use Rattle.lane_keeping.specs.LaneKeeping.{setting_of}
 use Rattle.operation_keeping.specs.Wants.{IsEnd}
-use Rattle.lane_lives.specs.LaneValues.{drawn}
+use Rattle.lane_calls.specs.LaneValues.{drawn}
 use Rattle.lane_lives.specs.declared.setting.Setting.{Setting}
-use Rattle.lane_lives.specs.Lives.{RunsTo, begun_at, Deed, IsLife, lines_of, outcome_in}
+use Rattle.lane_calls.specs.Lines.{RunsTo, begun_at}
+use Rattle.lane_lives.specs.Lives.{Deed, IsLife, lines_of, AreAlone}
+use Rattle.lane_calls.specs.Readings.{outcome_in}
 use Rattle.lane_promises.specs.Promises.{LineFellShort}
 use Rattle.lane_promises.proofs.Before.{legal_tail}
 use Rattle.lane_promises.proofs.CarriedBefore.{IsCarriedThen, carried_then, fate_then}
-use Rattle.lane_promises.proofs.Ends.{Arrival, Ending, Ran, Was, WasEnded, ended_by}
+use Rattle.lane_promises.proofs.Ends.{Arrival, Ending, Ran, Was, Went, WasAlone, WasEnded, ended_by}
 
 -- ---- what is known of operations and of messages
 
@@ -32,20 +34,26 @@ abbrev pub AllMissing : Type 0
 AllMissing = (lane : Low) (rules : Rules) → AreRules rules → (line d v : ℕ) (o : Operation) (stamp : Option Stamp) (J K : List LaneEvent) (answered needed absent : ℕ)
     → IsRunLine lane rules line d v o stamp J K (TooFew answered needed absent) → IsMissing (history K) line absent
 
+-- of an operation whose search began with a later journal
+abbrev pub AllMissingSince : Type 0
+AllMissingSince = (lane : Low) (rules : Rules) → AreRules rules → (line d v : ℕ) (o : Operation) (stamp : Option Stamp) (J F K : List LaneEvent) (answered needed absent : ℕ)
+    → IsRunLineSince lane rules line d v o stamp J F K (TooFew answered needed absent) → IsMissing (history K) line absent
+
 pub record Laws : Type 0 where
   pub missing : AllMissing
+  pub missing_since : AllMissingSince
   pub in_turn : (given : List Fate) (J K : List LaneEvent) → IsCarried given K → ReturnInTurn J K
   pub lost : (given : List Fate) (K : List LaneEvent) (number : ℕ) → IsCarried given K → returned number (history K) ≡ false → IsLost given K number
   pub unsent : (given : List Fate) (J : List LaneEvent) → IsCarried given J → (k : ℕ) → fate_of k given ≡ None → sent k (history J) ≡ None
 
-not_cut : {a n x : ℕ} → TooFew a n x ≡ NoMemory → ⊥
+pub not_cut : {a n x : ℕ} → TooFew a n x ≡ NoMemory → ⊥
 not_cut e = cc e
 
-not_refused : {o v a n x : ℕ} → OwnedElsewhere o v ≡ TooFew a n x → ⊥
+pub not_refused : {o v a n x : ℕ} → OwnedElsewhere o v ≡ TooFew a n x → ⊥
 not_refused e = cc e
 
 -- a message that was sent has a fate
-has_fate : (l : Laws) (given : List Fate) (J : List LaneEvent) → IsCarried given J → (k : ℕ) (m : Message) → sent k (history J) ≡ Some m → (o : Option Fate) → fate_of k given ≡ o → IsSome (fate_of k given)
+pub has_fate : (l : Laws) (given : List Fate) (J : List LaneEvent) → IsCarried given J → (k : ℕ) (m : Message) → sent k (history J) ≡ Some m → (o : Option Fate) → fate_of k given ≡ o → IsSome (fate_of k given)
 has_fate l given J carried k m is None none = cc (sym (l.unsent given J carried k none) ∙ is)
 has_fate l given J carried k m is (Some f) some = ap is_some some
 
@@ -92,7 +100,7 @@ module _ (l : Laws) (s : Setting) (are : AreRules s.rules) (lane : Low) (deeds :
         by_loss (inl f) = inl (ap is_returned same ∙ f)
         by_loss (inr r) = inr r
 
-    fell_short : LineFellShort given (lines_of deeds) J number answered needed absent
+    pub fell_short : LineFellShort given (lines_of deeds) J number answered needed absent
     fell_short = record {
       line = w.line;
       place = w.place;
@@ -105,12 +113,13 @@ module _ (l : Laws) (s : Setting) (are : AreRules s.rules) (lane : Low) (deeds :
       lost = lost;
     }
 
-  by_ending : Ending lane s.rules w.line w.before w.after (TooFew answered needed absent) → LineFellShort given (lines_of deeds) J number answered needed absent
-  by_ending (Ran a is) = fell_short a is
-  by_ending (Was r is) = absurd (not_refused is)
+  by_ending : (e : Ending lane s.rules w.line w.before w.after (TooFew answered needed absent)) → WasAlone lane s.rules w.line w.before w.after (TooFew answered needed absent) e → LineFellShort given (lines_of deeds) J number answered needed absent
+  by_ending (Ran a is) alone = fell_short a is
+  by_ending (Was r is) alone = absurd (not_refused is)
+  by_ending (Went ended is) alone = absurd alone
 
-pub short_with_cause : Laws → (s : Setting) → AreRules s.rules → (lane : Low) (deeds : List Deed) (J : List LaneEvent) (given : List Fate) → IsLife s lane deeds J → IsLegal (setting_of lane s.rules) J → IsCarried given J
+pub short_with_cause : Laws → (s : Setting) → AreRules s.rules → (lane : Low) (deeds : List Deed) (J : List LaneEvent) (given : List Fate) → IsLife s lane deeds J → AreAlone deeds → IsLegal (setting_of lane s.rules) J → IsCarried given J
     → (number answered needed absent : ℕ) → outcome_in number J ≡ Some (TooFew answered needed absent) → LineFellShort given (lines_of deeds) J number answered needed absent
-short_with_cause l s are lane deeds J given life legal carried number answered needed absent h =
+short_with_cause l s are lane deeds J given life alone legal carried number answered needed absent h =
     let w = ended_by s lane deeds J life number (TooFew answered needed absent) h in
-    by_ending l s are lane deeds J given legal carried number answered needed absent w w.ending
+    by_ending l s are lane deeds J given legal carried number answered needed absent w w.ending (w.alone alone)

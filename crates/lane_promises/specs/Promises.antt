@@ -1,7 +1,7 @@
 -- What a lane of a session promises: a line comes to what nodes answer where none of its messages is lost, what was
 -- acknowledged there is kept, a line is refused only where another distributor owns the lane, and gets too few answers
 -- only where one was lost.
-use Rattle.std.specs.Prelude.{◌≡◌, ◌⊎◌, ℕ, true, false, List, [], ◌∷◌, ◌++◌, Option, None, Some, slice_get}
+use Rattle.std.specs.Prelude.{◌≡◌, ◌⊎◌, ℕ, true, false, List, [], ◌∷◌, ◌++◌, Option, None, Some, IsSome, slice_get}
 use Rattle.bucket_ids.specs.Buckets.{Low}
 use Rattle.cluster_states.specs.declared.cluster_state.ClusterState.{ClusterState}
 use Rattle.ideal_nodes.specs.Placement.{IsOwner}
@@ -15,14 +15,19 @@ use Rattle.lane_journals.specs.Meanings.{history}
 use Rattle.lane_journals.specs.Places.{state_in}
 use Rattle.lane_journals.specs.States.{state_of}
 use Rattle.lane_journals.specs.declared.event.LaneEvent.{LaneEvent}
-use Rattle.lane_journals.specs.declared.event.LaneEvent.TheVariants.{Refused, Closed}
+use Rattle.lane_journals.specs.declared.event.LaneEvent.TheVariants.{Begun, Refused, Closed}
 use Rattle.lane_durability.specs.Durability.{IsDurable, LaterIsNewer, ReadsAreFresh, EnoughReadsAreCurrent, SeenIsCurrent, SawNothingOlder, AnsweredBefore, CountedOnce, SearchIsCurrent}
 use Rattle.lane_carriage.specs.Readers.{fate_of, is_returned}
 use Rattle.lane_completeness.specs.Causes.{IsMissing, IsLost}
-use Rattle.lane_lives.specs.LaneValues.{LaneValue}
+use Rattle.operation_keeping.specs.Others.{AreOthers}
+use Rattle.lane_calls.specs.LaneValues.{LaneValue}
+use Rattle.lane_keeping.specs.Lines.{IsFresh}
 use Rattle.lane_keeping.specs.Tidings.{last_state}
+use Rattle.lane_calls.specs.Segments.{IsAmong, AreApart}
 use Rattle.lane_lives.specs.declared.setting.Setting.{Setting}
-use Rattle.lane_lives.specs.Lives.{FeedLine, Lines, Deed, Runs, IsLife, outcome_in}
+use Rattle.lane_calls.specs.Lines.{FeedLine, Lines}
+use Rattle.lane_lives.specs.Lives.{Deed, Runs, Feeds, IsLife}
+use Rattle.lane_calls.specs.Readings.{outcome_in}
 
 -- ---- completeness
 
@@ -78,8 +83,34 @@ pub record IsDoneWell (v : LaneValue) (line : FeedLine) (J K : List LaneEvent) :
   pub unrefused : IsNoRefusal outcome
   pub served : LosesNone v.given J K → IsServed v.journal line
 
+-- the line was begun behind the first journal, and closed with the outcome behind the second
+pub record WentBetween (line : FeedLine) (outcome : Outcome) (K before run : List LaneEvent) : Type 0 where
+  pub distributor : ℕ
+  pub version : ℕ
+  pub stamp : Option Stamp
+  pub since : List LaneEvent
+  pub begun : run ≡ since ++ Begun line.number distributor version line.operation.id stamp ∷ before
+  pub later : List LaneEvent
+  pub closed : K ≡ later ++ Closed line.number outcome ∷ run
+
+-- a line of a segment that goes to the owner isn't refused, and is served if no message was lost between its beginning and its
+-- end, its own or another's
+pub record IsDoneWellBeside (v : LaneValue) (line : FeedLine) (K : List LaneEvent) : Type 0 where
+  pub outcome : Outcome
+  pub ended : outcome_in line.number v.journal ≡ Some outcome
+  pub unrefused : IsNoRefusal outcome
+  pub before : List LaneEvent
+  pub run : List LaneEvent
+  pub between : WentBetween line outcome K before run
+  pub served : LosesNone v.given before run → IsServed v.journal line
+
+-- that is so of each of these lines, which are apart, that had no event before and has its outcome
+abbrev pub AreDoneWell : Low → LaneValue → Lines → List LaneEvent → List LaneEvent → Type 0
+AreDoneWell lane v lines J K = AreApart lines → (line : FeedLine) → IsAmong lines line → IsFresh (history J) line.number → GoesToOwner lane line.via J → IsSome (outcome_in line.number K) → IsDoneWellBeside v line K
+
 abbrev pub IsPromised : Low → LaneValue → Deed → List LaneEvent → List LaneEvent → Type 0
 IsPromised lane v (Runs line) J K = GoesToOwner lane line.via J → IsDoneWell v line J K
+IsPromised lane v (Feeds feeders lines left) J K = AreDoneWell lane v lines J K
 IsPromised lane v _ J K = Unit {0}
 
 -- that is so of the lines among these deeds
@@ -90,6 +121,14 @@ AreServed s lane v (deed ∷ deeds) K life = IsPromised lane v deed life.0 K × 
 -- that is so of all lines of the lane's whole life
 abbrev pub IsComplete : Setting → Low → LaneValue → Type 0
 IsComplete s lane v = (deeds : List Deed) (life : IsLife s lane deeds v.journal) → AreServed s lane v deeds v.journal life
+
+-- ---- order
+
+-- feeders left no line without an answer
+abbrev pub NoneIsLeft : List Deed → Type 0
+NoneIsLeft [] = Unit {0}
+NoneIsLeft (Feeds feeders lines left ∷ deeds) = (left ≡ []) × NoneIsLeft deeds
+NoneIsLeft (_ ∷ deeds) = NoneIsLeft deeds
 
 -- ---- refusals
 
@@ -128,6 +167,23 @@ pub record LineFellShort (given : List Fate) (lines : Lines) (J : List LaneEvent
   pub missing : IsMissing (history run) number absent
   -- where no reply came back, the message's fate loses it, or its receiver was stopped as it was sent
   pub lost : returned missing.number (history run) ≡ false → IsLost given run missing.number
+
+-- a line that others may have gone on beside was closed where so few nodes had answered: so it was at the moment at which it
+-- wanted to end, since when others alone did something
+pub record LineFellShortBeside (given : List Fate) (lines : Lines) (J : List LaneEvent) (number answered needed absent : ℕ) : Type 0 where
+  pub line : FeedLine
+  pub place : ℕ
+  pub among : slice_get lines place ≡ Some line
+  pub number_is : line.number ≡ number
+  -- the journal at that moment, as the line was closed, and what came later
+  pub moment : List LaneEvent
+  pub run : List LaneEvent
+  pub later : List LaneEvent
+  pub event : J ≡ later ++ Closed number (TooFew answered needed absent) ∷ run
+  pub since : AreOthers number line.operation.id moment run
+  pub missing : IsMissing (history moment) number absent
+  -- where no reply came back, the message's fate loses it, or its receiver was stopped as it was sent
+  pub lost : returned missing.number (history moment) ≡ false → IsLost given run missing.number
 
 -- ---- durability
 

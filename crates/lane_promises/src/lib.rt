@@ -7,6 +7,7 @@
 //! lanes_are_durable();                 // what was acknowledged, or something newer, is in enough node stores
 //! lanes_are_complete();                // an undisturbed line comes to what nodes answer
 //! hearings_follow_deeds();             // who isn't deaf holds the newest state
+//! deeds_come_in_order();               // a line begins once those of earlier deeds have their outcomes
 //! lines_are_refused_with_cause();      // the distributor that a line names held a state of another owner
 //! lines_fall_short_with_cause();       // nothing came back of a message to the absent node
 //! ```

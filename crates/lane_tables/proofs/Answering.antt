@@ -16,15 +16,15 @@ use Rattle.lane_keeping.specs.Tidings.{heard_next, is_older, last_state}
 use Rattle.lane_keeping.proofs.Acting.{one-owner}
 use Rattle.upkeep_spans.specs.declared.answers.Upkeep.{Upkeep}
 use Rattle.upkeep_spans.specs.declared.answers.Upkeep.TheVariants as upkeep
-use Rattle.lane_lives.specs.declared.progress.UnderWay.{UnderWay}
-use Rattle.lane_lives.specs.declared.answers.Advance.{Advance}
-use Rattle.lane_lives.specs.declared.answers.Advance.TheVariants as advance
-use Rattle.lane_lives.specs.declared.answers.Begin.{Begin}
-use Rattle.lane_lives.specs.declared.answers.Begin.TheVariants as begin
-use Rattle.lane_lives.specs.declared.answers.Hear.{Hear}
-use Rattle.lane_lives.specs.declared.answers.Hear.TheVariants as hear
-use Rattle.lane_lives.specs.LaneValues.{LaneValue, OfFirst, OfNone, IsBehind, IsBegunAt, IsOfDocument, IsAny, IsPreparedIn, IsHearing, IsBeginning, IsBeginningAtOwner}
-use Rattle.lane_lives.specs.Upkept.{IsUpkept}
+use Rattle.lane_calls.specs.declared.progress.UnderWay.{UnderWay}
+use Rattle.lane_calls.specs.declared.answers.Advance.{Advance}
+use Rattle.lane_calls.specs.declared.answers.Advance.TheVariants as advance
+use Rattle.lane_calls.specs.declared.answers.Begin.{Begin}
+use Rattle.lane_calls.specs.declared.answers.Begin.TheVariants as begin
+use Rattle.lane_calls.specs.declared.answers.Hear.{Hear}
+use Rattle.lane_calls.specs.declared.answers.Hear.TheVariants as hear
+use Rattle.lane_calls.specs.LaneValues.{LaneValue, OfFirst, OfNone, IsBehind, IsBegunAt, IsOfDocument, IsAny, IsPreparedIn, IsHearing, IsBeginning, IsBeginningAtOwner}
+use Rattle.lane_calls.specs.Upkept.{IsUpkept}
 use Rattle.lane_core.specs.Advancing.{IsHindered, IsAdvance, Advances}
 use Rattle.lane_tables.specs.Tables.{AreThree, SameDocument, OtherDocuments, HeardBetween, HeardByAnother, HeardAlready, OwnerBehind, SameRow, OtherRows, AreAnswers}
 use Rattle.lane_tables.proofs.Firsts.{firsts-same, get-second, of-three, first-is, second-is, third-of}

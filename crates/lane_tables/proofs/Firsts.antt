@@ -1,8 +1,8 @@
 -- The first of three operations under way of which something holds.
 use Rattle.std.proofs.Common.{◌≡◌, ◌<◌, ℕ, zero, suc, List, Option, Some, None, inl, inr, refl, sym, ap, ◌∙◌, subst, slice_get, arith}
 use Rattle.std.proofs.lemmas.Bool.{cases_lt}
-use Rattle.lane_lives.specs.declared.progress.UnderWay.{UnderWay}
-use Rattle.lane_lives.specs.LaneValues.{IsPlace, OfFirst}
+use Rattle.lane_calls.specs.declared.progress.UnderWay.{UnderWay}
+use Rattle.lane_calls.specs.LaneValues.{IsPlace, OfFirst}
 use Rattle.lane_tables.specs.Tables.{AreThree}
 
 pub get-same : (us : List UnderWay) (k : ℕ) (x y : UnderWay) → slice_get us k ≡ Some x → slice_get us k ≡ Some y → x ≡ y

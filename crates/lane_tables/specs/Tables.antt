@@ -10,15 +10,15 @@ use Rattle.lane_keeping.specs.Acting.{IsActing}
 use Rattle.lane_keeping.specs.Tidings.{is_older, last_state}
 use Rattle.upkeep_spans.specs.declared.answers.Upkeep.{Upkeep}
 use Rattle.upkeep_spans.specs.declared.answers.Upkeep.TheVariants as upkeep
-use Rattle.lane_lives.specs.declared.progress.UnderWay.{UnderWay}
-use Rattle.lane_lives.specs.declared.answers.Advance.{Advance}
-use Rattle.lane_lives.specs.declared.answers.Advance.TheVariants as advance
-use Rattle.lane_lives.specs.declared.answers.Begin.{Begin}
-use Rattle.lane_lives.specs.declared.answers.Begin.TheVariants as begin
-use Rattle.lane_lives.specs.declared.answers.Hear.{Hear}
-use Rattle.lane_lives.specs.declared.answers.Hear.TheVariants as hear
-use Rattle.lane_lives.specs.LaneValues.{LaneValue, IsHearing, IsBeginning, IsBeginningAtOwner}
-use Rattle.lane_lives.specs.Upkept.{IsUpkept}
+use Rattle.lane_calls.specs.declared.progress.UnderWay.{UnderWay}
+use Rattle.lane_calls.specs.declared.answers.Advance.{Advance}
+use Rattle.lane_calls.specs.declared.answers.Advance.TheVariants as advance
+use Rattle.lane_calls.specs.declared.answers.Begin.{Begin}
+use Rattle.lane_calls.specs.declared.answers.Begin.TheVariants as begin
+use Rattle.lane_calls.specs.declared.answers.Hear.{Hear}
+use Rattle.lane_calls.specs.declared.answers.Hear.TheVariants as hear
+use Rattle.lane_calls.specs.LaneValues.{LaneValue, IsHearing, IsBeginning, IsBeginningAtOwner}
+use Rattle.lane_calls.specs.Upkept.{IsUpkept}
 use Rattle.lane_core.specs.Advancing.{IsHindered, IsFree, IsAdvance}
 
 pub record AreThree (us : List UnderWay) (a b c : UnderWay) : Type 0 where

@@ -1,1 +1,2 @@
--- Nothing is shared.
+-- `Feeding` says how a feeder comes from one of its lines to the next.
+mod Feeding

@@ -1,3 +1,5 @@
--- `Waiting` says which lines wait at a lock, and `Errands` what stays of a feeder.
+-- `Waiting` says which lines wait at a lock, `Calls` what is called for a line and what it becomes by that, and `Errands` what
+-- becomes of a feeder.
 pub mod Waiting
+pub mod Calls
 pub mod Errands

@@ -1,8 +1,9 @@
 //! A feeder, and the lines that it runs.
 
-ghost use Rattle.std.specs.Prelude.{◌≡◌, ◌<◌, ◌≤◌, length, slice_index_or, ℕ};
-ghost use Rattle.line_feeders.specs.declared.feeder.Feeder.{Feeder};
-ghost use Rattle.line_feeders.specs.Errands.{WasRun};
+ghost use Rattle.std.specs.Prelude.{◌≡◌, ◌<◌, length};
+ghost use Rattle.line_feeders.specs.declared.turns.Went.TheVariants as went;
+ghost use Rattle.line_feeders.specs.Calls.{IsAnswer, Advances, RanTo, is_over};
+ghost use Rattle.line_feeders.specs.Errands.{RanErrand, WasRun, WereRun};
 
 use crate::gate::Gate;
 use crate::line_lock::LineLock;
@@ -26,25 +27,40 @@ pub struct Feeder {
     pub done: usize,
 }
 
-/// Lets a line go on until it is to be closed, or isn't to go on.
-fn go_on<T: LineTurns + Drop, R: Wait>(rt: &R, lock: &LineLock<T>, place: usize) {
-    for _ in rt.forever() {
-        if lock.advance(rt, place) != Went::On {
-            return;
-        }
+/// Whether it has its outcome.
+fn is_over(went: Went) -> bool
+    ensures { result ≡ is_over went }
+{
+    match went {
+        Went::Over => true,
+        Went::On | Went::Waits | Went::Ends | Went::Left => false,
     }
 }
 
-/// Runs the line at a place to its outcome. It says whether the line has one now.
-pub fn run_line<T: LineTurns + Drop, R: Wait>(rt: &R, lock: &LineLock<T>, place: usize) -> bool {
-    match lock.begin(rt, place) {
-        Went::Over => true,
-        Went::On => {
-            go_on(rt, lock, place);
-            lock.close(rt, place) == Went::Over
+/// Lets a line go on until it is to be closed, or isn't to go on.
+fn go_on<T: LineTurns + Drop, R: Wait>(rt: &R, lock: &LineLock<T>, place: usize) -> Went
+    ensures last { IsAnswer T.number T.does lock.now Advances place result }
+    ensures not_on { result ≡ went.On → ⊥ }
+{
+    for _ in rt.forever() {
+        let went = lock.advance(rt, place);
+        if went != Went::On {
+            return went;
         }
-        Went::Waits | Went::Ends | Went::Left => false,
     }
+    unreachable!()
+}
+
+/// Runs the line at a place to its outcome. It says whether the line has one now.
+pub fn run_line<T: LineTurns + Drop, R: Wait>(rt: &R, lock: &LineLock<T>, place: usize) -> bool
+    ensures { RanTo (IsAnswer T.number T.does lock.now) place result }
+{
+    let began = lock.begin(rt, place);
+    if began != Went::On {
+        return is_over(began);
+    }
+    let _last = go_on(rt, lock, place);
+    is_over(lock.close(rt, place))
 }
 
 /// Runs a line, and tells the gate of it.
@@ -53,7 +69,9 @@ fn run_errand<T: LineTurns + Drop, G: Gate, R: Wait>(
     locks: &[LineLock<T>],
     gate: &G,
     errand: Errand,
-) -> bool {
+) -> bool
+    ensures { RanErrand (IsAnswer T.number T.does) locks.now errand result }
+{
     let Some(lock) = locks.get(usize::from(errand.lock)) else {
         return false;
     };
@@ -72,7 +90,7 @@ fn feed<T: LineTurns + Drop, G: Gate, R: Wait>(
     gate: &G,
     feeder: &mut Feeder,
 )
-    ensures { WasRun feeder.old feeder.new }
+    ensures { WasRun (IsAnswer T.number T.does) locks.now feeder.old feeder.new }
 {
     feeder.done = 0;
     for place in 0..feeder.errands.len() {
@@ -92,8 +110,7 @@ pub fn run_feeders<T: LineTurns + Drop + Send, G: Gate + Sync, R: Threads + Wait
     feeders: &mut [Feeder],
 )
     requires { 0 < length feeders.old }
-    ensures { (k : ℕ) (f : Feeder) → k < length feeders.old
-        → WasRun (slice_index_or feeders.old k f) (slice_index_or feeders.new k f) }
+    ensures { WereRun (IsAnswer T.number T.does) locks.now feeders.old feeders.new }
 {
     let threads = feeders.len();
     thread::for_each_mut(

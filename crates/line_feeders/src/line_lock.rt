@@ -2,6 +2,7 @@
 
 ghost use Rattle.std.specs.Prelude.{◌≡◌, false};
 ghost use Rattle.line_feeders.specs.Waiting.{waits};
+ghost use Rattle.line_feeders.specs.Calls.{IsAnswer, Begins, Advances, Closes};
 
 use crate::turns::{LineTurns, Went};
 use std::marker::Model;
@@ -63,7 +64,8 @@ impl<T: LineTurns + Drop> LineLock<T> {
 
     /// Begins the line at a place. While another line stands against it, waits until one was closed there, and tries again.
     pub fn begin<R: Wait>(&self, rt: &R, place: usize) -> Went
-        ensures { waits result ≡ false }
+        ensures answer { IsAnswer T.number T.does self.now Begins place result }
+        ensures waits { waits result ≡ false }
     {
         let mut lines = self.lines.lock(rt);
         for _ in rt.forever() {
@@ -81,7 +83,8 @@ impl<T: LineTurns + Drop> LineLock<T> {
 
     /// Lets the line at a place go on by one call, and waits as `begin` does.
     pub fn advance<R: Wait>(&self, rt: &R, place: usize) -> Went
-        ensures { waits result ≡ false }
+        ensures answer { IsAnswer T.number T.does self.now Advances place result }
+        ensures waits { waits result ≡ false }
     {
         let mut lines = self.lines.lock(rt);
         for _ in rt.forever() {
@@ -98,7 +101,9 @@ impl<T: LineTurns + Drop> LineLock<T> {
     }
 
     /// Closes the line at a place; those who wait there try again.
-    pub fn close<R: Wait>(&self, rt: &R, place: usize) -> Went {
+    pub fn close<R: Wait>(&self, rt: &R, place: usize) -> Went
+        ensures { IsAnswer T.number T.does self.now Closes place result }
+    {
         let mut lines = self.lines.lock(rt);
         if lines.number() != self.number {
             return Went::Left;

@@ -1,6 +1,8 @@
 //! Lines that go on by calls.
 
 ghost use Rattle.std.specs.Prelude.{◌≡◌, ℕ};
+ghost use Rattle.line_feeders.specs.Calls.{Call, Begins, Advances, Closes};
+ghost use Rattle.line_feeders.specs.declared.turns.Went.{Went};
 
 /// What became of a line at a call.
 #[derive(Clone, Copy, PartialEq, Eq)]
@@ -22,15 +24,21 @@ pub trait LineTurns {
     /// Which of the groups it is.
     ghost number: { Self → ℕ };
 
+    /// What a call for the line at a place makes of the group, and answers.
+    ghost does: { Call → ℕ → Self → Self → Went → Type 0 };
+
     fn number(&self) -> u8
         ensures { result ≡ number self.now };
 
     /// Begins the line at a place.
-    fn begin(&mut self, place: usize) -> Went;
+    fn begin(&mut self, place: usize) -> Went
+        ensures { does Begins place self.old self.new result };
 
     /// Lets the line at a place go on.
-    fn advance(&mut self, place: usize) -> Went;
+    fn advance(&mut self, place: usize) -> Went
+        ensures { does Advances place self.old self.new result };
 
     /// Closes the line at a place, which then has its outcome.
-    fn close(&mut self, place: usize) -> Went;
+    fn close(&mut self, place: usize) -> Went
+        ensures { does Closes place self.old self.new result };
 }

@@ -138,6 +138,9 @@ impl Round {
         ensures err { OnErr result (self.new ≡ self.old) }
     {
         shown::unite(&mut self.union, &mut self.heard)?;
+        if self.receivers.len() > 1 {
+            self.union.keep_stamps()?;
+        }
         let body = Body::Apply {
             bucket: self.row,
             entries: self.union.copy(alloc)?,

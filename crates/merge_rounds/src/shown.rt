@@ -117,13 +117,19 @@ pub fn take_reply(shown: &mut Vec<NodePieces>, node: u8, reply: Option<Reply>) -
     }
 }
 
-/// Joins the entries that were shown last, if there are any, into the union.
+/// Joins the entries that were shown last, if there are any, into the union. Onto no entry they go as they are.
 pub fn unite(union: &mut EntryMap, heard: &mut Option<EntryMap>) -> Result<(), NoMemory>
     ensures union { OnOk result (union.new ≡ union_with union.old heard.old) }
     ensures heard { OnOk result (heard.new ≡ None) }
     ensures union_stays { OnErr result (union.new ≡ union.old) }
     ensures heard_stays { OnErr result (heard.new ≡ heard.old) }
 {
+    if union.entries() == 0 {
+        if let Some(entries) = heard.take() {
+            *union = entries;
+        }
+        return Ok(());
+    }
     if let Some(entries) = heard {
         join(union, entries)?;
         *heard = None;

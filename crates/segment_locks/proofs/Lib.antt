@@ -1,3 +1,5 @@
 -- Of this crate alone.
 mod Powers
 mod Numbered
+mod Naming
+mod Sending

@@ -1,7 +1,7 @@
 -- The lanes of a segment, without their locks.
 use Rattle.std.specs.Prelude.{◌≡◌, ℕ, List, [], Some, slice_get}
-use Rattle.lane_lives.specs.LaneValues.{LaneValue}
-use Rattle.lane_lives.specs.Lives.{Lines}
+use Rattle.lane_calls.specs.LaneValues.{LaneValue}
+use Rattle.lane_calls.specs.Lines.{Lines}
 use Rattle.lane_core.specs.Shelved.{Shelved}
 use Rattle.lane_locks.specs.declared.lines.Line.{Line}
 use Rattle.lane_locks.specs.declared.lines.Stage.{Stage}

@@ -10,7 +10,8 @@ use Rattle.messages.specs.declared.operation.Operation.{Operation}
 use Rattle.lane_keeping.specs.Tidings.{stopped_next, started_next}
 use Rattle.lane_journals.specs.declared.event.LaneEvent.TheVariants.{Published}
 use Rattle.lane_lives.specs.declared.setting.Setting.{Setting}
-use Rattle.lane_lives.specs.Lives.{Deed, Runs, Maintains, lines_of, last_line, states_in, deed_events}
+use Rattle.lane_lives.specs.Lives.{Deed, Runs, Maintains, lines_of, AreAlone, states_in, deed_events}
+use Rattle.lane_calls.specs.Lines.{last_line}
 use Rattle.session_cluster.specs.Deeds.{first_told, told_with, told_next, told_by, told_of, with_operation, with_state, with_line, with_lines, deeds_of_lane, planned_next, planned_for}
 use Rattle.session_cluster.specs.Lanes.{lane_of_id}
 use Rattle.session_cluster.specs.Spans.{spans_of}
@@ -125,6 +126,38 @@ last_low s us lane told line (c ∷ cs) deeds h =
 
 pub lines_low : (s : Setting) (us : List LineSpans) (lane : ℕ) (cs : List Asked) → last_line (lines_of (deeds_of_lane s us lane cs)) ≤ length cs
 lines_low s us lane cs = let low = last_low s us lane (first_told s) 1 cs [] (omega arith) in omega (arith, low)
+
+-- ---- no feeders are among the deeds
+
+alone_if : (t : Bool) (line : ℕ) (op : Operation) (via : Option ℕ) (deeds : List Deed) → AreAlone deeds → AreAlone (if t then Runs (record { number = line; operation = op; via = via }) ∷ deeds else deeds)
+alone_if true line op via deeds h = h
+alone_if false line op via deeds h = h
+
+alone_state : (o : Option PublishFault) (state : ClusterState) (deaf : ℕ) (deeds : List Deed) → AreAlone deeds → AreAlone (with_state o state deaf deeds)
+alone_state None state deaf deeds h = h
+alone_state (Some why) state deaf deeds h = h
+
+alone_with : (s : Setting) (us : List LineSpans) (lane : ℕ) (told : Told) (line : ℕ) (c : Asked) (deeds : List Deed) → AreAlone deeds → AreAlone (with_line s us lane told line c deeds)
+alone_with s us lane told line command.Blank deeds h = h
+alone_with s us lane told line command.TooLong deeds h = h
+alone_with s us lane told line command.Barrier deeds h = h
+alone_with s us lane told line (command.Bad why) deeds h = h
+alone_with s us lane told line (command.Feed op via) deeds h = alone_if (lane_of_id s.bits op.id == lane) line op via deeds h
+alone_with s us lane told line (command.State state deaf) deeds h = alone_state (publish_fault told state) state deaf deeds h
+alone_with s us lane told line (command.BadState offset) deeds h = h
+alone_with s us lane told line (command.Stop node) deeds h = h
+alone_with s us lane told line (command.Start node) deeds h = h
+alone_with s us lane told line (command.Net at fates) deeds h = h
+alone_with s us lane told line command.Maintain deeds h = h
+alone_with s us lane told line (command.Search query) deeds h = h
+alone_with s us lane told line (command.BadQuery offset) deeds h = h
+
+alone_by : (s : Setting) (us : List LineSpans) (lane : ℕ) (told : Told) (line : ℕ) (cs : List Asked) (deeds : List Deed) → AreAlone deeds → AreAlone (with_lines s us lane told line cs deeds)
+alone_by s us lane told line [] deeds h = h
+alone_by s us lane told line (c ∷ cs) deeds h = alone_by s us lane (told_next c told) (suc line) cs (with_line s us lane told line c deeds) (alone_with s us lane told line c deeds h)
+
+pub lines_alone : (s : Setting) (us : List LineSpans) (lane : ℕ) (cs : List Asked) → AreAlone (deeds_of_lane s us lane cs)
+lines_alone s us lane cs = alone_by s us lane (first_told s) 1 cs [] tt
 
 -- ---- the states among the deeds are those that are told
 

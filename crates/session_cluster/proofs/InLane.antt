@@ -19,11 +19,12 @@ use Rattle.reports.specs.declared.answer.Answer.TheVariants as answer
 use Rattle.lane_journals.specs.Buckets.{key_of}
 use Rattle.lane_journals.specs.Meanings.{history}
 use Rattle.lane_journals.specs.Readers.{held}
-use Rattle.lane_lives.specs.LaneValues.{LaneValue, IsLaneValue}
+use Rattle.lane_calls.specs.LaneValues.{LaneValue, IsLaneValue}
 use Rattle.lane_keeping.specs.Tidings.{last_state}
 use Rattle.lane_lives.specs.declared.setting.Setting.{Setting}
 use Rattle.lane_lives.specs.Settings.{lane_count}
-use Rattle.lane_lives.specs.Lives.{Deed, FeedLine, lines_of, last_line, newest_in}
+use Rattle.lane_lives.specs.Lives.{Deed, lines_of, newest_in}
+use Rattle.lane_calls.specs.Lines.{FeedLine, last_line}
 use Rattle.lane_core.specs.Runs.{IsLineRun}
 use Rattle.lane_lives.specs.Serving.{bucket_in, IsServing}
 use Rattle.lane_core.proofs.Served.{serving_fresh, serving_heard, serving_newest, serving_told}

@@ -4,7 +4,7 @@ use Rattle.std.proofs.lemmas.List.{get_or_past, map-set, length-map}
 use Rattle.std.proofs.lemmas.Nat.{mod_below, pow_pos}
 use Rattle.global_ids.specs.Keys.{key_of, lane_of}
 use Rattle.lane_journals.specs.KeptJournals.{past}
-use Rattle.lane_lives.specs.LaneValues.{LaneValue}
+use Rattle.lane_calls.specs.LaneValues.{LaneValue}
 use Rattle.lane_core.specs.Shelved.{Shelved}
 use Rattle.session_cluster.specs.Cells.{own_lane, lanes_in}
 use Rattle.session_cluster.specs.Lanes.{Journal, lane_of_id, journal_in}

@@ -8,12 +8,12 @@ pub mod FrontLists
 pub mod SearchLaws
 pub mod SessionSteps
 pub mod Moving
+pub mod Passing
 pub mod ShelvedLanes
 -- Of this crate alone.
 mod NotedLists
 mod Reborrowed
 mod InLane
-mod Passing
 mod Openings
 mod NodeSizes
 mod Reports

@@ -11,12 +11,15 @@ use Rattle.messages.specs.declared.operation.Operation.{Operation}
 use Rattle.messages.specs.declared.outcome.Outcome.{Outcome}
 use Rattle.bucket_ids.specs.Buckets.{Low}
 use Rattle.distributor_part.specs.declared.rules.Rules.{Rules}
-use Rattle.lane_lives.specs.LaneValues.{LaneValue}
+use Rattle.lane_calls.specs.LaneValues.{LaneValue}
 use Rattle.lane_lives.specs.declared.setting.Setting.{Setting}
-use Rattle.lane_lives.specs.Lives.{FeedLine, Announces, Stops, Starts, Runs, Maintains, IsCarriedOut, outcome_in}
+use Rattle.lane_calls.specs.Lines.{FeedLine, IsCarriedOut}
+use Rattle.lane_lives.specs.Lives.{Announces, Stops, Starts, Runs, Maintains}
+use Rattle.lane_calls.specs.Readings.{outcome_in}
 use Rattle.lane_lives.specs.Serving.{bucket_in}
-use Rattle.lane_lives.proofs.OneLine.{IsLine, deed_is}
-use Rattle.lane_lives.proofs.Upkept.{pass_made}
+use Rattle.lane_calls.proofs.OneLine.{IsLine}
+use Rattle.lane_lives.proofs.Deeds.{deed_is}
+use Rattle.lane_calls.proofs.Upkept.{pass_made}
 use Rattle.reports.specs.declared.answer.Answer.TheVariants as answer
 use Rattle.session_cluster.specs.Cells.{Cell, journals}
 use Rattle.session_cluster.specs.Keeping.{IsKept}

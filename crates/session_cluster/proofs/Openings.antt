@@ -1,7 +1,7 @@
 -- The lanes that are made, one after the other.
 use Rattle.std.proofs.Common.{◌≡◌, ◌⊎◌, ◌<◌, ◌+◌, ℕ, zero, suc, List, [], ◌∷◌, ◌++◌, Some, inl, inr, refl, sym, ap, ◌∙◌, subst, arith, length, length-append, slice_get}
 use Rattle.carriers.specs.declared.fate.Fate.{Fate}
-use Rattle.lane_lives.specs.LaneValues.{LaneValue}
+use Rattle.lane_calls.specs.LaneValues.{LaneValue}
 use Rattle.lane_lives.specs.declared.setting.Setting.{Setting}
 use Rattle.lane_lives.specs.Serving.{IsServing}
 use Rattle.session_cluster.specs.Cells.{Cell, ShownLane, lanes_in}

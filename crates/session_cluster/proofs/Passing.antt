@@ -1,13 +1,18 @@
 -- Upkeep in one lane after the other.
 use Rattle.std.proofs.Common.{◌≡◌, ◌⊎◌, ◌<◌, ◌≤◌, ◌+◌, ℕ, zero, suc, List, [], ◌∷◌, ◌++◌, None, Some, inl, inr, refl, sym, ap, ◌∙◌, subst, arith, length, length-append, length-set, set, slice_get, slice_index_or, Result, OnOk}
 use Rattle.value_lists.specs.declared.no_memory.NoMemory.{NoMemory}
-use Rattle.lane_lives.specs.LaneValues.{LaneValue, IsLaneValue}
-use Rattle.lane_lives.specs.Upkeep.{MayBeUpkept, IsSpan}
+use Rattle.lane_calls.specs.LaneValues.{LaneValue, IsLaneValue}
+use Rattle.bucket_ids.specs.Buckets.{Low}
+use Rattle.distributor_part.specs.declared.rules.Rules.{Rules}
+use Rattle.lane_core.specs.Passes.{MakesPass, IsPassed}
+use Rattle.lane_lives.specs.Serving.{bucket_in}
+use Rattle.lane_lives.specs.declared.setting.Setting.{Setting}
+use Rattle.lane_lives.specs.Upkeep.{MayBeUpkept}
 use Rattle.lane_lives.specs.declared.spans.UpkeepSpan.{UpkeepSpan}
 use Rattle.std.proofs.lemmas.List.{length-map}
 use Rattle.session_cluster.specs.Cells.{Cell, ShownLane, own_lane, lanes_in}
 use Rattle.session_cluster.specs.Output.{upkeep_answer}
-use Rattle.session_cluster.specs.Spans.{spans_of}
+use Rattle.session_cluster.specs.Spans.{spans_of, PassesInOrder}
 use Rattle.session_cluster.specs.Steps.{MayHavePassed, MayHaveAllPassed, AreSpans, HasSpans, IsMaintained}
 use Rattle.session_cluster.proofs.Elements.{element_set}
 use Rattle.session_cluster.proofs.ShelvedLanes.{lanes_set}
@@ -18,7 +23,7 @@ pub record PassedSoFar (i : ℕ) (vs ws : List LaneValue) (spans : List UpkeepSp
   pub lanes_count : length ws ≡ length vs
   pub spans_count : length spans ≡ i
   pub each : (lane : ℕ) (v w : LaneValue) → slice_get vs lane ≡ Some v → slice_get ws lane ≡ Some w → MayHavePassed v w
-  pub done : (lane : ℕ) (v w : LaneValue) (span : UpkeepSpan) → slice_get vs lane ≡ Some v → slice_get ws lane ≡ Some w → slice_get spans lane ≡ Some span → IsSpan span v w
+  pub done : (lane : ℕ) (v w : LaneValue) (span : UpkeepSpan) → slice_get vs lane ≡ Some v → slice_get ws lane ≡ Some w → slice_get spans lane ≡ Some span → IsPassed span v w
   pub rest : (lane : ℕ) → i ≤ lane → slice_get ws lane ≡ slice_get vs lane
 
 some_is : {X : Type 0} {x y : X} → Some x ≡ Some y → x ≡ y
@@ -70,14 +75,14 @@ module _ (i : ℕ) (vs ws : List LaneValue) (spans : List UpkeepSpan) (x y : Lan
     | inr new ↦ inr (omega (arith, new.0), new.1)
   ]
 
-  done_with : (span : UpkeepSpan) → IsSpan span x y → (lane : ℕ) (v w : LaneValue) (t : UpkeepSpan) → slice_get vs lane ≡ Some v → slice_get (set ws i y) lane ≡ Some w → slice_get (spans ++ span ∷ []) lane ≡ Some t → IsSpan t v w
+  done_with : (span : UpkeepSpan) → IsPassed span x y → (lane : ℕ) (v w : LaneValue) (t : UpkeepSpan) → slice_get vs lane ≡ Some v → slice_get (set ws i y) lane ≡ Some w → slice_get (spans ++ span ∷ []) lane ≡ Some t → IsPassed t v w
   done_with span made lane v w t before after at = elim (last_of spans span lane t at) [
     | inl old ↦ elim (element_set ws i lane y w after) [
       | inl here ↦ absurd (omega (arith, old.0, here.0, so.spans_count))
       | inr other ↦ so.done lane v w t before other.1 old.1
     ]
     | inr new ↦ elim (element_set ws i lane y w after) [
-      | inl here ↦ subst (λ (z : LaneValue). IsSpan t z w) (some_is (sym was ∙ ap (slice_get vs) here.0 ∙ before)) (subst (IsSpan t x) here.1 (subst (λ (u : UpkeepSpan). IsSpan u x y) new.1 made))
+      | inl here ↦ subst (λ (z : LaneValue). IsPassed t z w) (some_is (sym was ∙ ap (slice_get vs) here.0 ∙ before)) (subst (IsPassed t x) here.1 (subst (λ (u : UpkeepSpan). IsPassed u x y) new.1 made))
       | inr other ↦ absurd (other.0 (omega (arith, new.0, so.spans_count)))
     ]
   ]
@@ -93,18 +98,18 @@ module _ (i : ℕ) (vs ws : List LaneValue) (spans : List UpkeepSpan) (x y : Lan
       other_there (u ∷ us) (suc i) (suc lane) h = other_there us i lane (omega (arith, h))
 
   -- with its span
-  pub passed_more : (span : UpkeepSpan) (noted : List UpkeepSpan) → IsSpan span x y → IsLaneValue y → noted ≡ spans ++ span ∷ [] → PassedSoFar (i + 1) vs (set ws i y) noted
+  pub passed_more : (span : UpkeepSpan) (noted : List UpkeepSpan) → IsPassed span x y → IsLaneValue y → noted ≡ spans ++ span ∷ [] → PassedSoFar (i + 1) vs (set ws i y) noted
   passed_more span noted made holds now = subst (PassedSoFar (i + 1) vs (set ws i y)) (sym now) (record {
     lanes_count = length-set ws i y ∙ so.lanes_count;
     spans_count = omega (arith, length-append spans (span ∷ []), so.spans_count);
-    each = each_with (inr (made.pass, holds));
+    each = each_with (inr ((made.spans).pass, holds));
     done = done_with span made;
     rest = rest_with;
   })
 
 -- of lanes with their shelves
 pub passed-more-in : (i : ℕ) (vs : List LaneValue) (xs : List ShownLane) (spans : List UpkeepSpan) (x : LaneValue) (y : ShownLane) → PassedSoFar i vs (lanes_in xs) spans → slice_get vs i ≡ Some x
-    → (span : UpkeepSpan) (noted : List UpkeepSpan) → IsSpan span x y.lane → IsLaneValue y.lane → noted ≡ spans ++ span ∷ [] → PassedSoFar (i + 1) vs (lanes_in (set xs i y)) noted
+    → (span : UpkeepSpan) (noted : List UpkeepSpan) → IsPassed span x y.lane → IsLaneValue y.lane → noted ≡ spans ++ span ∷ [] → PassedSoFar (i + 1) vs (lanes_in (set xs i y)) noted
 passed-more-in i vs xs spans x y so was span noted made holds now =
     subst (λ (ws : List LaneValue). PassedSoFar (i + 1) vs ws noted) (sym (lanes_set xs i y)) (passed_more i vs (lanes_in xs) spans x y.lane so was span noted made holds now)
 
@@ -170,3 +175,9 @@ lanes_spans r old inside vs ws shown spans is same are shows =
 -- few lanes have few spans
 pub few_spans : (vs ws : List LaneValue) (spans shown : List UpkeepSpan) → AreSpans vs ws spans → shown ≡ spans → length vs ≤ 64 → length shown ≤ 64
 few_spans vs ws spans shown are same few = omega (arith, ap length same, are.count, few)
+
+-- the pass of a lane that is set up as the session has it
+pub passes_in_order : (s : Setting) (lane : ℕ) (v w : LaneValue) (span : UpkeepSpan) → v.lane ≡ bucket_in s lane → v.rules ≡ s.rules → IsPassed span v w → PassesInOrder s lane v.journal w.journal w.given
+passes_in_order s lane v w span bucket rules made =
+    subst (λ (r : Rules). MakesPass (bucket_in s lane) r v.journal w.journal w.given) rules
+    (subst (λ (b : Low). MakesPass b v.rules v.journal w.journal w.given) bucket made.passes)

@@ -1,7 +1,7 @@
 -- A session of which the lanes were lent out and came back.
 use Rattle.std.proofs.Common.{◌≡◌, ◌⊎◌, ℕ, List, Result, Ok, Err, OnOk, OnErr, inl, inr, refl, sym, ap, ap₂, ◌∙◌, subst, length, map}
 use Rattle.std.proofs.lemmas.List.{length-map}
-use Rattle.lane_lives.specs.LaneValues.{LaneValue}
+use Rattle.lane_calls.specs.LaneValues.{LaneValue}
 use Rattle.lane_lives.specs.declared.setting.Setting.{Setting}
 use Rattle.shelves.specs.Plain.{Plain}
 use Rattle.lane_core.specs.Shelved.{with_lane}

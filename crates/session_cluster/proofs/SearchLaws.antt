@@ -5,7 +5,7 @@ use Rattle.std.proofs.lemmas.List.{map-append, take_all}
 use Rattle.doc_types.specs.SchemaCodes.{Types}
 use Rattle.lane_changes.specs.Changes.{changes_of}
 use Rattle.lane_core.specs.Showing.{view_in}
-use Rattle.lane_lives.specs.LaneValues.{LaneValue}
+use Rattle.lane_calls.specs.LaneValues.{LaneValue}
 use Rattle.query_groups.specs.declared.answers.SearchAnswer.{SearchAnswer}
 use Rattle.query_text.specs.Grammar.{Said}
 use Rattle.query_text.specs.declared.query.Query.{Query}

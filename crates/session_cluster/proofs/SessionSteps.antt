@@ -9,9 +9,10 @@ use Rattle.cluster_states.specs.declared.cluster_state.ClusterState.{ClusterStat
 use Rattle.cluster_states.specs.declared.states.PublishFault.{PublishFault}
 use Rattle.messages.specs.declared.operation.Operation.{Operation}
 use Rattle.messages.specs.declared.outcome.Outcome.{Outcome}
-use Rattle.lane_lives.specs.LaneValues.{LaneValue, IsLaneValue}
+use Rattle.lane_calls.specs.LaneValues.{LaneValue, IsLaneValue}
 use Rattle.lane_lives.specs.declared.setting.Setting.{Setting}
-use Rattle.lane_lives.specs.Lives.{Deed, Announces, Stops, Starts, Runs, Maintains, lines_of, last_line}
+use Rattle.lane_lives.specs.Lives.{Deed, Announces, Stops, Starts, Runs, Maintains, lines_of}
+use Rattle.lane_calls.specs.Lines.{last_line}
 use Rattle.lane_lives.specs.Serving.{IsServing}
 use Rattle.lane_core.proofs.Served.{serves_run, serves_announced, serves_stopped, serves_started, serves_room, serves_planned, serves_upkept, serves_spanned}
 use Rattle.session_cluster.specs.Cells.{Cell}
@@ -298,7 +299,7 @@ module _ (s : Setting) (plans : ℕ → List Fate) (cs : List Asked) (old new : 
         record {
           noted = Some x.0;
           is = ap (at_lane lane) (ap (spans_of k) h.noted ∙ spans_own k old.upkeeps (record { line = k; spans = h.spans }) refl own_none) ∙ x.1;
-          serves = serves_spanned s p lane deeds v w x.0 (kept.serving lane v was) ((h.are).each lane v w x.0 was at x.1) legal.1;
+          serves = serves_spanned s p lane deeds v w x.0 (kept.serving lane v was) ((h.are).each lane v w x.0 was at x.1).spans legal.1;
         }
 
     serves_noted : IsNotedSo s p lane k deeds new.upkeeps w → IsServing s (planned_for lane w.takes_plans (plans lane) cs) lane (Maintains (span_in lane k new.upkeeps) ∷ deeds) w

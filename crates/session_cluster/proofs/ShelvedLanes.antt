@@ -8,7 +8,7 @@ use Rattle.shelves.specs.Plain.{Plain, ShowsPlain}
 use Rattle.lane_changes.specs.Changes.{changes_of}
 use Rattle.lane_core.specs.Shelved.{Shelved, with_lane, OfLane}
 use Rattle.lane_core.specs.Showing.{IsSettled}
-use Rattle.lane_lives.specs.LaneValues.{LaneValue}
+use Rattle.lane_calls.specs.LaneValues.{LaneValue}
 use Rattle.session_cluster.specs.Cells.{Cell, ShownLane, ShownCell, own_lane, own_shelf, lanes_in, shelves_in}
 use Rattle.session_cluster.specs.Steps.{EachLane, HasFew, IsSettledLane, AreSettled, AreOpened, settled_shelf, first_view, unheard}
 use Rattle.session_cluster.proofs.Elements.{element_map, element_set, map_there}

@@ -6,7 +6,7 @@ use Rattle.cluster_states.specs.declared.cluster_state.ClusterState.{ClusterStat
 use Rattle.cluster_states.specs.contracts.cluster_state.ClusterState as states
 use Rattle.shelves.specs.Plain.{Plain, plain_code}
 use Rattle.lane_core.specs.Shelved.{Shelved}
-use Rattle.lane_lives.specs.LaneValues.{LaneValue, lane_code}
+use Rattle.lane_calls.specs.LaneValues.{LaneValue, lane_code}
 use Rattle.lane_journals.specs.declared.event.LaneEvent.{LaneEvent}
 use Rattle.session_cluster.specs.declared.cluster.LineSpans.{LineSpans}
 use Rattle.session_cluster.specs.contracts.cluster.LineSpans as line_spans

@@ -1,7 +1,7 @@
 -- What holds of the lanes between two lines.
 use Rattle.std.specs.Prelude.{◌≡◌, ◌<◌, ℕ, ◌+◌, List, [], length, None, Some, slice_get}
 use Rattle.carriers.specs.declared.fate.Fate.{Fate}
-use Rattle.lane_lives.specs.LaneValues.{LaneValue}
+use Rattle.lane_calls.specs.LaneValues.{LaneValue}
 use Rattle.lane_lives.specs.Settings.{lane_count, IsSetting}
 use Rattle.lane_lives.specs.declared.setting.Setting.{Setting}
 use Rattle.lane_lives.specs.Serving.{IsServing}

@@ -7,7 +7,7 @@ use Rattle.lane_journals.specs.KeptJournals.{IsLegal}
 use Rattle.lane_journals.specs.declared.event.LaneEvent.{LaneEvent}
 use Rattle.lane_keeping.specs.LaneKeeping.{setting_of}
 use Rattle.lane_lives.specs.declared.setting.Setting.{Setting}
-use Rattle.lane_lives.specs.Lives.{told_events}
+use Rattle.lane_calls.specs.Readings.{told_events}
 use Rattle.lane_lives.specs.Serving.{bucket_in}
 
 abbrev pub Journal : Type 0

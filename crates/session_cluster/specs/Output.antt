@@ -10,10 +10,10 @@ use Rattle.documents.specs.Fields.{Contents}
 use Rattle.documents.specs.declared.entry.Entry.{Entry}
 use Rattle.session_cluster.specs.declared.asked.Asked.{Asked}
 use Rattle.session_cluster.specs.declared.asked.Asked.TheVariants as command
-use Rattle.lane_lives.specs.LaneValues.{LaneValue}
+use Rattle.lane_calls.specs.LaneValues.{LaneValue}
 use Rattle.lane_journals.specs.Meanings.{entry_at}
 use Rattle.lane_lives.specs.declared.setting.Setting.{Setting}
-use Rattle.lane_lives.specs.Lives.{outcome_in}
+use Rattle.lane_calls.specs.Readings.{outcome_in}
 use Rattle.messages.specs.declared.outcome.Outcome.{Outcome}
 use Rattle.messages.specs.declared.outcome.Outcome.TheVariants as outcome
 use Rattle.query_text.specs.Grammar.{Said}

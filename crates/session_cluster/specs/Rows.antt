@@ -7,14 +7,17 @@ use Rattle.cluster_states.specs.declared.cluster_state.ClusterState.{ClusterStat
 use Rattle.cluster_states.specs.declared.marks.Mark.TheVariants.{Down}
 use Rattle.global_ids.specs.Keys.{lane_bucket}
 use Rattle.ideal_nodes.specs.Placement.{IsOwner}
-use Rattle.lane_lives.specs.LaneValues.{LaneValue}
+use Rattle.lane_calls.specs.LaneValues.{LaneValue}
 use Rattle.lane_keeping.specs.Shown.{HasRows}
+use Rattle.lane_core.specs.Showing.{AreActivated}
 use Rattle.lane_journals.specs.Meanings.{history}
 use Rattle.lane_journals.specs.Readers.{held}
 
--- the rows are those of the distributor where it holds the state; else there are none
+-- the rows are those of the distributor where it holds the state, and those that say so were accepted by their active
+-- nodes; else there are none
 abbrev pub AreRowsAt : ClusterState → LaneValue → ℕ → List Row → Type 0
-AreRowsAt s v d rows = ((held d (history v.journal) ≡ Some s.version) × HasRows v.lane v.rules v.journal d rows)
+AreRowsAt s v d rows = ((held d (history v.journal) ≡ Some s.version)
+    × (HasRows v.lane v.rules v.journal d rows × AreActivated d v.journal rows))
     ⊎ ((held d (history v.journal) ≢ Some s.version) × (rows ≡ []))
 
 -- those of the distributor that owns the lane under a state

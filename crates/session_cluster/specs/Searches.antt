@@ -5,7 +5,7 @@ use Rattle.cluster_states.specs.declared.cluster_state.ClusterState.{ClusterStat
 use Rattle.doc_types.specs.SchemaCodes.{Types}
 use Rattle.lane_changes.specs.Changes.{changes_of}
 use Rattle.lane_core.specs.Showing.{all_changes}
-use Rattle.lane_lives.specs.LaneValues.{LaneValue}
+use Rattle.lane_calls.specs.LaneValues.{LaneValue}
 use Rattle.session_cluster.specs.Lanes.{Journal}
 use Rattle.session_cluster.specs.Noted.{noted_of}
 use Rattle.session_cluster.specs.declared.searching.LineFronts.{LineFronts}

@@ -4,6 +4,11 @@ use Rattle.std.specs.List.{count_by}
 use Rattle.upkeep_spans.specs.declared.answers.Upkeep.{Upkeep}
 use Rattle.upkeep_spans.specs.declared.answers.Upkeep.TheVariants.{Rested, Blocked, Disturbed}
 use Rattle.lane_lives.specs.declared.spans.UpkeepSpan.{UpkeepSpan}
+use Rattle.carriers.specs.declared.fate.Fate.{Fate}
+use Rattle.lane_core.specs.Passes.{MakesPass}
+use Rattle.lane_journals.specs.declared.event.LaneEvent.{LaneEvent}
+use Rattle.lane_lives.specs.Serving.{bucket_in}
+use Rattle.lane_lives.specs.declared.setting.Setting.{Setting}
 use Rattle.session_cluster.specs.Noted.{noted_of}
 use Rattle.session_cluster.specs.declared.cluster.LineSpans.{LineSpans}
 
@@ -30,3 +35,8 @@ is_disturbed _ = false
 -- in how many lanes the answer is of a kind
 abbrev pub count_of : (Upkeep → Bool) → List UpkeepSpan → ℕ
 count_of is spans = count_by (λ (s : UpkeepSpan). is s.answer) spans
+
+-- a pass that led a lane from one journal to another went in the order of its rule, whatever was lost; the carrier had given
+-- these fates as it ended
+abbrev pub PassesInOrder : Setting → ℕ → List LaneEvent → List LaneEvent → List Fate → Type 0
+PassesInOrder s lane J K now = MakesPass (bucket_in s lane) s.rules J K now

@@ -15,16 +15,16 @@ use Rattle.lane_journals.specs.Places.{told}
 use Rattle.lane_journals.specs.Readers.{held}
 use Rattle.lane_keeping.specs.LaneKeeping.{setting_of}
 use Rattle.lane_keeping.specs.Tidings.{announced, stopped_next, started_next, last_state}
-use Rattle.lane_lives.specs.LaneValues.{LaneValue, IsLaneValue}
-use Rattle.lane_lives.specs.Upkept.{Maintains}
+use Rattle.lane_calls.specs.LaneValues.{LaneValue, IsLaneValue}
+use Rattle.lane_calls.specs.Upkept.{Maintains}
 use Rattle.lane_keeping.specs.Lines.{IsFresh}
 use Rattle.lane_lives.specs.declared.setting.Setting.{Setting}
+use Rattle.lane_core.specs.Passes.{IsPassed}
 use Rattle.lane_core.specs.Runs.{IsLineRun}
 use Rattle.lane_core.specs.Showing.{all_changes, view_in}
 use Rattle.shelves.specs.Plain.{Plain}
 use Rattle.view_changes.specs.Opening.{opening}
 use Rattle.view_changes.specs.Views.{View}
-use Rattle.lane_lives.specs.Upkeep.{IsSpan}
 use Rattle.lane_lives.specs.declared.spans.UpkeepSpan.{UpkeepSpan}
 use Rattle.session_cluster.specs.Cells.{Cell, ShownLane, ShownCell}
 use Rattle.session_cluster.specs.Deeds.{told_with}
@@ -137,11 +137,11 @@ pub record MayHaveAllPassed (vs ws : List LaneValue) : Type 0 where
   pub count : length ws ≡ length vs
   pub each : (lane : ℕ) (v w : LaneValue) → slice_get vs lane ≡ Some v → slice_get ws lane ≡ Some w → MayHavePassed v w
 
--- each lane made the pass that its span tells
+-- each lane made the pass that its span tells, in the order of its rule
 pub record AreSpans (vs ws : List LaneValue) (spans : List UpkeepSpan) : Type 0 where
   pub count : length spans ≡ length vs
   pub each : (lane : ℕ) (v w : LaneValue) (span : UpkeepSpan) → slice_get vs lane ≡ Some v → slice_get ws lane ≡ Some w
-      → slice_get spans lane ≡ Some span → IsSpan span v w
+      → slice_get spans lane ≡ Some span → IsPassed span v w
 
 -- these spans are noted for the line
 pub record HasSpans (line : ℕ) (old new : Cell) : Type 0 where

@@ -4,7 +4,7 @@ ghost use Rattle.std.specs.Prelude.{◌≡◌, ◌<◌, ◌≤◌, ◌^◌, ◌�
 ghost use Rattle.std.specs.Option.{option_copied};
 ghost use Rattle.cluster_states.specs.Publishing.{publish_fault};
 ghost use Rattle.global_ids.specs.Keys.{key_of, lane_of};
-ghost use Rattle.lane_lives.specs.LaneValues.{LaneValue};
+ghost use Rattle.lane_calls.specs.LaneValues.{LaneValue};
 ghost use Rattle.op_machine.specs.Plans.{IsPlainGet};
 ghost use Rattle.messages.specs.declared.outcome.Outcome.{Outcome};
 ghost use Rattle.op_machine.specs.Plans.{IsOwn};

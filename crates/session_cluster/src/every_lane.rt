@@ -2,7 +2,7 @@
 
 ghost use Rattle.std.specs.Prelude.{◌≡◌, ◌<◌, [], map, OnOk, OnErr};
 ghost use Rattle.lane_core.specs.Shelved.{with_lane, OfLane};
-ghost use Rattle.lane_lives.specs.LaneValues.{IsLaneValue};
+ghost use Rattle.lane_calls.specs.LaneValues.{IsLaneValue};
 ghost use Rattle.session_cluster.specs.Cells.{lanes_in, shelves_in};
 ghost use Rattle.session_cluster.specs.Steps.{with_room, without_room, after_state, after_stop, after_start, EachLane, IsRoomy, MayAnnounce, MayMaintain, MayHaveAllPassed, AreSpans};
 

@@ -1,4 +1,4 @@
-ghost use Rattle.std.specs.Prelude.{◌≡◌, ◌+◌, ◌<◌, true, false, filter, IfOk};
+ghost use Rattle.std.specs.Prelude.{◌≡◌, ◌+◌, ◌<◌, ◌≤◌, true, false, filter, IfOk};
 ghost use Rattle.std.specs.List.{list_any};
 ghost use Rattle.std.specs.FinMap as fin;
 ghost use Rattle.node_rows.specs.TypedRows.{with_rows, all_taken};
@@ -20,7 +20,8 @@ pub const MOST: u64 = 4_294_967_295;
 
 /// Whether an entry that comes with a mark finds a place.
 pub fn has_room(entries: &EntryMap, ready: bool) -> bool
-    ensures { result ≡ true → ready ≡ true → fin.len entries.now + 1 < 4294967295 }
+    ensures fits { result ≡ true → ready ≡ true → fin.len entries.now + 1 < 4294967295 }
+    ensures full { result ≡ false → (ready ≡ true) × (4294967295 ≤ fin.len entries.now + 1) }
 {
     !ready || entries.entries() < MOST - 1
 }
@@ -65,7 +66,8 @@ fn are_known(there: &EntryMap, list: &[SharedEntry]) -> bool
 
 /// Whether all of two maps' entries find places.
 fn do_fit(there: &EntryMap, others: &EntryMap) -> bool
-    ensures { result ≡ true → fin.len there.now + fin.len others.now < 4294967295 }
+    ensures fits { result ≡ true → fin.len there.now + fin.len others.now < 4294967295 }
+    ensures full { result ≡ false → 4294967295 ≤ fin.len there.now + fin.len others.now }
 {
     let many = others.entries();
     many < MOST && there.entries() < MOST - many

@@ -1,4 +1,4 @@
-use Rattle.feed_lines.proofs.BareLines.{bare_get, bare_remove}
+use Rattle.feed_lines.proofs.GetsAndRemoves.{bare_get, bare_remove}
 use Rattle.feed_lines.proofs.LineLaws.{put_means, means_put, update_means, means_update, remove_means, means_remove, get_means, means_get}
 use Rattle.feed_lines.proofs.laws.lines_are_operations.Goals as goal
 

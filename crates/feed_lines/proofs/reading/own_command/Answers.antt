@@ -20,7 +20,7 @@ pub returns-in-Net : goal.returns-in-Net
 returns-in-Net c = rw c.in-Net.is (rw (net_is c.args.schema.now c.args.bits (view c.args.line.now)) at c.net_command.ensures)
 
 pub returns-in-Maintain : goal.returns-in-Maintain
-returns-in-Maintain c = rw c.in-Maintain.is (rw (maintain_is c.args.schema.now c.args.bits (view c.args.line.now)) at c.maintain_command.ensures)
+returns-in-Maintain c = rw c.in-Maintain.is (rw (maintain_is c.args.schema.now c.args.bits (view c.args.line.now)) at c.bare_command.ensures)
 
 pub returns-in-Barrier : goal.returns-in-Barrier
-returns-in-Barrier c = rw c.in-Barrier.is (rw (barrier_is c.args.schema.now c.args.bits (view c.args.line.now)) at c.barrier_command.ensures)
+returns-in-Barrier c = rw c.in-Barrier.is (rw (barrier_is c.args.schema.now c.args.bits (view c.args.line.now)) at c.bare_command-in-Barrier.ensures)

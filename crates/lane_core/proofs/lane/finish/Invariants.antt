@@ -1,5 +1,5 @@
 use Rattle.std.proofs.Common.{◌≡◌}
-use Rattle.lane_lives.specs.declared.progress.UnderWay.{UnderWay}
+use Rattle.lane_calls.specs.declared.progress.UnderWay.{UnderWay}
 use Rattle.lane_core.specs.Runs.{IsAlone, IsGoing, left_in}
 use Rattle.lane_core.proofs.lane.finish.Given as goal
 

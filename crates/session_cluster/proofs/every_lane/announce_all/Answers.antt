@@ -3,7 +3,7 @@ use Rattle.cluster_states.specs.Publishing.{publish_fault}
 use Rattle.lane_journals.specs.Places.{told}
 use Rattle.lane_keeping.specs.LaneKeeping.{setting_of}
 use Rattle.lane_core.specs.Shelved.{with_lane, OfLane}
-use Rattle.lane_lives.specs.LaneValues.{IsLaneValue}
+use Rattle.lane_calls.specs.LaneValues.{IsLaneValue}
 use Rattle.session_cluster.specs.Cells.{ShownLane}
 use Rattle.session_cluster.specs.Steps.{after_state}
 use Rattle.session_cluster.proofs.Elements.{each_more, each_there, below_none, below_set, below_all}

@@ -35,7 +35,7 @@ returns-in_err-push-clause-passed g c =
     subst (MayHaveAllPassed (lanes_in c.args.lanes.now)) (sym (lanes_set c.loop-lane.lanes c.loop-lane.lane-index c.maintain.new.lane))
     (passed_cut _ _ _ _ _ _ c.loop-lane.invariant.0
     (subst (λ (s : ShownLane). slice_get (lanes_in c.args.lanes.now) c.loop-lane.lane-index ≡ Some s.lane) c.lane-item.is (next_there _ _ _ _ _ c.loop-lane.invariant.0 (below_lanes c.args.lanes.now c.loop-lane.lane-index c.loop-lane-test.true) (lane_index c.loop-lane.lanes c.loop-lane.lane-index c.lane-item.result c.lane-item.is)))
-    (inr (c.in_ok-span.ensures.ok).pass) c.maintain.ensures.holds)
+    (inr ((c.in_ok-span.ensures.ok).spans).pass) c.maintain.ensures.holds)
 
 pub returns-in_err-push-clause-shelves : goal.returns-in_err-push-clause-shelves
 returns-in_err-push-clause-shelves g c = shelves_set c.loop-lane.lanes c.loop-lane.lane-index c.maintain.new.lane c.lane-item.result c.maintain.ensures.shelf ∙ c.loop-lane.invariant.1

@@ -1,6 +1,6 @@
 use Rattle.std.proofs.Common.{◌≡◌, true, [], subst, refl, arith}
 use Rattle.lane_core.specs.Shelved.{with_lane, OfLane}
-use Rattle.lane_lives.specs.LaneValues.{IsLaneValue}
+use Rattle.lane_calls.specs.LaneValues.{IsLaneValue}
 use Rattle.session_cluster.specs.Cells.{ShownLane}
 use Rattle.session_cluster.specs.Steps.{after_start}
 use Rattle.session_cluster.proofs.Elements.{each_more, each_there, below_none, below_set, below_all}

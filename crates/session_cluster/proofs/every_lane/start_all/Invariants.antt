@@ -1,6 +1,6 @@
 use Rattle.std.proofs.Common.{◌≡◌, ◌++◌, map, take, drop}
 use Rattle.lane_core.specs.Shelved.{with_lane, OfLane}
-use Rattle.lane_lives.specs.LaneValues.{IsLaneValue}
+use Rattle.lane_calls.specs.LaneValues.{IsLaneValue}
 use Rattle.session_cluster.specs.Steps.{after_start}
 use Rattle.session_cluster.proofs.Elements.{Below}
 use Rattle.session_cluster.proofs.every_lane.start_all.Given as goal

@@ -1,6 +1,6 @@
 use Rattle.std.proofs.Common.{subst}
 use Rattle.upkeep_spans.specs.Watches.{takes_plans, planned_in}
-use Rattle.lane_lives.specs.LaneValues.{IsLaneValue}
+use Rattle.lane_calls.specs.LaneValues.{IsLaneValue}
 use Rattle.lane_core.proofs.Shelves.{lane-is}
 use Rattle.lane_core.proofs.Shown.{lane-value}
 use Rattle.lane_core.proofs.lane.Lane.journal.Goals as goal

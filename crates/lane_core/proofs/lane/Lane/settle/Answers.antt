@@ -2,7 +2,7 @@ use Rattle.std.proofs.Common.{◌<◌, ◌∙◌, List, length, sym, ap, subst}
 use Rattle.std.proofs.lemmas.Result.{on_ok_weaker}
 use Rattle.lane_journals.specs.declared.event.LaneEvent.{LaneEvent}
 use Rattle.lane_changes.specs.Changes.{changes_of}
-use Rattle.lane_lives.specs.LaneValues.{LaneValue}
+use Rattle.lane_calls.specs.LaneValues.{LaneValue}
 use Rattle.upkeep_spans.specs.Watches.{takes_plans, planned_in}
 use Rattle.lane_core.specs.Shelved.{HoldsFirst}
 use Rattle.lane_core.proofs.Shelves.{has-first, shows-then}

@@ -2,9 +2,10 @@ use Rattle.std.proofs.Common.{◌≡◌, ◌∙◌, List, [], length, slice_get,
 use Rattle.std.specs.Option.{option_copied}
 use Rattle.lane_states.specs.LaneStates.{journal_of}
 use Rattle.upkeep_spans.specs.Watches.{takes_plans, planned_in}
-use Rattle.lane_lives.specs.LaneValues.{LaneValue, OfFirst, IsAny}
+use Rattle.lane_calls.specs.LaneValues.{LaneValue, OfFirst, IsAny}
 use Rattle.lane_core.specs.declared.work.Job.{Job}
-use Rattle.lane_core.proofs.Told.{behind-pass, inside-of, before-of, none-there, held-first, lane-told, lane-short}
+use Rattle.lane_core.specs.Works.{value_of}
+use Rattle.lane_core.proofs.Told.{behind-pass, inside-of, before-of, none-there, held-first, lane-told, lane-short, lane-passed, none-passed}
 use Rattle.lane_core.proofs.Shelves.{lane-is}
 use Rattle.lane_core.proofs.lane.Lane.upkeep.Goals as goal
 use Rattle.lane_core.proofs.lane.Lane.upkeep.Goals.{in-Ok, in-Err}
@@ -39,3 +40,10 @@ returns-clause-upkept g c = elim c.match-upkeep.branch [
   where
     idle : (x : goal.Joined-upkeep g) → x.self.inside.work.jobs.items ≡ []
     idle x = none-there x.self.inside.work.jobs.items (sym (ap (λ (js : List Job). slice_get js 0) x.deref.ensures.value) ∙ sym x.first.ensures.value ∙ ap option_copied x.in_default.is)
+
+pub returns-clause-passes : goal.returns-clause-passes
+returns-clause-passes g c = elim c.match-upkeep.branch [
+  | in-Ok w ↦ lane-passed c.self.inside.work c.upkeep.new.self c.self.inside.carrier.given c.upkeep.new.carrier.given (planned_in c.self.inside.carrier.plans) (planned_in c.upkeep.new.carrier.plans) (takes_plans c.self.inside.carrier.plans) (takes_plans c.upkeep.new.carrier.plans) (c.args.self.now).lane c.match-upkeep.result
+      (lane-is c.self.view_is) w.in-Ok.ensures.passes
+  | in-Err w ↦ none-passed (c.args.self.now).lane (value_of c.upkeep.new.self c.upkeep.new.carrier.given (planned_in c.upkeep.new.carrier.plans) (takes_plans c.upkeep.new.carrier.plans)) c.match-upkeep.result w.result-is
+]

@@ -1,7 +1,7 @@
 use Rattle.std.proofs.Common.{◌≡◌, ◌∙◌, ℕ, Option, Some, refl, sym, subst}
 use Rattle.ideal_nodes.specs.Placement.{IsOwner}
 use Rattle.lane_states.specs.LaneStates.{part_of}
-use Rattle.lane_lives.specs.LaneValues.{IsOfDocument}
+use Rattle.lane_calls.specs.LaneValues.{IsOfDocument}
 use Rattle.lane_core.specs.declared.work.Job.{Job}
 use Rattle.lane_core.specs.Works.{IsOneOrNone, OfFirstJob}
 use Rattle.lane_core.proofs.Under.{first-under}

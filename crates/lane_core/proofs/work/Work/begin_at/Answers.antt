@@ -1,5 +1,5 @@
 use Rattle.std.proofs.Common.{◌≡◌, ◌∙◌, ap}
-use Rattle.lane_lives.specs.LaneValues.{LaneValue, IsOfDocument}
+use Rattle.lane_calls.specs.LaneValues.{LaneValue, IsOfDocument}
 use Rattle.lane_core.specs.declared.work.Job.{Job}
 use Rattle.lane_core.specs.Works.{begun_by}
 use Rattle.lane_core.proofs.Under.{none-under}

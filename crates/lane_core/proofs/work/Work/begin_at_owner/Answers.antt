@@ -4,7 +4,7 @@ use Rattle.lane_journals.specs.Readers.{held}
 use Rattle.lane_journals.specs.Meanings.{history}
 use Rattle.lane_keeping.specs.Tidings.{is_older, last_state}
 use Rattle.lane_states.specs.LaneStates.{journal_of}
-use Rattle.lane_lives.specs.LaneValues.{IsBegunAt, IsOfDocument}
+use Rattle.lane_calls.specs.LaneValues.{IsBegunAt, IsOfDocument}
 use Rattle.lane_core.specs.declared.work.Job.{Job}
 use Rattle.lane_core.specs.Works.{IsOneOrNone, OfFirstJob}
 use Rattle.lane_core.proofs.Under.{none-under, first-under}

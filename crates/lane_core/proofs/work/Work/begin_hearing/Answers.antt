@@ -11,7 +11,7 @@ use Rattle.lane_core.specs.declared.work.Job.{Job}
 use Rattle.lane_core.specs.declared.work.Work.{Work}
 use Rattle.lane_keeping.specs.Tidings.{heard_next, is_older, last_state}
 use Rattle.lane_states.specs.LaneStates.{journal_of}
-use Rattle.lane_lives.specs.LaneValues.{LaneValue, IsBegunAt, IsOfDocument}
+use Rattle.lane_calls.specs.LaneValues.{LaneValue, IsBegunAt, IsOfDocument}
 use Rattle.lane_core.specs.Works.{begun_by}
 use Rattle.lane_core.proofs.Idling.{fresh-heard}
 use Rattle.lane_core.proofs.Under.{none-under}

@@ -3,7 +3,7 @@ use Rattle.lane_journals.specs.declared.event.LaneEvent.TheVariants.{Closed}
 use Rattle.lane_core.specs.declared.work.Job.{Job}
 use Rattle.lane_states.specs.declared.lane_state.LaneState.{LaneState}
 use Rattle.lane_states.specs.LaneStates.{journal_of}
-use Rattle.lane_lives.specs.declared.progress.UnderWay.{UnderWay}
+use Rattle.lane_calls.specs.declared.progress.UnderWay.{UnderWay}
 use Rattle.lane_core.specs.Works.{OfJob, IsJob, value_of, under_way_at, under_way_in}
 use Rattle.lane_core.proofs.Places.{get-index, get-map, get-one, get-within, map-remove}
 use Rattle.lane_core.proofs.JobEnds.{may-close, ends-so, to-close}

@@ -2,7 +2,7 @@ use Rattle.std.proofs.Common.{◌≡◌, ◌∙◌, Option, Some, refl, sym, ap}
 use Rattle.cluster_states.specs.declared.cluster_state.ClusterState.{ClusterState}
 use Rattle.lane_keeping.specs.Tidings.{heard_next, last_state}
 use Rattle.lane_states.specs.LaneStates.{journal_of}
-use Rattle.lane_lives.specs.LaneValues.{IsBegunAt, OfFirst}
+use Rattle.lane_calls.specs.LaneValues.{IsBegunAt, OfFirst}
 use Rattle.lane_core.specs.Works.{under_way_in, value_of}
 use Rattle.lane_core.specs.declared.work.Job.{Job}
 use Rattle.lane_core.proofs.Under.{none-under, first-under}

@@ -5,7 +5,7 @@ use Rattle.lane_keeping.specs.LaneKeeping.{setting_of}
 use Rattle.operation_keeping.specs.Laws.{MayBeginNext}
 use Rattle.lane_states.specs.declared.lane_state.LaneState.{LaneState}
 use Rattle.lane_states.specs.LaneStates.{journal_of}
-use Rattle.lane_lives.specs.LaneValues.{drawn}
+use Rattle.lane_calls.specs.LaneValues.{drawn}
 use Rattle.lane_core.specs.Works.{count_of, new_job, room_for, value_of, under_way_at, under_way_in}
 use Rattle.lane_lines.proofs.Carrying.{carried-more}
 use Rattle.lane_core.proofs.Places.{map-push, push-length}

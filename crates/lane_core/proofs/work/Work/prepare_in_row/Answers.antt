@@ -19,7 +19,7 @@ use Rattle.lane_core.proofs.Places.{of-place, get-map, get-index, get-within}
 use Rattle.lane_core.specs.Works.{value_of, under_way_at}
 use Rattle.lane_journals.specs.Readers.{prepared}
 use Rattle.lane_journals.specs.declared.event.LaneEvent.{LaneEvent}
-use Rattle.lane_lives.specs.LaneValues.{with_run}
+use Rattle.lane_calls.specs.LaneValues.{with_run}
 use Rattle.lane_core.proofs.Working.{value-set}
 use Rattle.lane_core.proofs.work.Work.prepare_in_row.Goals as goal
 

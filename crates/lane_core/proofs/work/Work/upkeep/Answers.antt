@@ -6,8 +6,8 @@ use Rattle.lane_journals.specs.declared.event.LaneEvent.{LaneEvent}
 use Rattle.lane_keeping.specs.Tidings.{heard_next}
 use Rattle.lane_states.specs.LaneStates.{journal_of}
 use Rattle.lane_core.specs.declared.work.Work.{Work}
-use Rattle.lane_lives.specs.LaneValues.{LaneValue}
-use Rattle.lane_core.proofs.Upkeeping.{maintains-by, opens-by, rests-by, on-any-ok, on-any-err}
+use Rattle.lane_calls.specs.LaneValues.{LaneValue}
+use Rattle.lane_core.proofs.Upkeeping.{maintains-by, opens-by, rests-by, passes-by, on-any-ok, on-any-err}
 use Rattle.lane_core.proofs.work.Work.upkeep.Goals as goal
 
 pub maintain-requires-clause-there : goal.maintain-requires-clause-there
@@ -64,3 +64,16 @@ returns-clause-rests g c =
     rests-by c.upkeep_goes_on.ensures.span c.upkeep_goes_on.ensures.behind c.maintain.result c.args.self.now c.hear_within.new.self c.maintain.new.self (record { distributor = d; state = s })
     (g.C.Carrier.given c.maintain.new.carrier) (c.hear_within.ensures.grows ∙ ap (λ (K : List LaneEvent). heard_next d (Some s) K) same)
     c.maintain.ensures.on c.maintain.ensures.rests
+
+pub returns-clause-passes : goal.returns-clause-passes
+returns-clause-passes g c =
+    let d = c.owner_by-distributor.result in
+    let s = c.in-Some.state in
+    let h = c.hear_within.new.self in
+    let same : journal_of c.need_part.new.self.state ≡ journal_of c.args.self.now.state = ap (λ (w : Work). journal_of w.state) c.need_part.ensures.after ∙ ap past c.room_to_begin.ensures.items in
+    passes-by c.maintain.result c.args.self.now h c.maintain.new.self (record { distributor = d; state = s }) (g.C.Carrier.given c.maintain.new.carrier) c.hear_within.ensures.keeps.kept
+    (ap (λ (w : Work). w.state.lane) c.hear_within.ensures.after ∙ (ap (λ (w : Work). w.state.lane) c.need_part.ensures.after ∙ ap (λ (w : Work). w.state.lane) c.room_to_begin.ensures.after))
+    (ap (λ (w : Work). w.state.rules) c.hear_within.ensures.after ∙ (ap (λ (w : Work). w.state.rules) c.need_part.ensures.after ∙ ap (λ (w : Work). w.state.rules) c.room_to_begin.ensures.after))
+    (ap (λ (w : Work). w.state.newest) c.hear_within.ensures.after ∙ (ap (λ (w : Work). w.state.newest) c.need_part.ensures.after ∙ (ap (λ (w : Work). w.state.newest) c.room_to_begin.ensures.after ∙ c.in-Some.is)))
+    (c.hear_within.ensures.grows ∙ ap (λ (K : List LaneEvent). heard_next d (Some s) K) same)
+    c.maintain.ensures.passes

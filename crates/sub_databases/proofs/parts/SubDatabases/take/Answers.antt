@@ -11,7 +11,7 @@ pub invariant_of-self-then-is_none : goal.invariant_of-self-then-is_none
 invariant_of-self-then-is_none c =
     let m = c.self.inside.entries in
     let t = c.self.inside.ready in
-    kept_either m t c.args.entry.now c.args.ready (λ r. take_room c.entries_find_room.ensures m t c.args.entry.now (c.has_room.ensures (search rules) r) c.len.ensures.distinct c.self.invariant)
+    kept_either m t c.args.entry.now c.args.ready (λ r. take_room c.entries_find_room.ensures m t c.args.entry.now (c.has_room.ensures.fits (search rules) r) c.len.ensures.distinct c.self.invariant)
     c.self.invariant c.take_first.result c.take_first.new.entries c.take_first.new.rows c.take_first.ensures
 
 pub returns-then-is_none-clause-places : goal.returns-then-is_none-clause-places
@@ -20,14 +20,14 @@ returns-then-is_none-clause-places c =
     let t = c.self.inside.ready in
     let none : fin.get m c.args.entry.now.id ≡ None = search rules in
     rw (← c.self.view_is)
-    (placed_either m t c.args.entry.now c.args.ready (λ r. take_room c.entries_find_room.ensures m t c.args.entry.now (c.has_room.ensures (search rules) r) c.len.ensures.distinct c.self.invariant)
+    (placed_either m t c.args.entry.now c.args.ready (λ r. take_room c.entries_find_room.ensures m t c.args.entry.now (c.has_room.ensures.fits (search rules) r) c.len.ensures.distinct c.self.invariant)
     (newer_first m c.args.entry.now none) c.take_first.result c.take_first.new.entries c.take_first.new.rows c.take_first.ensures)
 
 pub invariant_of-self-2 : goal.invariant_of-self-2
 invariant_of-self-2 c =
     let m = c.self.inside.entries in
     let t = c.self.inside.ready in
-    kept_either m t c.args.entry.now c.args.ready (λ r. take_room c.entries_find_room.ensures m t c.args.entry.now (c.has_room.ensures (search rules) r) c.len.ensures.distinct c.self.invariant)
+    kept_either m t c.args.entry.now c.args.ready (λ r. take_room c.entries_find_room.ensures m t c.args.entry.now (c.has_room.ensures.fits (search rules) r) c.len.ensures.distinct c.self.invariant)
     c.self.invariant c.take_newer.result c.take_newer.new.entries c.take_newer.new.rows c.take_newer.ensures
 
 pub returns-clause-places : goal.returns-clause-places
@@ -36,7 +36,7 @@ returns-clause-places c =
     let t = c.self.inside.ready in
     let newer : is_newer c.args.entry.now (fin.get m c.args.entry.now.id) ≡ true = search rules in
     rw (← c.self.view_is)
-    (placed_either m t c.args.entry.now c.args.ready (λ r. take_room c.entries_find_room.ensures m t c.args.entry.now (c.has_room.ensures (search rules) r) c.len.ensures.distinct c.self.invariant)
+    (placed_either m t c.args.entry.now c.args.ready (λ r. take_room c.entries_find_room.ensures m t c.args.entry.now (c.has_room.ensures.fits (search rules) r) c.len.ensures.distinct c.self.invariant)
     newer c.take_newer.result c.take_newer.new.entries c.take_newer.new.rows c.take_newer.ensures)
 
 pub invariant_of-self-then-not-is_ready : goal.invariant_of-self-then-not-is_ready

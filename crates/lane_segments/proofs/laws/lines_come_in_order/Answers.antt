@@ -1,5 +1,0 @@
-use Rattle.lane_segments.proofs.Ordering.{feeders-in-order, documents-in-order}
-use Rattle.lane_segments.proofs.laws.lines_come_in_order.Goals as goal
-
-pub returns : goal.returns
-returns c = record { feeder = feeders-in-order; document = documents-in-order }

@@ -1,5 +1,0 @@
-use Rattle.lane_segments.proofs.Ordering.{others-none}
-use Rattle.lane_segments.proofs.laws.others_have_no_event.Goals as goal
-
-pub returns : goal.returns
-returns c = λ feeders lines lane rules J K grew n none after e before is le. others-none feeders lines lane rules n none J K grew after e before is le

@@ -1,0 +1,51 @@
+-- What a segment of the lanes is, from their state before it to that behind it.
+use Rattle.std.specs.Prelude.{◌≡◌, ℕ, List, [], Option, None, Some, length, slice_get}
+use Rattle.line_feeders.specs.declared.feeder.Feeder.{Feeder}
+use Rattle.line_feeders.specs.Calls.{IsAnswer}
+use Rattle.line_feeders.specs.Errands.{WereRun}
+use Rattle.shelves.specs.declared.no_shelf.NoShelf.{NoShelf}
+use Rattle.lane_calls.specs.LaneValues.{LaneValue}
+use Rattle.lane_calls.specs.Lines.{Lines}
+use Rattle.lane_locks.specs.Feeding.{TellsTurn}
+use Rattle.lane_locks.specs.Lines.{Listed, AreOfLane, AreFresh}
+use Rattle.lane_locks.specs.Slots.{Behind, IsKept, nothing}
+use Rattle.segment_locks.specs.declared.lanes.ReadyLane.{ReadyLane}
+use Rattle.segment_locks.specs.declared.lanes.FedLane.{FedLane}
+use Rattle.segment_locks.specs.Lanes.{EachAt}
+
+-- no operation is under way in the lane, and none of the lines, which are of it, has an event there
+pub record MayRun (feeders : ℕ) (v : LaneValue) (list : Listed) : Type 0 where
+  pub idle : v.under_way ≡ []
+  pub feeders_are : list.feeders ≡ feeders
+  pub of_lane : AreOfLane v list.lines
+  pub fresh : AreFresh v list.lines
+
+-- each lane came by calls of the segment from what it was, and how far each line is stands beside it
+abbrev pub RunsOn : {A B C D : Type 0} → ℕ → List (ReadyLane A B C D) → List (FedLane A B C D) → Type 0
+RunsOn {A} {B} {C} {D} feeders olds news = (k : ℕ) (old : ReadyLane A B C D) (new : FedLane A B C D) → slice_get olds k ≡ Some old → slice_get news k ≡ Some new
+    → IsKept feeders (old.list).lines (old.lane).lane (new.lane).lane (new.lines).items (new.stages).items
+
+-- ---- the lanes by number
+
+abbrev pub value_of : {A B C D : Type 0} → Option (ReadyLane A B C D) → LaneValue
+value_of None = nothing
+value_of (Some r) = (r.lane).lane
+
+abbrev pub list_of : {A B C D : Type 0} → Option (ReadyLane A B C D) → Lines
+list_of None = []
+list_of (Some r) = (r.list).lines
+
+abbrev pub value_at : {A B C D : Type 0} → List (ReadyLane A B C D) → ℕ → LaneValue
+value_at lanes k = value_of (slice_get lanes k)
+
+abbrev pub lines_at : {A B C D : Type 0} → List (ReadyLane A B C D) → ℕ → Lines
+lines_at lanes k = list_of (slice_get lanes k)
+
+-- ---- the feeders
+
+-- each feeder ran its lines in order, behind locks of which the one at a place has that number
+pub record WereFed (feeders : ℕ) (lines : ℕ → Lines) (count : ℕ) (olds news : List Feeder) : Type 0 where
+  pub locks : List ℕ
+  pub many : length locks ≡ count
+  pub numbers : EachAt (λ k n. n ≡ k) locks
+  pub ran : WereRun (IsAnswer (λ (b : Behind NoShelf). b.number) (λ call place old new told. TellsTurn feeders lines call place old new told)) locks olds news
