@@ -24,6 +24,7 @@ use Rattle.lane_lives.specs.declared.setting.Setting.{Setting}
 use Rattle.session_settings.proofs.Choosing.{one_choice, chosen_setting}
 use Rattle.lane_promises.specs.Promises.{IsComplete, KeepsWrites}
 use Rattle.lane_promises.proofs.Before.{legal_tail}
+use Rattle.lane_lives.specs.Lives.{Deed}
 use Rattle.lane_lives.specs.Serving.{bucket_in}
 use Rattle.lane_lives.proofs.Living.{in_order}
 use Rattle.session_cluster.specs.declared.asked.Asked.{Asked}
@@ -35,12 +36,12 @@ use Rattle.cell_session.specs.Ends.{IfTold, AreFirst, OfFirst, HasLanes, PassesL
 use Rattle.cell_session.specs.Lines.{HaveLines}
 use Rattle.session_cluster.specs.Lanes.{Journal, journal_in, AreLegal, AreInOrder, AreTogether}
 use Rattle.cell_session.specs.LanePromises.{AreDurable, AreComplete, AreShownRight}
-use Rattle.cell_session.specs.Operations.{IsCommandAt, WereAsked, HaveFates}
+use Rattle.cell_session.specs.Operations.{IsCommandAt, WereAsked, deeds_in, HaveOutcomes, HaveFates}
 use Rattle.cell_session.specs.declared.status.Status.{Status}
 use Rattle.cell_session.specs.declared.status.Status.TheVariants as status
 use Rattle.cell_session.proofs.OrderLaws.{none_gone}
-use Rattle.cell_session.proofs.KeptCauses.{AllRefused, AllShort, AllHold, AllHear, kept_causes, kept_heard}
-use Rattle.cell_session.proofs.KeptClauses.{kept_outcomes, kept_fates, kept_shown, kept_together}
+use Rattle.cell_session.proofs.KeptCauses.{AllRefused, AllShort, AllHold, AllHear, kept_causes, done_heard}
+use Rattle.cell_session.proofs.KeptClauses.{done_outcomes, done_fates, kept_shown, kept_together}
 use Rattle.session_cluster.proofs.DeedLists.{lines_alone}
 use Rattle.session_cluster.proofs.KeptLanes.{in_lanes, kept_legal}
 use Rattle.session_cluster.proofs.LaneLists.{journal_is, journal_at}
@@ -73,14 +74,14 @@ legal_complete law words x plans asked vs chosen legal fates lane v at =
 
 -- ---- where there is no lane
 
-nothing_in : (vs : List LaneValue) (lane : ℕ) → vs ≡ [] → journal_in lane (map journal_is vs) ≡ []
+pub nothing_in : (vs : List LaneValue) (lane : ℕ) → vs ≡ [] → journal_in lane (map journal_is vs) ≡ []
 nothing_in vs lane none = ap (λ ws. journal_in lane (map journal_is ws)) none ∙ empty_in lane
   where
     empty_in : (lane : ℕ) → journal_in lane [] ≡ []
     empty_in zero = refl
     empty_in (suc lane) = refl
 
-no_lane : (vs : List LaneValue) (lane : ℕ) (v : LaneValue) → vs ≡ [] → slice_get vs lane ≡ Some v → ⊥
+pub no_lane : (vs : List LaneValue) (lane : ℕ) (v : LaneValue) → vs ≡ [] → slice_get vs lane ≡ Some v → ⊥
 no_lane vs lane v none at = no_item lane (subst (λ ws. slice_get ws lane ≡ Some v) none at)
   where
     no_item : (lane : ℕ) → slice_get [] lane ≡ Some v → ⊥
@@ -140,16 +141,16 @@ ends_shown end s types plans text left c before now (inr some) = kept_shown s pl
 -- ---- which lines were dealt with
 
 -- of the first lines of a text this holds
-told_first : (types : Types) (bits : ℕ) (text : Option (List ℕ)) (cs : List Asked) (dealt : ℕ) (P : List ℕ → List Asked → Type 0) → length cs ≡ dealt → IfTold text (λ t. AreFirst types bits t cs) → IfTold text (λ t. P t cs)
+pub told_first : (types : Types) (bits : ℕ) (text : Option (List ℕ)) (cs : List Asked) (dealt : ℕ) (P : List ℕ → List Asked → Type 0) → length cs ≡ dealt → IfTold text (λ t. AreFirst types bits t cs) → IfTold text (λ t. P t cs)
     → IfTold text (λ t. OfFirst types bits t dealt (P t))
 told_first types bits None cs dealt P count first holds = tt
 told_first types bits (Some t) cs dealt P count first holds = (cs, (count, (first, holds)))
 
-told_none : (types : Types) (bits : ℕ) (text : Option (List ℕ)) → IfTold text (λ t. AreFirst types bits t [])
+pub told_none : (types : Types) (bits : ℕ) (text : Option (List ℕ)) → IfTold text (λ t. AreFirst types bits t [])
 told_none types bits None = tt
 told_none types bits (Some t) = first_none types bits t
 
-nothing_told : (text : Option (List ℕ)) → IfTold text (λ t. Unit {0})
+pub nothing_told : (text : Option (List ℕ)) → IfTold text (λ t. Unit {0})
 nothing_told None = tt
 nothing_told (Some t) = tt
 
@@ -169,21 +170,31 @@ asked_at : (types : Types) (bits : ℕ) (text : Option (List ℕ)) (cs : List As
 asked_at types bits None cs k c first at = tt
 asked_at types bits (Some t) cs k c first at = first.asked k c at
 
-were_asked : (types : Types) (bits : ℕ) (text : Option (List ℕ)) (cs : List Asked) (dealt : ℕ) → length cs ≡ dealt → AreFew cs → IfTold text (λ t. AreFirst types bits t cs) → WereAsked types bits text dealt cs
+pub were_asked : (types : Types) (bits : ℕ) (text : Option (List ℕ)) (cs : List Asked) (dealt : ℕ) → length cs ≡ dealt → AreFew cs → IfTold text (λ t. AreFirst types bits t cs) → WereAsked types bits text dealt cs
 were_asked types bits text cs dealt count few first = record { count = count; told = λ at c there. asked_at types bits text cs at c first there; few = few.few; few_states = few.few_states; few_maintains = few.few_maintains }
 
+-- where there is no lane
+pub none_outcomes : (s : Setting) (deeds : ℕ → List Deed) (c : Cell) → c.lanes ≡ [] → HaveOutcomes s deeds c
+none_outcomes s deeds c none = record {
+  lives = λ lane there. absurd (omega (arith, there, ap length none));
+  no_others = λ lane line other. subst (λ J. IsFresh (history J) line) (sym (nothing_in c.lanes lane none))
+      (record { unbegun = refl; unrefused = refl; unprepared = refl; unwritten = refl; unclosed = refl });
+}
+
+pub none_fates : (plans : ℕ → List Fate) (asked : List Asked) (c : Cell) → c.lanes ≡ [] → HaveFates plans asked c.lanes
+none_fates plans asked c none lane v at = absurd (no_lane c.lanes lane v none at)
+
+pub none_shown : (s : Setting) (c : Cell) → c.lanes ≡ [] → AreShownRight s c
+none_shown s c none lane v at = absurd (no_lane c.lanes lane v none at)
+
 -- where no line was dealt with, for want of memory
-none_lines : (s : Setting) (types : Types) (plans : ℕ → List Fate) (text : Option (List ℕ)) (c : Cell) → c.lanes ≡ [] → c.dealt ≡ 0 → c.upkeeps ≡ [] → c.fronts ≡ [] → HaveLines status.NoMemory s types plans text c
+pub none_lines : (s : Setting) (types : Types) (plans : ℕ → List Fate) (text : Option (List ℕ)) (c : Cell) → c.lanes ≡ [] → c.dealt ≡ 0 → c.upkeeps ≡ [] → c.fronts ≡ [] → HaveLines status.NoMemory s types plans text c
 none_lines s types plans text c none dealt unkept unread = record {
   asked = [];
   were_asked = were_asked types s.bits text [] c.dealt (sym dealt) few_none (told_none types s.bits text);
-  one_outcome = record {
-    lives = λ lane there. absurd (omega (arith, there, ap length none));
-    no_others = λ lane line other. subst (λ J. IsFresh (history J) line) (sym (nothing_in c.lanes lane none))
-        (record { unbegun = refl; unrefused = refl; unprepared = refl; unwritten = refl; unclosed = refl });
-  };
+  one_outcome = none_outcomes s (deeds_in s [] c) c none;
   hearings = record { holds = λ lane v at. absurd (no_lane c.lanes lane v none at); hears = λ lane v at. absurd (no_lane c.lanes lane v none at) };
-  fates = λ lane v at. absurd (no_lane c.lanes lane v none at);
+  fates = none_fates plans [] c none;
   causes = record {
     refused = λ lane v at line owner version. absurd (no_lane c.lanes lane v none at);
     short = λ lane v at line answered needed absent. absurd (no_lane c.lanes lane v none at);
@@ -209,9 +220,9 @@ ends_lines all end s setting types plans text left c before now (inl none) = sub
 ends_lines all end s setting types plans text left c before now (inr some) = record {
   asked = some.commands;
   were_asked = were_asked types s.bits text some.commands c.dealt (sym some.kept.dealt) some.few some.first;
-  one_outcome = kept_outcomes s plans some.commands c some.kept;
-  hearings = kept_heard all.hold all.hear s plans some.commands c some.kept;
-  fates = kept_fates s plans some.commands c some.kept;
+  one_outcome = done_outcomes s plans some.commands c some.kept;
+  hearings = done_heard s plans some.commands c some.kept all.hold all.hear;
+  fates = done_fates s plans some.commands c some.kept;
   causes = kept_causes all.refused all.short s setting plans some.commands c some.kept;
   upkeeps = some.upkept;
   search_fronts = some.read;
@@ -236,7 +247,7 @@ ends_searches laws end s setting types plans text left c before now (inr some) =
 
 -- ---- the bytes written
 
-all_told : (text : Option (List ℕ)) (P : Type 0) → P → IfTold text (λ t. P)
+pub all_told : (text : Option (List ℕ)) (P : Type 0) → P → IfTold text (λ t. P)
 all_told None P holds = tt
 all_told (Some t) P holds = holds
 

@@ -16,13 +16,13 @@ use Rattle.lane_lives.specs.declared.setting.Setting.{Setting}
 use Rattle.lane_promises.specs.Hearings.{deaf_in, HeardNewest}
 use Rattle.lane_lives.specs.Lives.{Deed, IsLife, lines_of, AreAlone, newest_in}
 use Rattle.lane_calls.specs.Readings.{outcome_in}
-use Rattle.lane_promises.specs.Promises.{WasRefused, LineFellShort}
+use Rattle.lane_promises.specs.Promises.{WasRefused, LineFellShort, LineFellShortBeside}
 use Rattle.lane_lives.specs.Serving.{bucket_in}
-use Rattle.cell_session.specs.Causes.{HaveCauses}
+use Rattle.cell_session.specs.Causes.{AreRefused, HaveCauses, HaveCausesBeside}
 use Rattle.session_cluster.specs.Cells.{Cell}
-use Rattle.session_cluster.specs.Deeds.{deeds_of_lane}
+use Rattle.cell_session.specs.Operations.{deeds_in}
 use Rattle.cell_session.specs.Hearing.{HaveHeard}
-use Rattle.session_cluster.specs.Keeping.{IsKept}
+use Rattle.session_cluster.specs.Keeping.{HaveDone, IsKept}
 use Rattle.session_cluster.specs.Lanes.{Journal}
 use Rattle.session_cluster.specs.declared.asked.Asked.{Asked}
 use Rattle.session_cluster.proofs.KeptLanes.{kept_legal}
@@ -44,19 +44,38 @@ AllHold = (s : Setting) (lane : Low) (deeds : List Deed) (J : Journal) → IsLif
 abbrev pub AllHear : Type 0
 AllHear = (s : Setting) (lane : Low) (deeds : List Deed) (J : Journal) → IsLife s lane deeds J → (after before : Journal) (d version : ℕ) → J ≡ after ++ Heard d version ∷ before → HeardNewest s lane deeds before d version
 
-legal_at : (s : Setting) (plans : ℕ → List Fate) (cs : List Asked) (c : Cell) → IsKept s plans cs c → (lane : ℕ) (v : LaneValue) → slice_get c.lanes lane ≡ Some v → IsLegal (setting_of (bucket_in s lane) s.rules) v.journal
-legal_at s plans cs c kept lane v at = subst (λ J. IsLegal (setting_of (bucket_in s lane) s.rules) J) (journal_at c.lanes lane v at) (kept_legal s plans cs c kept lane)
+abbrev pub AllShortBeside : Type 0
+AllShortBeside = (s : Setting) → IsSetting s → (lane : Low) (deeds : List Deed) (J : Journal) (given : List Fate) → IsLife s lane deeds J → IsLegal (setting_of lane s.rules) J → IsCarried given J → (line answered needed absent : ℕ)
+    → outcome_in line J ≡ Some (TooFew answered needed absent) → LineFellShortBeside given (lines_of deeds) J line answered needed absent
 
-pub kept_causes : AllRefused → AllShort → (s : Setting) → IsSetting s → (plans : ℕ → List Fate) (cs : List Asked) (c : Cell) → IsKept s plans cs c → HaveCauses s cs c
-kept_causes refused short s setting plans cs c kept = record {
-  refused = λ lane v at line owner version. refused s (bucket_in s lane) (deeds_of_lane s c.upkeeps lane cs) v.journal (kept.serving lane v at).life (legal_at s plans cs c kept lane v at) line owner version;
-  short = λ lane v at line answered needed absent.
-      let is = kept.serving lane v at in
-      short s setting (bucket_in s lane) (deeds_of_lane s c.upkeeps lane cs) v.journal v.given is.life (lines_alone s c.upkeeps lane cs) (legal_at s plans cs c kept lane v at) (is.holds).carried line answered needed absent;
-}
+module _ {deeds : ℕ → List Deed} (s : Setting) (plans : ℕ → List Fate) (cs : List Asked) (c : Cell) (done : HaveDone s plans cs deeds c) where
+  legal_at : (lane : ℕ) (v : LaneValue) → slice_get c.lanes lane ≡ Some v → IsLegal (setting_of (bucket_in s lane) s.rules) v.journal
+  legal_at lane v at = subst (λ J. IsLegal (setting_of (bucket_in s lane) s.rules) J) (journal_at c.lanes lane v at) (kept_legal s plans cs c done lane)
 
-pub kept_heard : AllHold → AllHear → (s : Setting) (plans : ℕ → List Fate) (cs : List Asked) (c : Cell) → IsKept s plans cs c → HaveHeard s cs c
-kept_heard hold hear s plans cs c kept = record {
-  holds = λ lane v at. hold s (bucket_in s lane) (deeds_of_lane s c.upkeeps lane cs) v.journal (kept.serving lane v at).life;
-  hears = λ lane v at. hear s (bucket_in s lane) (deeds_of_lane s c.upkeeps lane cs) v.journal (kept.serving lane v at).life;
-}
+  done_refused : AllRefused → AreRefused s deeds c
+  done_refused refused lane v at line owner version = refused s (bucket_in s lane) (deeds lane) v.journal (done.serving lane v at).life (legal_at lane v at) line owner version
+
+  pub done_causes : AllRefused → AllShort → IsSetting s → ((lane : ℕ) → AreAlone (deeds lane)) → HaveCauses s deeds c
+  done_causes refused short setting alone = record {
+    refused = done_refused refused;
+    short = λ lane v at line answered needed absent.
+        let is = done.serving lane v at in
+        short s setting (bucket_in s lane) (deeds lane) v.journal v.given is.life (alone lane) (legal_at lane v at) (is.holds).carried line answered needed absent;
+  }
+
+  pub done_beside : AllRefused → AllShortBeside → IsSetting s → HaveCausesBeside s deeds c
+  done_beside refused short setting = record {
+    refused = done_refused refused;
+    short = λ lane v at line answered needed absent.
+        let is = done.serving lane v at in
+        short s setting (bucket_in s lane) (deeds lane) v.journal v.given is.life (legal_at lane v at) (is.holds).carried line answered needed absent;
+  }
+
+  pub done_heard : AllHold → AllHear → HaveHeard s deeds c
+  done_heard hold hear = record {
+    holds = λ lane v at. hold s (bucket_in s lane) (deeds lane) v.journal (done.serving lane v at).life;
+    hears = λ lane v at. hear s (bucket_in s lane) (deeds lane) v.journal (done.serving lane v at).life;
+  }
+
+pub kept_causes : AllRefused → AllShort → (s : Setting) → IsSetting s → (plans : ℕ → List Fate) (cs : List Asked) (c : Cell) → IsKept s plans cs c → HaveCauses s (deeds_in s cs c) c
+kept_causes refused short s setting plans cs c kept = done_causes s plans cs c kept refused short setting (λ lane. lines_alone s c.upkeeps lane cs)

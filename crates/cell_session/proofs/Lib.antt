@@ -9,5 +9,14 @@ mod LastReads
 mod KeptClauses
 mod KeptCauses
 mod Loops
+mod SegmentLaws
+mod ReportLaws
+mod FedOutput
+mod FedSteps
+mod FedLoops
+mod FedCuts
+mod FedRounds
 mod Clauses
 mod OneAsked
+mod FedClauses
+mod ProgramLaws

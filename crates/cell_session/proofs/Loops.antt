@@ -32,7 +32,7 @@ use Rattle.lane_lives.specs.declared.setting.Setting.{Setting}
 use Rattle.cell_session.specs.Operations.{IsCommandAt}
 use Rattle.cell_session.specs.Orders.{GoInOrder}
 use Rattle.cell_session.specs.Searches.{AreRead}
-use Rattle.cell_session.specs.SoFar.{IsBehind, IsSoFar}
+use Rattle.cell_session.specs.SoFar.{first_reading, IsBehind, IsSoFar}
 use Rattle.cell_session.specs.Upkeep.{AreUpkept}
 use Rattle.session_cluster.specs.Steps.{IsRoomier, without_room, IsAfter, IsDealt, IsAllOrNothing}
 use Rattle.cell_session.specs.declared.answering.Stop.{Stop}
@@ -42,6 +42,7 @@ use Rattle.cell_session.specs.declared.next_command.Step.TheVariants as step
 use Rattle.cell_session.specs.declared.status.Status.{Status}
 use Rattle.cell_session.specs.declared.status.Status.TheVariants as status
 use Rattle.cell_session.proofs.OutputLaws.{output_kept, output_more, roomier_output}
+use Rattle.session_cluster.proofs.AlikeDeeds.{ready_of_kept}
 use Rattle.session_cluster.proofs.Elements.{element_seen}
 use Rattle.session_cluster.proofs.SessionSteps.{kept_more, kept_roomier}
 use Rattle.cell_session.proofs.OrderLaws.{gone_more, none_gone, gone_roomier}
@@ -51,10 +52,10 @@ use Rattle.cell_session.proofs.UpkeepLaws.{upkept_more, noted_last, cut_last, no
 -- ---- how many lines are read as states, and how many as upkeep
 
 -- what is counted of a line
-abbrev one_if : Bool → ℕ
+abbrev pub one_if : Bool → ℕ
 one_if t = cond t 1 0
 
-kind_push : (of_kind : Asked → Bool) (cs : List Asked) (c : Asked) → count_by of_kind (cs ++ c ∷ []) ≡ count_by of_kind cs + (0 + one_if (of_kind c))
+pub kind_push : (of_kind : Asked → Bool) (cs : List Asked) (c : Asked) → count_by of_kind (cs ++ c ∷ []) ≡ count_by of_kind cs + (0 + one_if (of_kind c))
 kind_push of_kind cs c = sum_by-append (λ x. cond (of_kind x) 1 0) cs (c ∷ [])
 
 more_is : (most count next : ℕ) (t : Bool) → count ≤ most → (count == most) ≡ t → cond t None (Some (count + 1)) ≡ Some next → (next ≡ count + 1) × (next ≤ most)
@@ -66,11 +67,11 @@ full_is most count true is h = grind (arith, nat_tests, is)
 full_is most count false is h = cc h
 
 -- the counts are those of so many lines
-record AreCounts (counts : Counts) (states maintains : ℕ) : Type 0 where
-  states_are : counts.states ≡ states
-  few_states : counts.states ≤ most_states
-  maintains_are : counts.maintains ≡ maintains
-  few_maintains : counts.maintains ≤ most_maintains
+pub record AreCounts (counts : Counts) (states maintains : ℕ) : Type 0 where
+  pub states_are : counts.states ≡ states
+  pub few_states : counts.states ≤ most_states
+  pub maintains_are : counts.maintains ≡ maintains
+  pub few_maintains : counts.maintains ≤ most_maintains
 
 -- with a line that is neither
 same_counts : (counts counted : Counts) (states maintains : ℕ) → AreCounts counts states maintains → ◌≡◌ {A = Result Counts LimitKind} (Ok counts) (Ok counted) → AreCounts counted (states + (0 + 0)) (maintains + (0 + 0))
@@ -130,13 +131,13 @@ counts_by counts counted states maintains (command.Search query) are h = same_co
 counts_by counts counted states maintains (command.BadQuery offset) are h = same_counts counts counted states maintains are h
 
 -- with one line more
-counts_more : (counts counted : Counts) (cs : List Asked) (c : Asked) → AreCounts counts (state_lines cs) (maintain_lines cs) → counts_with counts c ≡ Ok counted → AreCounts counted (state_lines (cs ++ c ∷ [])) (maintain_lines (cs ++ c ∷ []))
+pub counts_more : (counts counted : Counts) (cs : List Asked) (c : Asked) → AreCounts counts (state_lines cs) (maintain_lines cs) → counts_with counts c ≡ Ok counted → AreCounts counted (state_lines (cs ++ c ∷ [])) (maintain_lines (cs ++ c ∷ []))
 counts_more counts counted cs c are with =
     subst (λ n. AreCounts counted n (maintain_lines (cs ++ c ∷ []))) (sym (kind_push is_state cs c))
     (subst (λ n. AreCounts counted (state_lines cs + (0 + one_if (is_state c))) n) (sym (kind_push is_maintain cs c)) (counts_by counts counted (state_lines cs) (maintain_lines cs) c are with))
 
 -- where a session may not have one more of its kind
-abbrev IsFull : LimitKind → Counts → Asked → Type 0
+abbrev pub IsFull : LimitKind → Counts → Asked → Type 0
 IsFull limit.Lines counts c = ⊥
 IsFull limit.Bytes counts c = ⊥
 IsFull limit.States counts c = (is_state c ≡ true) × (counts.states ≡ most_states)
@@ -156,7 +157,7 @@ maintain_full counts c which None kind is h = subst (λ w. IsFull w counts c) (s
     same : ◌≡◌ {A = Result Counts LimitKind} (Err limit.Maintains) (Err which) → limit.Maintains ≡ which
     same h = cc h
 
-counts_full : (counts : Counts) (c : Asked) (which : LimitKind) → counts_with counts c ≡ Err which → IsFull which counts c
+pub counts_full : (counts : Counts) (c : Asked) (which : LimitKind) → counts_with counts c ≡ Err which → IsFull which counts c
 counts_full counts command.Blank which h = cc h
 counts_full counts command.TooLong which h = cc h
 counts_full counts command.Barrier which h = cc h
@@ -204,7 +205,7 @@ first_more types bits text cs c first last few within few_states few_maintains =
       few_maintains = few_maintains;
     }
 
-told_more : (types : Types) (bits : ℕ) (text : Option (List ℕ)) (reader reader' : Reading) (left left' : Option (List ℕ)) (cs : List Asked) (number : ℕ) (c : Asked)
+pub told_more : (types : Types) (bits : ℕ) (text : Option (List ℕ)) (reader reader' : Reading) (left left' : Option (List ℕ)) (cs : List Asked) (number : ℕ) (c : Asked)
     → IfTold text (IsBehind types bits reader left cs) → length cs ≡ reader.lines → reader.max_lines ≡ most_lines → reader.max_bytes ≡ most_bytes
     → ((t : List ℕ) → StandsIn t reader left → Shows types bits t reader (step.Command number c))
     → ((t : List ℕ) → StandsIn t reader left → StandsIn t reader' left')
@@ -218,7 +219,7 @@ told_more types bits (Some text) reader reader' left left' cs number c told coun
     (omega (arith, within.lines, count, lines)) (subst (λ k. end_of (k + 1) text ≤ most_bytes) (sym count) (omega (arith, within.bytes, bytes))) few_states few_maintains in
     (first, stands text told.1)
 
-first_of : (types : Types) (bits : ℕ) (text : Option (List ℕ)) (cs : List Asked) (reader : Reading) (left : Option (List ℕ)) → IfTold text (IsBehind types bits reader left cs) → IfTold text (λ t. AreFirst types bits t cs)
+pub first_of : (types : Types) (bits : ℕ) (text : Option (List ℕ)) (cs : List Asked) (reader : Reading) (left : Option (List ℕ)) → IfTold text (IsBehind types bits reader left cs) → IfTold text (λ t. AreFirst types bits t cs)
 first_of types bits None cs reader left told = tt
 first_of types bits (Some text) cs reader left told = told.0
 
@@ -228,9 +229,6 @@ few_none = record { few = omega arith; few_states = omega arith; few_maintains =
 
 -- ---- between two lines
 
-abbrev pub first_reading : Reading
-first_reading = record { ahead = []; passed = 0; lines = 0; given = 0; max_lines = most_lines; max_bytes = most_bytes }
-
 pub first_none : (types : Types) (bits : ℕ) (text : List ℕ) → AreFirst types bits text []
 unfolding end_of
 first_none types bits text = record { asked = λ at c there. absurd (no_item at c there); some = omega arith; few = omega arith; within = omega arith; few_states = omega arith; few_maintains = omega arith }
@@ -239,7 +237,7 @@ first_none types bits text = record { asked = λ at c there. absurd (no_item at 
     no_item zero x h = cc h
     no_item (suc k) x h = cc h
 
-told_none : (types : Types) (bits : ℕ) (text : Option (List ℕ)) → IfTold text (IsBehind types bits first_reading text [])
+pub told_none : (types : Types) (bits : ℕ) (text : Option (List ℕ)) → IfTold text (IsBehind types bits first_reading text [])
 told_none types bits None = tt
 told_none types bits (Some t) = (first_none types bits t, start_at t most_lines most_bytes)
 
@@ -266,9 +264,9 @@ so_far_new s types plans text before reader c setting is kept none unread = subs
 
 pub so_far_ready : (s : Setting) (types : Types) (plans : ℕ → List Fate) (text left : Option (List ℕ)) (reader : Reading) (counts : Counts) (c : Cell) (before now : Option (List ℕ)) (number : ℕ)
     → IsSoFar s types plans text reader left counts c before now → number ≡ reader.lines + 1 → IsReady s number c
-so_far_ready s types plans text left reader counts c before now number so is = record { setting = so.setting; plans = plans; commands = so.commands; kept = so.kept; next = omega (arith, is, so.count) }
+so_far_ready s types plans text left reader counts c before now number so is = ready_of_kept s plans so.commands number c so.setting so.kept (omega (arith, is, so.count))
 
-few_of : (cs : List Asked) (counts : Counts) → AreCounts counts (state_lines cs) (maintain_lines cs) → length cs ≤ most_lines → AreFew cs
+pub few_of : (cs : List Asked) (counts : Counts) → AreCounts counts (state_lines cs) (maintain_lines cs) → length cs ≤ most_lines → AreFew cs
 few_of cs counts are few = record { few = few; few_states = subst (λ n. n ≤ most_states) are.states_are are.few_states; few_maintains = subst (λ n. n ≤ most_maintains) are.maintains_are are.few_maintains }
 
 so_few : (s : Setting) (types : Types) (plans : ℕ → List Fate) (text : Option (List ℕ)) (reader : Reading) (left : Option (List ℕ)) (counts : Counts) (c : Cell) (before now : Option (List ℕ)) → (so : IsSoFar s types plans text reader left counts c before now) → AreFew so.commands
@@ -377,7 +375,7 @@ passes limit.Bytes types bits text reader cs is lines bytes past =
 passes limit.States types bits text reader cs is lines bytes past = absurd past
 passes limit.Maintains types bits text reader cs is lines bytes past = absurd past
 
-stops_of : (end : Status) (types : Types) (bits : ℕ) (text left left' : Option (List ℕ)) (reader reader' : Reading) (cs : List Asked)
+pub stops_of : (end : Status) (types : Types) (bits : ℕ) (text left left' : Option (List ℕ)) (reader reader' : Reading) (cs : List Asked)
     → IfTold text (IsBehind types bits reader left cs) → length cs ≡ reader.lines → reader.max_lines ≡ most_lines → reader.max_bytes ≡ most_bytes
     → ((t : List ℕ) → StandsIn t reader left → Finishes t reader end)
     → ((t : List ℕ) → StandsIn t reader left → StandsIn t reader' left')
@@ -394,7 +392,7 @@ stops_of (status.Limit which) types bits (Some text) left left' reader reader' c
 -- ---- the ends
 
 -- the reader's limit is reached
-reached_of : (end : Status) (reader reader' : Reading) (cs : List Asked) → length cs ≡ reader.lines → reader.max_lines ≡ most_lines → HoldsBack reader reader' end → EndsAtLimit end cs
+pub reached_of : (end : Status) (reader reader' : Reading) (cs : List Asked) → length cs ≡ reader.lines → reader.max_lines ≡ most_lines → HoldsBack reader reader' end → EndsAtLimit end cs
 reached_of status.Done reader reader' cs count lines holds = tt
 reached_of status.ReadFault reader reader' cs count lines holds = tt
 reached_of status.Usage reader reader' cs count lines holds = tt
@@ -462,18 +460,18 @@ passes_kind of_kind most types bits (Some text) reader left cs number c told cou
       before = before;
     }
 
-full_passes : (which : LimitKind) (s : Setting) (types : Types) (plans : ℕ → List Fate) (text left : Option (List ℕ)) (reader : Reading) (counts : Counts) (c : Cell) (before now : Option (List ℕ)) (number : ℕ) (command : Asked)
-    → (so : IsSoFar s types plans text reader left counts c before now) → reader.max_lines ≡ most_lines → reader.max_bytes ≡ most_bytes
-    → ((t : List ℕ) → StandsIn t reader left → Shows types s.bits t reader (step.Command number command))
-    → IsFull which counts command → IfTold text (λ t. PassesLimit which types s.bits t so.commands)
-full_passes limit.Lines s types plans text left reader counts c before now number command so lines bytes shows full = absurd full
-full_passes limit.Bytes s types plans text left reader counts c before now number command so lines bytes shows full = absurd full
-full_passes limit.States s types plans text left reader counts c before now number command so lines bytes shows full =
-    passes_kind is_state most_states types s.bits text reader left so.commands number command so.told so.count lines bytes shows full.0 (sym so.states_are ∙ full.1)
-full_passes limit.Maintains s types plans text left reader counts c before now number command so lines bytes shows full =
-    passes_kind is_maintain most_maintains types s.bits text reader left so.commands number command so.told so.count lines bytes shows full.0 (sym so.maintains_are ∙ full.1)
+pub full_passes : (which : LimitKind) (types : Types) (bits : ℕ) (text left : Option (List ℕ)) (reader : Reading) (counts : Counts) (cs : List Asked) (number : ℕ) (command : Asked)
+    → IfTold text (IsBehind types bits reader left cs) → length cs ≡ reader.lines → counts.states ≡ state_lines cs → counts.maintains ≡ maintain_lines cs → reader.max_lines ≡ most_lines → reader.max_bytes ≡ most_bytes
+    → ((t : List ℕ) → StandsIn t reader left → Shows types bits t reader (step.Command number command))
+    → IsFull which counts command → IfTold text (λ t. PassesLimit which types bits t cs)
+full_passes limit.Lines types bits text left reader counts cs number command told count states maintains lines bytes shows full = absurd full
+full_passes limit.Bytes types bits text left reader counts cs number command told count states maintains lines bytes shows full = absurd full
+full_passes limit.States types bits text left reader counts cs number command told count states maintains lines bytes shows full =
+    passes_kind is_state most_states types bits text reader left cs number command told count lines bytes shows full.0 (sym states ∙ full.1)
+full_passes limit.Maintains types bits text left reader counts cs number command told count states maintains lines bytes shows full =
+    passes_kind is_maintain most_maintains types bits text reader left cs number command told count lines bytes shows full.0 (sym maintains ∙ full.1)
 
-full_reached : (which : LimitKind) (counts : Counts) (cs : List Asked) (c : Asked) → counts.states ≡ state_lines cs → counts.maintains ≡ maintain_lines cs → IsFull which counts c → IsReached which cs
+pub full_reached : (which : LimitKind) (counts : Counts) (cs : List Asked) (c : Asked) → counts.states ≡ state_lines cs → counts.maintains ≡ maintain_lines cs → IsFull which counts c → IsReached which cs
 full_reached limit.Lines counts cs c states maintains full = absurd full
 full_reached limit.Bytes counts cs c states maintains full = absurd full
 full_reached limit.States counts cs c states maintains full = sym states ∙ full.1
@@ -487,7 +485,7 @@ full_end s types plans text left left' reader counts c before now number command
   commands = so.commands;
   kept = so.kept;
   first = first_of types s.bits text so.commands reader left so.told;
-  stops = full_passes which s types plans text left reader counts c before now number command so lines bytes shows (counts_full counts command which full);
+  stops = full_passes which types s.bits text left reader counts so.commands number command so.told so.count so.states_are so.maintains_are lines bytes shows (counts_full counts command which full);
   output = so.output;
   upkept = upkept_at (status.Limit which) s so.commands c so.upkept;
   gone = so.gone;
@@ -512,7 +510,7 @@ some_dealt : (types : Types) (bits : ℕ) (text left : Option (List ℕ)) (reade
 some_dealt types bits None left reader cs told little is some = tt
 some_dealt types bits (Some text) left reader cs told little is some = (some, read_near text reader left (length cs) told.1 little is)
 
-no_claim : (types : Types) (bits : ℕ) (text left : Option (List ℕ)) (cs : List Asked) → IfTold text (λ t. StopsAt status.NoMemory types bits t left cs)
+pub no_claim : (types : Types) (bits : ℕ) (text left : Option (List ℕ)) (cs : List Asked) → IfTold text (λ t. StopsAt status.NoMemory types bits t left cs)
 no_claim types bits None left cs = tt
 no_claim types bits (Some text) left cs = tt
 
@@ -552,7 +550,7 @@ fault_ends why s types plans text left left' reader reader' counts counted old n
           reached = tt;
         })
 
-appends_kept : (a b c : Option (List ℕ)) (bs : List ℕ) → Appends a b bs → Keeps b c → Appends a c bs
+pub appends_kept : (a b c : Option (List ℕ)) (bs : List ℕ) → Appends a b bs → Keeps b c → Appends a c bs
 appends_kept None b c bs p q = tt
 appends_kept (Some x) None c bs p q = absurd p
 appends_kept (Some x) (Some y) None bs p q = absurd q
@@ -603,11 +601,11 @@ memory_ends why s types plans text left left' reader reader' counts counted old 
         })
 
 -- where memory wanted before the first line
-firsts_none : (types : Types) (bits : ℕ) (text : Option (List ℕ)) → IfTold text (λ t. AreFirst types bits t [])
+pub firsts_none : (types : Types) (bits : ℕ) (text : Option (List ℕ)) → IfTold text (λ t. AreFirst types bits t [])
 firsts_none types bits None = tt
 firsts_none types bits (Some t) = first_none types bits t
 
-keeps_same : (a : Option (List ℕ)) → Keeps a a
+pub keeps_same : (a : Option (List ℕ)) → Keeps a a
 keeps_same None = tt
 keeps_same (Some x) = refl
 

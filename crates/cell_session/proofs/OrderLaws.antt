@@ -1,5 +1,5 @@
 -- One line more keeps what was said of the order of passes.
-use Rattle.std.proofs.Common.{◌≡◌, ◌≢◌, ◌⊎◌, ◌+◌, ℕ, List, [], ◌++◌, None, Some, inl, inr, refl, sym, ap, ◌∙◌, subst, arith, length, append_assoc, append-nil, slice_get}
+use Rattle.std.proofs.Common.{◌≡◌, ◌≢◌, ◌+◌, ℕ, List, [], ◌++◌, None, Some, inl, inr, refl, sym, ap, ◌∙◌, subst, arith, length, append_assoc, append-nil, slice_get}
 use Rattle.std.proofs.lemmas.Bool.{cases_eq}
 use Rattle.carriers.specs.declared.fate.Fate.{Fate}
 use Rattle.lane_journals.specs.declared.event.LaneEvent.{LaneEvent}
@@ -12,7 +12,6 @@ use Rattle.session_cluster.specs.Keeping.{IsKept}
 use Rattle.session_cluster.specs.Spans.{spans_of}
 use Rattle.session_cluster.specs.Steps.{HasSpans, MayHaveAllPassed, IsMaintained, IsAfter}
 use Rattle.session_cluster.specs.declared.asked.Asked.{Asked}
-use Rattle.session_cluster.specs.declared.asked.Asked.TheVariants as command
 use Rattle.session_cluster.proofs.Passing.{passes_in_order}
 use Rattle.session_cluster.proofs.SessionSteps.{lane_was, passed_legal, noted_after, leaves_spans}
 use Rattle.session_cluster.proofs.SpanLists.{spans_own}

@@ -1,6 +1,9 @@
 -- One line more adds its report to the output.
 use Rattle.std.proofs.Common.{◌≡◌, ◌≢◌, ◌⊎◌, ℕ, suc, ◌+◌, ◌≤◌, List, [], ◌∷◌, ◌++◌, Option, None, Some, inl, inr, refl, sym, ap, ap₂, ◌∙◌, arith, length, append_assoc, append-nil}
 use Rattle.carriers.specs.declared.fate.Fate.{Fate}
+use Rattle.documents.specs.declared.entry.Entry.{Entry}
+use Rattle.stamps.specs.declared.stamp.Stamp.{Stamp}
+use Rattle.lane_journals.specs.Meanings.{entry_at}
 use Rattle.cluster_states.specs.Publishing.{Told}
 use Rattle.messages.specs.declared.outcome.Outcome.{Outcome}
 use Rattle.messages.specs.declared.outcome.Outcome.TheVariants as outcome
@@ -32,29 +35,29 @@ use Rattle.query_text.specs.Grammar.{Said}
 use Rattle.reports.specs.declared.answer.Answer.TheVariants as answer
 
 -- an earlier line's answer stays
-closed_same : (s : Setting) (lane k j : ℕ) (J K : Journal) (o : Option Outcome) → IsLegal (setting_of (bucket_in s lane) s.rules) J → IsLine k J K → outcome_in j J ≡ o → closed_answer o K ≡ closed_answer o J
-closed_same s lane k j J K None legal line is = refl
-closed_same s lane k j J K (Some (outcome.Acked t)) legal line is = refl
-closed_same s lane k j J K (Some (outcome.Missing seen)) legal line is = refl
-closed_same s lane k j J K (Some (outcome.Nothing seen)) legal line is = refl
-closed_same s lane k j J K (Some (outcome.ConditionFailed seen)) legal line is = refl
-closed_same s lane k j J K (Some (outcome.BadUpdate fault)) legal line is = refl
-closed_same s lane k j J K (Some (outcome.TooFew answered needed absent)) legal line is = refl
-closed_same s lane k j J K (Some (outcome.OwnedElsewhere owner version)) legal line is = refl
-closed_same s lane k j J K (Some outcome.NoMemory) legal line is = refl
-closed_same s lane k j J K (Some (outcome.Found t)) legal line is =
+pub closed_same : (s : Setting) (lane j : ℕ) (J K : Journal) (o : Option Outcome) → IsLegal (setting_of (bucket_in s lane) s.rules) J → ((t : Stamp) (e : Entry) → entry_at t J ≡ Some e → entry_at t K ≡ Some e) → outcome_in j J ≡ o → closed_answer o K ≡ closed_answer o J
+closed_same s lane j J K None legal entries is = refl
+closed_same s lane j J K (Some (outcome.Acked t)) legal entries is = refl
+closed_same s lane j J K (Some (outcome.Missing seen)) legal entries is = refl
+closed_same s lane j J K (Some (outcome.Nothing seen)) legal entries is = refl
+closed_same s lane j J K (Some (outcome.ConditionFailed seen)) legal entries is = refl
+closed_same s lane j J K (Some (outcome.BadUpdate fault)) legal entries is = refl
+closed_same s lane j J K (Some (outcome.TooFew answered needed absent)) legal entries is = refl
+closed_same s lane j J K (Some (outcome.OwnedElsewhere owner version)) legal entries is = refl
+closed_same s lane j J K (Some outcome.NoMemory) legal entries is = refl
+closed_same s lane j J K (Some (outcome.Found t)) legal entries is =
     let was = found_written (setting_of (bucket_in s lane) s.rules) J legal j t is in
-    ap (outcome_answer (outcome.Found t)) (line.entries t was.0 was.1 ∙ sym was.1)
+    ap (outcome_answer (outcome.Found t)) (entries t was.0 was.1 ∙ sym was.1)
 
 moved_answer : (s : Setting) (lane k j : ℕ) (J K : Journal) → IsLine k J K ⊎ (K ≡ J) → IsLegal (setting_of (bucket_in s lane) s.rules) J → j ≢ k → closed_answer (outcome_in j K) K ≡ closed_answer (outcome_in j J) J
-moved_answer s lane k j J K (inl line) legal h = ap (λ o. closed_answer o K) (line.outcome_is j h) ∙ closed_same s lane k j J K (outcome_in j J) legal line refl
+moved_answer s lane k j J K (inl line) legal h = ap (λ o. closed_answer o K) (line.outcome_is j h) ∙ closed_same s lane j J K (outcome_in j J) legal line.entries refl
 moved_answer s lane k j J K (inr same) legal h = ap (λ x. closed_answer (outcome_in j x) x) same
 
 operation_stays : (s : Setting) (j k : ℕ) (id : List ℕ) (vs ws : List LaneValue) → Moves k vs ws → AreLegal s (journals vs) → j ≢ k → operation_answer s j id (journals ws) ≡ operation_answer s j id (journals vs)
 operation_stays s j k id vs ws m legal h = let lane = lane_of_id s.bits id in moved_answer s lane k j (journal_in lane (journals vs)) (journal_in lane (journals ws)) (m.journal lane) (legal lane) h
 
 -- what a search found stays, where the views to which it read do
-found_same : (types : Types) (told : Told) (q : Said) (j : ℕ) (vs ws : Cell) (o : Option (List ℕ)) → ViewsStay types vs ws → fronts_of j vs.fronts ≡ o → found_answer_of types told q o (journals ws.lanes) ≡ found_answer_of types told q o (journals vs.lanes)
+pub found_same : (types : Types) (told : Told) (q : Said) (j : ℕ) (vs ws : Cell) (o : Option (List ℕ)) → ViewsStay types vs ws → fronts_of j vs.fronts ≡ o → found_answer_of types told q o (journals ws.lanes) ≡ found_answer_of types told q o (journals vs.lanes)
 found_same types told q j vs ws None views is = refl
 found_same types told q j vs ws (Some gs) views is = ap (λ us. Some (answer.Search (search_answer q (version_now told) us))) (views j gs is)
 

@@ -47,7 +47,7 @@ front_on s lane deeds J K g h grown = record {
 front_changes : (s : Setting) (lane : Low) (deeds : List Deed) (J : List LaneEvent) (g : ℕ) → (h : FrontStands s lane deeds J g) → take g (changes_of J) ≡ changes_of h.before
 front_changes s lane deeds J g h = ap (λ n. take n (changes_of J)) h.front ∙ ap (λ K. take (length (changes_of h.before)) (changes_of K)) h.whole ∙ first-changes h.later h.before
 
-few_taken : {A : Type 0} (n : ℕ) (xs : List A) → length (take n xs) ≤ length xs
+pub few_taken : {A : Type 0} (n : ℕ) (xs : List A) → length (take n xs) ≤ length xs
 few_taken zero xs = omega arith
 few_taken (suc n) [] = omega arith
 few_taken (suc n) (x ∷ xs) = let low = few_taken n xs in omega (arith, low)
@@ -61,7 +61,7 @@ unfolding front_on
 front_view s types lane deeds J K g h grown =
     ap (view_after (opening types)) (front_changes s lane deeds K g (front_on s lane deeds J K g h grown) ∙ sym (front_changes s lane deeds J g h))
 
-views_same : (types : Types) (gs : List ℕ) (vs ws : List LaneValue) → length ws ≡ length vs
+pub views_same : (types : Types) (gs : List ℕ) (vs ws : List LaneValue) → length ws ≡ length vs
     → ((lane : ℕ) (v w : LaneValue) (g : ℕ) → slice_get vs lane ≡ Some v → slice_get ws lane ≡ Some w → slice_get gs lane ≡ Some g → view_to types g w.journal ≡ view_to types g v.journal)
     → views_to types gs (journals ws) ≡ views_to types gs (journals vs)
 views_same types [] [] [] count each = refl
@@ -73,7 +73,7 @@ views_same types (g ∷ gs) (v ∷ vs) (w ∷ ws) count each =
     ap₂ (λ x xs. x ∷ xs) (each zero v w g refl refl refl) (views_same types gs vs ws (omega (arith, count)) (λ lane a b h was is there. each (suc lane) a b h was is there))
 
 -- what each of some items is
-mapped_at : {A B : Type 0} (f : A → B) (xs : List A) (k : ℕ) (x : A) (y : B) → slice_get xs k ≡ Some x → slice_get (map f xs) k ≡ Some y → y ≡ f x
+pub mapped_at : {A B : Type 0} (f : A → B) (xs : List A) (k : ℕ) (x : A) (y : B) → slice_get xs k ≡ Some x → slice_get (map f xs) k ≡ Some y → y ≡ f x
 mapped_at f [] k x y at is = cc at
 mapped_at f (z ∷ xs) zero x y at is = sym (some_is is) ∙ ap f (some_is at)
 mapped_at f (z ∷ xs) (suc k) x y at is = mapped_at f xs k x y at is

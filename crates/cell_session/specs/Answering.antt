@@ -9,6 +9,8 @@ use Rattle.session_cluster.specs.Output.{report_in}
 use Rattle.session_cluster.specs.Steps.{IsDealt, IsAllOrNothing}
 use Rattle.cell_session.specs.declared.answering.Stop.{Stop}
 use Rattle.cell_session.specs.declared.answering.Stop.TheVariants as stop
+use Rattle.cell_session.specs.declared.status.Status.{Status}
+use Rattle.cell_session.specs.declared.status.Status.TheVariants as status
 
 -- a fault comes after the line was dealt with, and a front of the report was written; want of memory
 -- comes before anything is written
@@ -16,3 +18,8 @@ abbrev pub StopsAs : Stop → Setting → ℕ → Asked → Cell → Cell → Op
 StopsAs stop.Fault s line asked old new before now =
     IsDealt s line asked old new × AppendsFront before now (report_in s old.told line asked new)
 StopsAs stop.Memory s line asked old new before now = IsAllOrNothing s line asked old new × Keeps before now
+
+-- how a session ends that stops so
+abbrev pub stop_status : Stop → Status
+stop_status stop.Fault = status.WriteFault
+stop_status stop.Memory = status.NoMemory

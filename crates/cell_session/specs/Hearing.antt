@@ -8,19 +8,18 @@ use Rattle.lane_journals.specs.declared.event.LaneEvent.TheVariants.{Heard}
 use Rattle.lane_calls.specs.LaneValues.{LaneValue}
 use Rattle.lane_lives.specs.declared.setting.Setting.{Setting}
 use Rattle.lane_promises.specs.Hearings.{deaf_in, HeardNewest}
-use Rattle.lane_lives.specs.Lives.{newest_in}
+use Rattle.lane_lives.specs.Lives.{Deed, newest_in}
 use Rattle.lane_lives.specs.Serving.{bucket_in}
 use Rattle.session_cluster.specs.Cells.{Cell}
-use Rattle.session_cluster.specs.Deeds.{deeds_of_lane}
-use Rattle.session_cluster.specs.declared.asked.Asked.{Asked}
 
-pub record HaveHeard (s : Setting) (asked : List Asked) (c : Cell) : Type 0 where
+-- so it is where these deeds were done in each lane
+pub record HaveHeard (s : Setting) (deeds : ℕ → List Deed) (c : Cell) : Type 0 where
   -- a distributor that isn't deaf to the newest state holds it
   pub holds : (lane : ℕ) (v : LaneValue) → slice_get c.lanes lane ≡ Some v → (d : ℕ) → d < 32
-      → has_node (deaf_in (deeds_of_lane s c.upkeeps lane asked)) d ≡ false
-      → held d (history v.journal) ≡ Some (newest_in s (deeds_of_lane s c.upkeeps lane asked)).version
+      → has_node (deaf_in (deeds lane)) d ≡ false
+      → held d (history v.journal) ≡ Some (newest_in s (deeds lane)).version
   -- each hearing is of the state that was published last, by a distributor that isn't deaf to it, or by the lane's
   -- owner under it
   pub hears : (lane : ℕ) (v : LaneValue) → slice_get c.lanes lane ≡ Some v
       → (after before : List LaneEvent) (d version : ℕ) → v.journal ≡ after ++ Heard d version ∷ before
-      → HeardNewest s (bucket_in s lane) (deeds_of_lane s c.upkeeps lane asked) before d version
+      → HeardNewest s (bucket_in s lane) (deeds lane) before d version

@@ -1,4 +1,5 @@
--- For a reader: Lines, Operations, Upkeep, Orders, Searches, FullSearches, Ends, Limits and Programs. The others serve the calls below the top one.
+-- For a reader: Lines, Operations, Upkeep, Orders, Searches, FullSearches, Ends, Limits and Programs, and FedLines and FedEnds of sessions
+-- that feeders run. The others serve the calls below the top ones.
 pub mod StatusNumbers
 pub mod Limits
 pub mod Counting
@@ -17,3 +18,9 @@ pub mod Answering
 pub mod Reads
 pub mod Dealing
 pub mod SoFar
+pub mod SegmentReads
+pub mod Reporting
+pub mod FedEnds
+pub mod FedLines
+pub mod FedDealing
+pub mod FedAnswering

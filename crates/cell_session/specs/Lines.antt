@@ -9,7 +9,7 @@ use Rattle.cell_session.specs.Causes.{HaveCauses}
 use Rattle.cell_session.specs.Ends.{EndsAtLimit}
 use Rattle.cell_session.specs.FullSearches.{AreFull}
 use Rattle.cell_session.specs.Hearing.{HaveHeard}
-use Rattle.cell_session.specs.Operations.{WereAsked, HaveOutcomes, HaveFates}
+use Rattle.cell_session.specs.Operations.{WereAsked, deeds_in, HaveOutcomes, HaveFates}
 use Rattle.cell_session.specs.Searches.{AreRead}
 use Rattle.cell_session.specs.Upkeep.{AreUpkept}
 use Rattle.cell_session.specs.declared.status.Status.{Status}
@@ -17,14 +17,14 @@ use Rattle.cell_session.specs.declared.status.Status.{Status}
 pub record HaveLines (end : Status) (s : Setting) (types : Types) (plans : ℕ → List Fate) (text : Option (List ℕ)) (c : Cell) : Type 0 where
   pub asked : List Asked
   pub were_asked : WereAsked types s.bits text c.dealt asked
-  -- what each of them did in its lane, and that nothing else happened there
-  pub one_outcome : HaveOutcomes s asked c
+  -- what they did in each lane, one after the other, and that nothing else happened there
+  pub one_outcome : HaveOutcomes s (deeds_in s asked c) c
   -- who heard the states that they told
-  pub hearings : HaveHeard s asked c
+  pub hearings : HaveHeard s (deeds_in s asked c) c
   -- what became of the messages
   pub fates : HaveFates plans asked c.lanes
   -- why they were refused, or got too few answers
-  pub causes : HaveCauses s asked c
+  pub causes : HaveCauses s (deeds_in s asked c) c
   -- how the upkeep went that they asked for
   pub upkeeps : AreUpkept end s asked c
   -- how far those read that searched

@@ -9,7 +9,7 @@ use Rattle.lane_calls.specs.LaneValues.{LaneValue}
 use Rattle.lane_keeping.specs.Lines.{IsFresh}
 use Rattle.lane_lives.specs.declared.setting.Setting.{Setting}
 use Rattle.lane_lives.specs.Lives as life
-use Rattle.lane_lives.specs.Lives.{IsLife}
+use Rattle.lane_lives.specs.Lives.{Deed, IsLife}
 use Rattle.lane_calls.specs.Lines.{IsNone}
 use Rattle.lane_lives.specs.Serving.{bucket_in}
 use Rattle.session_cluster.specs.Asking.{IsAsked}
@@ -40,13 +40,17 @@ pub record WereAsked (types : Types) (bits : ℕ) (text : Option (List ℕ)) (de
 
 -- ---- what they did
 
--- each line dealt with that publishes a state, or stops or starts a node, did so in every lane, and each that asks for
--- an operation ran it in the lane of its key, and each that asks for upkeep made the passes that its spans tell, one after
--- the other; and nothing else happened in any lane
-pub record HaveOutcomes (s : Setting) (asked : List Asked) (c : Cell) : Type 0 where
-  pub lives : (lane : ℕ) → lane < length c.lanes → IsLife s (bucket_in s lane) (deeds_of_lane s c.upkeeps lane asked) (journal_in lane (journals_of c))
+-- the deeds of the lines in each lane, one after the other: each line dealt with that publishes a state, or stops or starts
+-- a node, does so in every lane, and each that asks for an operation runs it in the lane of its key, and each that asks for
+-- upkeep makes the passes that its spans tell
+abbrev pub deeds_in : Setting → List Asked → Cell → ℕ → List Deed
+deeds_in s asked c lane = deeds_of_lane s c.upkeeps lane asked
+
+-- these deeds were done in each lane, and nothing else happened there
+pub record HaveOutcomes (s : Setting) (deeds : ℕ → List Deed) (c : Cell) : Type 0 where
+  pub lives : (lane : ℕ) → lane < length c.lanes → IsLife s (bucket_in s lane) (deeds lane) (journal_in lane (journals_of c))
   -- no line but one that asks for an operation has an event in its own name
-  pub no_others : (lane line : ℕ) → IsNone line (life.lines_of (deeds_of_lane s c.upkeeps lane asked)) → IsFresh (history (journal_in lane (journals_of c))) line
+  pub no_others : (lane line : ℕ) → IsNone line (life.lines_of (deeds lane)) → IsFresh (history (journal_in lane (journals_of c))) line
 
 -- ---- what became of their messages
 

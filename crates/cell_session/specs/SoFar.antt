@@ -7,7 +7,7 @@ use Rattle.doc_types.specs.SchemaCodes.{Types}
 use Rattle.lane_lives.specs.Settings.{IsSetting}
 use Rattle.lane_lives.specs.declared.setting.Setting.{Setting}
 use Rattle.session_cluster.specs.declared.asked.Asked.{Asked}
-use Rattle.cell_session.specs.Limits.{most_lines, most_states, most_maintains}
+use Rattle.cell_session.specs.Limits.{most_lines, most_bytes, most_states, most_maintains}
 use Rattle.cell_session.specs.declared.counts.Counts.{Counts}
 use Rattle.cell_session.specs.declared.status.Status.TheVariants as status
 use Rattle.cell_session.specs.Counting.{state_lines, maintain_lines}
@@ -18,6 +18,10 @@ use Rattle.session_cluster.specs.Output.{output_of}
 use Rattle.cell_session.specs.Orders.{GoInOrder}
 use Rattle.cell_session.specs.Searches.{AreRead}
 use Rattle.cell_session.specs.Upkeep.{AreUpkept}
+
+-- a reader that read nothing yet, within the limits of a session
+abbrev pub first_reading : Reading
+first_reading = record { ahead = []; passed = 0; lines = 0; given = 0; max_lines = most_lines; max_bytes = most_bytes }
 
 -- the lines are the first ones of the text, and the reader stands behind them
 abbrev pub IsBehind : Types → ℕ → Reading → Option (List ℕ) → List Asked → List ℕ → Type 0

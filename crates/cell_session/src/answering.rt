@@ -1,17 +1,18 @@
-ghost use Rattle.std.specs.Prelude.{◌≡◌, ◌≤◌, IfOk, OnOk, IfErr};
+ghost use Rattle.std.specs.Prelude.{◌≡◌, ◌≤◌, OnOk, IfErr};
 ghost use Rattle.std.specs.Io.KnownBytes.{Appends};
 ghost use Rattle.io_ends.specs.Causes.{HasRisen};
-ghost use Rattle.cell_session.specs.Answering.{StopsAs};
+ghost use Rattle.cell_session.specs.Answering.{StopsAs, stop_status};
 ghost use Rattle.session_cluster.specs.Asking.{IsOwnAsked};
-ghost use Rattle.session_cluster.specs.Output.{bytes_of, report_in};
+ghost use Rattle.session_cluster.specs.Output.{report_in};
 ghost use Rattle.session_cluster.specs.Keeping.{IsReady};
 ghost use Rattle.session_cluster.specs.Steps.{IsDealt, AreSettled};
 ghost use Rattle.cell_session.specs.declared.answering.Stop.TheVariants as stop;
 
+use crate::reporting::bytes_of;
+use crate::status::Status;
 use carriers::Carrier;
 use io_ends::{Sink, WriteFault, write_all};
 use lane_lives::Setting;
-use reports::{Answer, report};
 use session_cluster::asked::Asked;
 use session_cluster::session::Session;
 use std::alloc::Global;
@@ -25,6 +26,18 @@ pub enum Stop {
     Fault,
     #[error("out of memory")]
     Memory,
+}
+
+impl Stop {
+    /// How a session ends that stops so.
+    pub fn status(self) -> Status
+        ensures { result ≡ stop_status self }
+    {
+        match self {
+            Stop::Fault => Status::WriteFault,
+            Stop::Memory => Status::NoMemory,
+        }
+    }
 }
 
 impl From<NoMemory> for Stop {
@@ -69,14 +82,4 @@ pub fn answer_line<K: Sink, C: Carrier + Drop>(
     let bytes = bytes_of(alloc, line, &answer)?;
     write_all(sink, &bytes)?;
     Ok(())
-}
-
-/// The report of what may be an answer.
-fn bytes_of(alloc: Global, line: u32, answer: &Option<Answer>) -> Result<Vec<u8>, NoMemory>
-    ensures { IfOk result (λ bytes. bytes.items ≡ bytes_of line answer.now) }
-{
-    match answer {
-        Some(answer) => report(alloc, line, answer),
-        None => Ok(Vec::new(alloc)),
-    }
 }

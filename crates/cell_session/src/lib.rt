@@ -12,17 +12,26 @@
 //! let mut cluster = Cluster::empty(alloc);
 //! let status = run_one(alloc, &words, &mut source, &mut sink, &mut PlanCarriers, &mut cluster);
 //! ```
+//!
+//! `run_many` does the same with feeders in threads, where the words choose some: they run the lines of a segment at once,
+//! and the caller deals with the line that ends it. `specs/FedLines.antt` says what the lines did then, by the parts of
+//! `session_segments`, and `specs/FedEnds.antt` what each status says. `run_program` calls the one or the other.
 #![tactic(auto)]
 
 mod answering;
 mod counts;
+pub mod feeding;
 pub mod laws;
 pub mod limits;
 mod next_command;
+mod next_segment;
 pub mod program;
+mod reporting;
 pub mod running;
+mod segment_answering;
 pub mod status;
 
+pub use feeding::run_many;
 pub use lane_lives::UpkeepSpan;
 pub use program::{exit_code, run_program, words_of};
 pub use running::run_one;

@@ -11,16 +11,21 @@ ghost use Rattle.cell_session.specs.Ends.{UsageEnd};
 ghost use Rattle.cell_session.specs.Programs.{IsSession, EndsWith};
 ghost use Rattle.cell_session.specs.StatusNumbers.{status_number};
 
+use crate::feeding::run_many;
 use crate::running::{refuse_words, run_one};
 use crate::status::Status;
 use carriers::{PlanCarrier, PlanCarriers};
 use io_ends::{Sink, Source};
+use line_feeders::FreeGate;
 use session_cluster::cluster::Cluster;
+use session_settings::read_choice;
 use std::alloc::Global;
 use std::env::Args;
 use std::io;
 use std::io::ErrorKind;
 use std::process::ExitCode;
+use std::sync::Wait;
+use std::thread::Threads;
 use value_lists::NoMemory;
 use words_line::WordsFault;
 
@@ -60,10 +65,45 @@ pub fn exit_code(status: Status) -> ExitCode
     ExitCode::from(status.number())
 }
 
-/// Runs a session of the words that a process was called with, over lanes of whose messages no fate is planned until
-/// lines plan some, and answers the number that the process ends with. Where a word was no text that is the number of
-/// wrong words, and the usage line is written.
-pub fn run_program<S: Source, K: Sink>(
+/// Runs a session of these words, over lanes of whose messages no fate is planned until lines plan some: with feeders, where
+/// they choose some.
+fn run_words<R: Threads + Wait + Sync, S: Source, K: Sink>(
+    rt: &R,
+    alloc: Global,
+    words: &[String],
+    source: &mut S,
+    sink: &mut K,
+    cluster: &mut Cluster<PlanCarrier>,
+) -> Status
+    requires { IsTrue (is_empty cluster.old) }
+    ensures { IsSession result (map string_bytes words.now) (S.left source.old) (S.left source.new) cluster.new
+        (K.written sink.old) (K.written sink.new) }
+{
+    let feeders = match read_choice(alloc, words) {
+        Ok(choice) => choice.feeders,
+        Err(WordsFault::Usage) => return refuse_words(alloc, sink),
+        Err(WordsFault::NoMemory) => return Status::NoMemory,
+    };
+    if feeders == 0 {
+        run_one(alloc, words, source, sink, &mut PlanCarriers, cluster)
+    } else {
+        run_many(
+            rt,
+            alloc,
+            words,
+            source,
+            sink,
+            &mut PlanCarriers,
+            cluster,
+            &FreeGate,
+        )
+    }
+}
+
+/// Runs a session of the words that a process was called with, and answers the number that the process ends with. Where a
+/// word was no text that is the number of wrong words, and the usage line is written.
+pub fn run_program<R: Threads + Wait + Sync, S: Source, K: Sink>(
+    rt: &R,
     alloc: Global,
     words: Result<Vec<String>, WordsFault>,
     source: &mut S,
@@ -81,7 +121,7 @@ pub fn run_program<S: Source, K: Sink>(
     ensures nothing_read { IfErr words (λ why. (source.new ≡ source.old) × (cluster.new ≡ cluster.old)) }
 {
     match words {
-        Ok(words) => exit_code(run_one(alloc, &words, source, sink, &mut PlanCarriers, cluster)),
+        Ok(words) => exit_code(run_words(rt, alloc, &words, source, sink, cluster)),
         Err(WordsFault::Usage) => exit_code(refuse_words(alloc, sink)),
         Err(WordsFault::NoMemory) => exit_code(Status::NoMemory),
     }

@@ -3,7 +3,7 @@ ghost use Rattle.std.specs.String.{string_bytes};
 ghost use Rattle.std.specs.Io.KnownBytes.{Appends};
 ghost use Rattle.io_ends.specs.Causes.{HasRisen};
 ghost use Rattle.reports.specs.ReportText.{usage_text};
-ghost use Rattle.session_settings.specs.Choices.{Chooses, AreWrong};
+ghost use Rattle.session_settings.specs.Choices.{ChoosesAlone, AreWrongAlone};
 ghost use Rattle.lane_lives.specs.Settings.{IsSetting};
 ghost use Rattle.session_settings.specs.declared.choice.Choice.{Choice};
 ghost use Rattle.session_cluster.specs.Cells.{is_empty, journals_of};
@@ -38,7 +38,7 @@ use line_values::ValueReader;
 use reports::usage_report;
 use session_cluster::cluster::Cluster;
 use session_cluster::session::{Session, open_session};
-use session_settings::read_choice;
+use session_settings::choose_alone;
 use std::alloc::Global;
 use words_line::WordsFault;
 
@@ -57,51 +57,51 @@ pub fn run_one<S: Source, K: Sink, C: Carriers>(
 
     // the journals: which are legal, what is kept of them, whether lines overlap, that states, stops and starts come
     // to all alike, how many there are, and by what is shown of them
-    ensures legal_lanes { (c : Choice) → Chooses (map string_bytes words.now) c
+    ensures legal_lanes { (c : Choice) → ChoosesAlone (map string_bytes words.now) c
         → AreLegal c.setting (journals_of cluster.new) }
-    ensures durability { (c : Choice) → Chooses (map string_bytes words.now) c
+    ensures durability { (c : Choice) → ChoosesAlone (map string_bytes words.now) c
         → AreDurable c.setting (journals_of cluster.new) }
     ensures lines_in_order { AreInOrder (journals_of cluster.new) }
     ensures state_events { AreTogether (journals_of cluster.new) }
-    ensures lanes { (c : Choice) → Chooses (map string_bytes words.now) c → HasLanes result c.setting cluster.new }
-    ensures shown { (c : Choice) → Chooses (map string_bytes words.now) c → AreShownRight c.setting cluster.new }
+    ensures lanes { (c : Choice) → ChoosesAlone (map string_bytes words.now) c → HasLanes result c.setting cluster.new }
+    ensures shown { (c : Choice) → ChoosesAlone (map string_bytes words.now) c → AreShownRight c.setting cluster.new }
 
     // the lines: which were dealt with; what each of them did, who heard which state, what became of messages, why lines
     // were refused or lacked answers, how upkeep went, that its passes went on in their order whatever was lost, and that
     // searches behind rest are full; and the bytes that answer them
-    ensures dealt_with { (c : Choice) → Chooses (map string_bytes words.now) c
+    ensures dealt_with { (c : Choice) → ChoosesAlone (map string_bytes words.now) c
         → IfTold (S.left source.old)
         (λ text. DealsWith result c.setting.schema c.setting.bits text cluster.new.dealt (S.left source.new)) }
-    ensures lines { (c : Choice) → Chooses (map string_bytes words.now) c
+    ensures lines { (c : Choice) → ChoosesAlone (map string_bytes words.now) c
         → HaveLines result c.setting c.setting.schema (C.plans carriers.old) (S.left source.old) cluster.new }
-    ensures passes_in_order { (c : Choice) → Chooses (map string_bytes words.now) c → GoInOrder c.setting cluster.new }
-    ensures completeness { (c : Choice) → Chooses (map string_bytes words.now) c
+    ensures passes_in_order { (c : Choice) → ChoosesAlone (map string_bytes words.now) c → GoInOrder c.setting cluster.new }
+    ensures completeness { (c : Choice) → ChoosesAlone (map string_bytes words.now) c
         → AreComplete c.setting cluster.new.lanes }
-    ensures bytes_written { (c : Choice) → Chooses (map string_bytes words.now) c
+    ensures bytes_written { (c : Choice) → ChoosesAlone (map string_bytes words.now) c
         → IfTold (S.left source.old) (λ text. OfFirst c.setting.schema c.setting.bits text cluster.new.dealt
         (λ commands. Writes result c.setting commands cluster.new
         (K.written sink.old) (K.written sink.new))) }
 
     // after a fault of the sink the source is called no more: its last call gave the end of the line that was dealt with
-    ensures nothing_more { (c : Choice) → Chooses (map string_bytes words.now) c → result ≡ Status.WriteFault
+    ensures nothing_more { (c : Choice) → ChoosesAlone (map string_bytes words.now) c → result ≡ Status.WriteFault
         → ReadsNoMore (S.left source.old) (S.left source.new) (S.gave source.new) cluster.new.dealt }
 
     // the searches: each counts a document once at most, and at full coverage as an operation left it that is no older
     // than what was acknowledged before
-    ensures searches { (c : Choice) → Chooses (map string_bytes words.now) c
+    ensures searches { (c : Choice) → ChoosesAlone (map string_bytes words.now) c
         → CountOnce c.setting c.setting.schema (S.left source.old) cluster.new }
 
-    // wrong words: the one usage line is written, nothing is read, and the cluster is as it was
-    ensures wrong_words { AreWrong (map string_bytes words.now)
+    // words that choose no such session: the one usage line is written, nothing is read, and the cluster is as it was
+    ensures wrong_words { AreWrongAlone (map string_bytes words.now)
         → UsageEnd result (K.written sink.old) (K.written sink.new) }
-    ensures nothing_read { AreWrong (map string_bytes words.now)
+    ensures nothing_read { AreWrongAlone (map string_bytes words.now)
         → (source.new ≡ source.old) × (cluster.new ≡ cluster.old) }
 
     // each answer has its cause
-    ensures usage { result ≡ Status.Usage → AreWrong (map string_bytes words.now)
+    ensures usage { result ≡ Status.Usage → AreWrongAlone (map string_bytes words.now)
         × Appends (K.written sink.old) (K.written sink.new) usage_text }
     ensures limit { (which : LimitKind) → result ≡ Status.Limit which
-        → (c : Choice) × (Chooses (map string_bytes words.now) c
+        → (c : Choice) × (ChoosesAlone (map string_bytes words.now) c
         × IfTold (S.left source.old) (λ text. OfFirst c.setting.schema c.setting.bits text cluster.new.dealt
         (PassesLimit which c.setting.schema c.setting.bits text))) }
     ensures read_fault { result ≡ Status.ReadFault
@@ -121,7 +121,7 @@ pub fn run_one<S: Source, K: Sink, C: Carriers>(
     journals_are_shown();
     fronts_count_once();
     answers_are_of_what_is_read();
-    match read_choice(alloc, words) {
+    match choose_alone(alloc, words) {
         Ok(choice) => run_lines(alloc, &choice.setting, source, sink, carriers, cluster),
         Err(WordsFault::Usage) => refuse_words(alloc, sink),
         Err(WordsFault::NoMemory) => Status::NoMemory,

@@ -3,4 +3,5 @@ mod Calls
 mod Sparing
 mod Staging
 mod Turning
+mod Idling
 mod Listing

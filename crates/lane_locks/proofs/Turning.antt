@@ -136,10 +136,10 @@ module _ (feeders : ℕ) (lines : Lines) (first v : LaneValue) (ls : List Line) 
         holds = if-some l.via _ _ (λ d h. subst (λ (J : List LaneEvent). IsSome (held d (history J))) (sym (later).is) (held-stays d (later).added first.journal h)) o.holds;
       }
 
-  line-back : (place : ℕ) (line : FeedLine) → slice_get lines place ≡ Some line → (l : Line) × (slice_get ls place ≡ Some l) × (line ≡ line_of l)
+  pub line-back : (place : ℕ) (line : FeedLine) → slice_get lines place ≡ Some line → (l : Line) × (slice_get ls place ≡ Some l) × (line ≡ line_of l)
   line-back place line found = get-map-back line_of ls place line (subst (λ (xs : Lines). slice_get xs place ≡ Some line) (sym k.lines_are) found)
 
-  stage-there : (place : ℕ) (l : Line) → slice_get ls place ≡ Some l → (s : Stage) × (slice_get stages place ≡ Some s)
+  pub stage-there : (place : ℕ) (l : Line) → slice_get ls place ≡ Some l → (s : Stage) × (slice_get stages place ≡ Some s)
   stage-there place l found = let w = get-within ls place l found in let m = (st).many in within-get stages place (omega (arith, w, m))
 
   pub place-within : (place : ℕ) (l : Line) → slice_get ls place ≡ Some l → place < length stages

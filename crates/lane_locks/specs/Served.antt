@@ -30,6 +30,17 @@ pub record AreStages (feeders : ℕ) (lines : Lines) (v : LaneValue) (ls : List 
   pub each : (at : ℕ) (l : Line) (s : Stage) → slice_get ls at ≡ Some l → slice_get stages at ≡ Some s → StageIs v l.number s
   pub turns : (at : ℕ) (l : Line) (s : Stage) → slice_get ls at ≡ Some l → slice_get stages at ≡ Some s → HasStarted s → HasTurn feeders lines (line_of l) v.journal
 
+-- its operation is under way
+abbrev pub is_under_way : Stage → Bool
+is_under_way Waiting = false
+is_under_way Going = true
+is_under_way Ending = true
+is_under_way (Answered x) = false
+
+-- each line has its outcome, or hasn't begun
+abbrev pub AreOver : List Stage → Type 0
+AreOver stages = (at : ℕ) (s : Stage) → slice_get stages at ≡ Some s → is_under_way s ≡ false
+
 -- the lane came by calls for the lines from the one value to the other
 pub record IsRunSoFar (feeders : ℕ) (lines : Lines) (first v : LaneValue) (ls : List Line) (stages : List Stage) : Type 0 where
   pub segment : IsSegment feeders lines first v

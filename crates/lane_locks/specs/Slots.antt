@@ -2,6 +2,8 @@
 use Rattle.std.specs.Prelude.{◌≡◌, ℕ, List, [], false, refl}
 use Rattle.std.specs.FinMap as fin
 use Rattle.std.specs.Coded.{Coded, code_by, coded×, coded_ℕ}
+use Rattle.view_changes.specs.Opening.{opening}
+use Rattle.view_changes.specs.Views.{View}
 use Rattle.lane_calls.specs.LaneValues.{LaneValue, new_value}
 use Rattle.lane_calls.specs.Lines.{Lines}
 use Rattle.lane_core.specs.Shelved.{Shelved, shelved_code}
@@ -27,3 +29,7 @@ pub record IsKept (feeders : ℕ) (lines : Lines) (first v : LaneValue) (ls : Li
 -- the value of a lane of no documents in which nothing happened
 abbrev pub nothing : LaneValue
 nothing = new_value (record { bits = 0; low = 0 }) (record { redundancy = 1; acks = 1; searchable = 1; split_at = 1 }) fin.empty [] [] false
+
+-- a view of documents of no type, of which nothing was heard
+abbrev pub no_view : View
+no_view = opening fin.empty

@@ -1,6 +1,6 @@
 //! The lines of a segment in a lane, and how far each is.
 
-ghost use Rattle.std.specs.Prelude.{◌≡◌, ◌≤◌, ◌<◌, ◌++◌, ◌/◌, ◌%◌, ◌^◌, [], ◌∷◌, IfOk, IfSome, OnOk, OnErr};
+ghost use Rattle.std.specs.Prelude.{◌≡◌, ◌≤◌, ◌<◌, ◌++◌, ◌/◌, ◌%◌, ◌^◌, [], ◌∷◌, IfOk, IfSome, OnOk, OnErr, length};
 ghost use Rattle.global_ids.specs.Keys as keys;
 ghost use Rattle.op_machine.specs.Plans.{IsOwn, IsPlainGet};
 ghost use Rattle.lane_locks.specs.Lines.{lines_of, IsAbove, AreLines, AreWaiting, AreEmpty};
@@ -71,7 +71,7 @@ fn no_places(alloc: Global, feeders: u8) -> Result<Vec<Option<usize>>, NoMemory>
 }
 
 /// The feeder of a key.
-fn feeder_of_key(key: u64, feeders: u8) -> usize
+pub fn feeder_of_key(key: u64, feeders: u8) -> usize
     requires { 0 < feeders }
     ensures { (result ≡ (key / 2 ^ 32) % feeders) × (result < feeders) }
 {
@@ -91,6 +91,13 @@ impl LineList {
             stages: Vec::new(alloc),
             last,
         })
+    }
+
+    /// How many lines there are.
+    pub fn len(&self) -> usize
+        ensures { result ≡ length self.now.lines }
+    {
+        self.lines.len()
     }
 
     /// Adds a line behind the others.

@@ -1,5 +1,6 @@
 //! The names of a segment.
 
+use lane_views::LaneView;
 use std::marker::Brand;
 use std::sync::ledger::Ledger;
 
@@ -22,9 +23,10 @@ pub trait Segment<N>: Ledger {
     ghost shelf: { ℕ → N };
 }
 
-impl Segment<()> for Brand {
+/// The shelf of a lane is named by the view that it showed at first.
+impl Segment<LaneView> for Brand {
     ghost use Rattle.std.specs.Prelude.{[]};
-    ghost use Rattle.lane_locks.specs.Slots.{nothing};
+    ghost use Rattle.lane_locks.specs.Slots.{nothing, no_view};
 
     ghost began = { λ _. nothing };
 
@@ -32,5 +34,5 @@ impl Segment<()> for Brand {
 
     ghost feeders = { 1 };
 
-    ghost shelf = { λ _. tt };
+    ghost shelf = { λ _. no_view };
 }

@@ -1,6 +1,7 @@
 //! What lies behind a lane's lock.
 
-ghost use Rattle.std.specs.Prelude.{◌≡◌, ◌<◌, ◌^◌, List, [], OnOk, IsSome, slice_get, slice_set, length};
+ghost use Rattle.std.specs.Prelude.{◌≡◌, ◌≢◌, ◌<◌, ◌^◌, List, [], OnOk, IsSome, MatchBool, slice_get, slice_set, length};
+ghost use Rattle.std.specs.List.{list_any};
 ghost use Rattle.lane_journals.specs.Meanings.{history};
 ghost use Rattle.lane_keeping.specs.Lines.{IsFresh};
 ghost use Rattle.lane_keeping.specs.Tidings.{last_state};
@@ -13,7 +14,7 @@ ghost use Rattle.lane_core.specs.Advancing.{IsAdvance};
 ghost use Rattle.lane_calls.specs.Segments.{BeginsAs};
 ghost use Rattle.lane_locks.specs.declared.lines.Stage.TheVariants as stage;
 ghost use Rattle.lane_locks.specs.Lines.{line_of, IsWhole, IsOfLane, AreOfLane, AreFresh};
-ghost use Rattle.lane_locks.specs.Served.{is_waiting, is_going, is_ending, is_answered, came, may_begin};
+ghost use Rattle.lane_locks.specs.Served.{is_waiting, is_going, is_ending, is_answered, is_under_way, came, may_begin};
 ghost use Rattle.lane_locks.specs.Slots.{IsKept};
 ghost use Rattle.lane_locks.specs.Turns.{turn_of_begin, stages_begun, BeginsAt, turn_of_advance, stages_gone, AdvancesAt, ClosesAt};
 
@@ -111,6 +112,23 @@ fn is_ending(stages: &[Stage], place: usize) -> bool
         Some(Stage::Ending) => true,
         Some(Stage::Answered { .. } | Stage::Waiting | Stage::Going) | None => false,
     }
+}
+
+/// Whether its operation is under way.
+fn is_under_way(stage: &Stage) -> bool
+    ensures { result ≡ is_under_way stage.now }
+{
+    match stage {
+        Stage::Going | Stage::Ending => true,
+        Stage::Waiting | Stage::Answered { .. } => false,
+    }
+}
+
+/// Whether that of any line is.
+fn any_under_way(stages: &[Stage]) -> bool
+    ensures { result ≡ list_any is_under_way stages.now }
+{
+    stages.iter().any(|stage| is_under_way(stage))
 }
 
 /// Whether the line before, if there is one, has its outcome.
@@ -319,8 +337,22 @@ impl<S: Segment<H::Name>, C: Carrier + Drop, H: Shelf + Drop> Slot<S, C, H> {
         self.lane.tell()
     }
 
+    /// How many lines of the segment are its.
+    pub fn count(&self) -> usize
+        ensures { result ≡ length (S.lines self.now.number) }
+    {
+        self.lines.len()
+    }
+
+    /// Whether no operation is under way there.
+    pub fn is_idle(&self) -> bool
+        ensures { MatchBool result (self.now.lane.lane.under_way ≡ []) (self.now.lane.lane.under_way ≢ []) }
+    {
+        !any_under_way(&self.stages)
+    }
+
     /// What the lock kept: the lane's number, the lane, its lines, how far each is, and the part of the ledger.
-    pub fn into_parts(self) -> (u8, Lane<C, H>, Vec<Line>, Vec<Stage>, Share<S>)
+    pub(crate) fn into_parts(self) -> (u8, Lane<C, H>, Vec<Line>, Vec<Stage>, Share<S>)
         ensures own { (result.0 ≡ self.number) × (result.1 ≡ self.lane) }
         ensures mark { (result.0 < 64) × (result.4.parts ≡ 1) × (result.4.amount ≡ 2 ^ result.0) }
         ensures shelf { H.name result.1.shelf ≡ S.shelf result.0 }

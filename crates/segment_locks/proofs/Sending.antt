@@ -29,7 +29,10 @@ use Rattle.op_machine.proofs.verdict.Verdict.TheSendSync as verdict
 use Rattle.op_machine.specs.contracts.plan.Plan as plan
 use Rattle.op_machine.specs.contracts.machine.OpMachine as machine
 use Rattle.carriers.specs.declared.carrier.Carrier as carrier
+use Rattle.view_changes.proofs.change.LaneChange.TheSendSync as change
+use Rattle.lane_views.proofs.view.LaneView.TheSendSync as view
 use Rattle.shelves.specs.declared.shelf.Shelf as shelf
+use Rattle.shelves.specs.contracts.plain_shelf.PlainShelf as plain_shelf
 use Rattle.upkeep_spans.proofs.watching.Watching.TheSendSync as watching
 use Rattle.lane_states.proofs.known_owner.KnownOwner.TheSendSync as owner
 use Rattle.lane_states.proofs.event_log.EventLog.TheSendSync as log
@@ -76,6 +79,9 @@ job_send : IsSend job.the_row
 job_send = search (shared_send, stamp.the_send, phase_send, crossing.crosses, sendable) depth 60 fits 20000
 
 -- ---- the lane
+
+pub shelf_send : IsSend plain_shelf.the_row
+shelf_send = search (view.the_send, change.the_send, crossing.crosses, sendable) depth 60 fits 40000
 
 state_send : IsSend (state.the_field).row
 state_send = search (schema.the_send, log.the_field_send, cluster_state.the_send, node.the_send, part.the_send, late.the_send, crossing.crosses, sendable) depth 200 fits 400000

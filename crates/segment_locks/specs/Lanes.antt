@@ -6,6 +6,7 @@ use Rattle.lane_core.specs.Shelved.{Shelved}
 use Rattle.lane_locks.specs.declared.lines.Line.{Line}
 use Rattle.lane_locks.specs.declared.lines.Stage.{Stage}
 use Rattle.lane_locks.specs.Lines.{Listed, AreOfLane, AreFresh}
+use Rattle.lane_locks.specs.Served.{AreOver}
 use Rattle.lane_locks.specs.Slots.{IsKept}
 
 -- each of the list is so at its place
@@ -26,8 +27,10 @@ pub record IsReady {H N : Type 0} (name : H → N) (feeders : ℕ) (began : ℕ 
 
 -- ---- after
 
--- it is the lane of its own number, which came by calls of the segment from what it was there, and how far each line is
--- stands beside it
+-- it is the lane of its own number, which came by calls of the segment from what it was there; no operation is under way,
+-- and how far each line is stands beside it
 pub record IsFed {H N : Type 0} (name : H → N) (feeders : ℕ) (began : ℕ → LaneValue) (lines : ℕ → Lines) (shelf : ℕ → N) (number : ℕ) (lane : Shelved H) (ls : List Line) (stages : List Stage) : Type 0 where
   pub shelf_is : name lane.shelf ≡ shelf number
   pub kept : IsKept feeders (lines number) (began number) lane.lane ls stages
+  pub over : AreOver stages
+  pub idle : (lane.lane).under_way ≡ []

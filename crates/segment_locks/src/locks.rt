@@ -12,6 +12,7 @@ use line_feeders::LineLock;
 use shelves::Shelf;
 use std::alloc::Global;
 use std::marker::Model;
+use std::sync::Wait;
 use std::sync::ledger::{Blank, Share, Total};
 use value_lists::NoMemory;
 
@@ -124,8 +125,9 @@ fn lock_all<S: Segment<H::Name>, C: Carrier + Drop, H: Shelf + Drop>(
 
 // ---- closing
 
-/// What the locks kept, with all their marks.
-fn take_all<S: Segment<H::Name>, C: Carrier + Drop, H: Shelf + Drop>(
+/// What the locks kept, each lane once its lines are finished, with all their marks.
+fn take_all<S: Segment<H::Name>, C: Carrier + Drop, H: Shelf + Drop, R: Wait>(
+    rt: &R,
     locks: Vec<LineLock<Slot<S, C, H>>>,
     marks: &mut Share<S>,
     taken: &mut Vec<FedLane<C, H>>,
@@ -140,7 +142,7 @@ fn take_all<S: Segment<H::Name>, C: Carrier + Drop, H: Shelf + Drop>(
 {
     let mut locks = locks;
     while let Some(lock) = locks.pop() {
-        let (number, lane, lines, stages, mark) = lock.into_lines().into_parts();
+        let (number, lane, lines, stages, mark) = lock.into_lines().finish(rt);
         marks.merge(mark);
         taken.push_reserved(FedLane {
             number,
@@ -229,8 +231,8 @@ impl<S: Segment<H::Name>, C: Carrier + Drop, H: Shelf + Drop> SegmentLocks<S, C,
         self.locks.as_slice()
     }
 
-    /// Each lane, at the place of its number. It takes no memory.
-    pub fn close(self) -> Vec<FedLane<C, H>>
+    /// Each lane, at the place of its number, once what is left of its lines is run there. It takes no memory of its own.
+    pub fn close<R: Wait>(self, rt: &R) -> Vec<FedLane<C, H>>
         ensures count { length result.items ≡ self }
         ensures order { EachAt (λ k f. f.number ≡ k) result.items }
         ensures fed { EachAt (λ _ f. IsFed H.name S.feeders S.began S.lines S.shelf f.number f.lane f.lines.items
@@ -243,7 +245,7 @@ impl<S: Segment<H::Name>, C: Carrier + Drop, H: Shelf + Drop> SegmentLocks<S, C,
             mut taken,
             mut lanes,
         } = self;
-        take_all(locks, &mut marks, &mut taken);
+        take_all(rt, locks, &mut marks, &mut taken);
         total.audit(&mut marks);
         in_order::<S, C, H>(taken, &mut lanes);
         lanes

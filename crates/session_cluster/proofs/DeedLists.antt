@@ -19,19 +19,32 @@ use Rattle.session_cluster.specs.declared.cluster.LineSpans.{LineSpans}
 use Rattle.session_cluster.specs.declared.asked.Asked.{Asked}
 use Rattle.session_cluster.specs.declared.asked.Asked.TheVariants as command
 
+-- ---- lines behind others
+
+pub told_append : (told : Told) (cs ds : List Asked) → told_by told (cs ++ ds) ≡ told_by (told_by told cs) ds
+told_append told [] ds = refl
+told_append told (x ∷ cs) ds = told_append (told_next x told) cs ds
+
+pub with_append : (s : Setting) (us : List LineSpans) (lane : ℕ) (told : Told) (line : ℕ) (cs ds : List Asked) (deeds : List Deed)
+    → with_lines s us lane told line (cs ++ ds) deeds ≡ with_lines s us lane (told_by told cs) (line + length cs) ds (with_lines s us lane told line cs deeds)
+with_append s us lane told line [] ds deeds = ap (λ n. with_lines s us lane told n ds deeds) (omega arith)
+with_append s us lane told line (x ∷ cs) ds deeds =
+    let more = with_line s us lane told line x deeds in
+    with_append s us lane (told_next x told) (suc line) cs ds more
+    ∙ ap (λ n. with_lines s us lane (told_by (told_next x told) cs) n ds (with_lines s us lane (told_next x told) (suc line) cs more)) (omega arith)
+
+pub planned_append : (lane : ℕ) (takes : Bool) (planned : List Fate) (cs ds : List Asked) → planned_for lane takes planned (cs ++ ds) ≡ planned_for lane takes (planned_for lane takes planned cs) ds
+planned_append lane takes planned [] ds = refl
+planned_append lane takes planned (x ∷ cs) ds = planned_append lane takes (planned_next lane takes x planned) cs ds
+
 -- ---- one line more
 
 pub told_push : (told : Told) (cs : List Asked) (c : Asked) → told_by told (cs ++ c ∷ []) ≡ told_next c (told_by told cs)
-told_push told [] c = refl
-told_push told (x ∷ cs) c = told_push (told_next x told) cs c
+told_push told cs c = told_append told cs (c ∷ [])
 
 with_push : (s : Setting) (us : List LineSpans) (lane : ℕ) (told : Told) (line : ℕ) (cs : List Asked) (c : Asked) (deeds : List Deed)
     → with_lines s us lane told line (cs ++ c ∷ []) deeds ≡ with_line s us lane (told_by told cs) (line + length cs) c (with_lines s us lane told line cs deeds)
-with_push s us lane told line [] c deeds = ap (λ n. with_line s us lane told n c deeds) (omega arith)
-with_push s us lane told line (x ∷ cs) c deeds =
-    let more = with_line s us lane told line x deeds in
-    with_push s us lane (told_next x told) (suc line) cs c more
-    ∙ ap (λ n. with_line s us lane (told_by (told_next x told) cs) n c (with_lines s us lane (told_next x told) (suc line) cs more)) (omega arith)
+with_push s us lane told line cs c deeds = with_append s us lane told line cs (c ∷ []) deeds
 
 pub deeds_push : (s : Setting) (us : List LineSpans) (lane k : ℕ) (cs : List Asked) (c : Asked) → k ≡ length cs + 1
     → deeds_of_lane s us lane (cs ++ c ∷ []) ≡ with_line s us lane (told_of s cs) k c (deeds_of_lane s us lane cs)
@@ -39,13 +52,12 @@ deeds_push s us lane k cs c is =
     with_push s us lane (first_told s) 1 cs c [] ∙ ap (λ n. with_line s us lane (told_of s cs) n c (deeds_of_lane s us lane cs)) (omega (arith, is))
 
 pub planned_push : (lane : ℕ) (takes : Bool) (planned : List Fate) (cs : List Asked) (c : Asked) → planned_for lane takes planned (cs ++ c ∷ []) ≡ planned_next lane takes c (planned_for lane takes planned cs)
-planned_push lane takes planned [] c = refl
-planned_push lane takes planned (x ∷ cs) c = planned_push lane takes (planned_next lane takes x planned) cs c
+planned_push lane takes planned cs c = planned_append lane takes planned cs (c ∷ [])
 
 -- ---- the spans of a later line
 
 -- where only the spans of another line differ, a line does the same
-same_line : (s : Setting) (us ws : List LineSpans) (lane : ℕ) (told : Told) (line : ℕ) (c : Asked) (deeds : List Deed) → spans_of line ws ≡ spans_of line us → with_line s ws lane told line c deeds ≡ with_line s us lane told line c deeds
+pub same_line : (s : Setting) (us ws : List LineSpans) (lane : ℕ) (told : Told) (line : ℕ) (c : Asked) (deeds : List Deed) → spans_of line ws ≡ spans_of line us → with_line s ws lane told line c deeds ≡ with_line s us lane told line c deeds
 same_line s us ws lane told line command.Blank deeds same = refl
 same_line s us ws lane told line command.TooLong deeds same = refl
 same_line s us ws lane told line command.Barrier deeds same = refl
@@ -60,7 +72,7 @@ same_line s us ws lane told line (command.Search query) deeds same = refl
 same_line s us ws lane told line (command.BadQuery offset) deeds same = refl
 same_line s us ws lane told line command.Maintain deeds same = ap (λ o. Maintains (option_and_then (λ spans. slice_get spans lane) o) ∷ deeds) same
 
-same_lines : (s : Setting) (us ws : List LineSpans) (k lane : ℕ) → ((line : ℕ) → k ≢ line → spans_of line ws ≡ spans_of line us) → (told : Told) (line : ℕ) (cs : List Asked) (deeds : List Deed) → line + length cs ≤ k
+pub same_lines : (s : Setting) (us ws : List LineSpans) (k lane : ℕ) → ((line : ℕ) → k ≢ line → spans_of line ws ≡ spans_of line us) → (told : Told) (line : ℕ) (cs : List Asked) (deeds : List Deed) → line + length cs ≤ k
     → with_lines s ws lane told line cs deeds ≡ with_lines s us lane told line cs deeds
 same_lines s us ws k lane same told line [] deeds low = refl
 same_lines s us ws k lane same told line (c ∷ cs) deeds low =
@@ -211,7 +223,7 @@ acks_by : (told : Told) (cs : List Asked) → (told_by told cs).acks ≡ told.ac
 acks_by told [] = refl
 acks_by told (c ∷ cs) = acks_by (told_next c told) cs ∙ acks_next c told
 
-abbrev told_as : ℕ → List ClusterState → Told
+abbrev pub told_as : ℕ → List ClusterState → Told
 told_as acks states = record { acks = acks; states = states }
 
 pub deeds_told : (s : Setting) (us : List LineSpans) (lane : ℕ) (cs : List Asked) → told_as (s.rules).acks (states_in s (deeds_of_lane s us lane cs)) ≡ told_of s cs

@@ -34,14 +34,15 @@ use Rattle.shelves.specs.Plain.{Plain, ShowsPlain}
 use Rattle.view_changes.specs.Opening.{opening}
 use Rattle.view_changes.specs.Views.{View}
 use Rattle.session_cluster.specs.Cells.{Cell, ShownLane, ShownCell, own_lane, lanes_in, shelves_in}
-use Rattle.session_cluster.specs.Deeds.{told_with, deeds_of_lane}
+use Rattle.session_cluster.specs.Deeds.{told_with}
 use Rattle.session_cluster.specs.Keeping.{IsReady}
 use Rattle.session_cluster.specs.Lanes.{lane_of_id}
 use Rattle.session_cluster.specs.Output.{state_answer, plan_answer}
 use Rattle.session_cluster.specs.Searches.{fronts_of}
 use Rattle.session_cluster.specs.Spans.{spans_of}
 use Rattle.session_cluster.specs.Steps.{with_room, after_state, EachLane, IsTelling, IsRoomy, MayAnnounce, MayMaintain, HasTypes, MayRun, IsOperatedIn, IsDoneInEach, IsStateTold, IsToldRoomy, IsPlannedIn, MayHavePassed, MayHaveAllPassed, IsSettledLane, AreSettled, first_view, unheard}
-use Rattle.session_cluster.proofs.DeedLists.{deeds_told, lines_low}
+use Rattle.session_cluster.proofs.AlikeDeeds.{alike_low}
+use Rattle.session_cluster.proofs.DeedLists.{told_as, deeds_told}
 use Rattle.session_cluster.proofs.Elements.{element_map, set_there, seen_map}
 use Rattle.session_cluster.proofs.KeptLanes.{lane_there}
 use Rattle.session_cluster.proofs.LaneLists.{lane_small, item-at}
@@ -50,7 +51,7 @@ use Rattle.session_cluster.proofs.ShelvedLanes.{lanes_did, shelves_did, each_of,
 -- ---- which lane it is
 
 pub within : (s : Setting) (line at : ℕ) (c : Cell) → IsReady s line c → at < 2 ^ s.bits → at < length c.lanes
-within s line at c ready small = let count : length c.lanes ≡ lane_count s = ready.kept.lanes in subst (λ m. at < m) (sym count) small
+within s line at c ready small = let count : length c.lanes ≡ lane_count s = (ready.done).lanes in subst (λ m. at < m) (sym count) small
 
 pub in_bounds : (s : Setting) (line at : ℕ) (op : Operation) (c : Cell) → IsReady s line c → at ≡ lane_of_id s.bits op.id → at < length c.lanes
 in_bounds s line at op c ready is = within s line at c ready (subst (λ n. n < 2 ^ s.bits) (sym is) (lane_small s.bits op.id))
@@ -141,9 +142,9 @@ via_holds s planned lane deeds v (Some d) is small = serving_heard s planned lan
 pub may_run : (s : Setting) (line at : ℕ) (op : Operation) (via : Option ℕ) (c : Cell) → IsReady s line c → at ≡ lane_of_id s.bits op.id → IfSome via (λ d. d < 32)
     → (v : LaneValue) → slice_get c.lanes at ≡ Some v → MayRun line op via v
 may_run s line at op via c ready is small v there =
-    let deeds = deeds_of_lane s c.upkeeps at ready.commands in
-    let serving = ready.kept.serving at v there in
-    let low : last_line (lines_of deeds) ≤ length ready.commands = lines_low s c.upkeeps at ready.commands in
+    let deeds = ready.deeds at in
+    let serving = (ready.done).serving at v there in
+    let low : last_line (lines_of deeds) ≤ length ready.commands = alike_low s c.upkeeps ready.commands ready.deeds ready.alike at in
     record {
       idle = serving.idle;
       fresh = serving_fresh s _ at deeds v line serving (omega (arith, low, ready.next));
@@ -159,34 +160,34 @@ some_line s line c ready = omega (arith, ready.next)
 
 pub all_telling : (s : Setting) (line : ℕ) (c : Cell) → IsReady s line c → EachLane (IsTelling c.told) c.lanes
 all_telling s line c ready lane v at =
-    let serving = ready.kept.serving lane v at in
-    let deeds = deeds_of_lane s c.upkeeps lane ready.commands in
-    record { idle = serving.idle; told_is = serving_told s _ lane deeds v serving ∙ deeds_told s c.upkeeps lane ready.commands ∙ sym ready.kept.told }
+    let serving = (ready.done).serving lane v at in
+    let deeds = ready.deeds lane in
+    record { idle = serving.idle; told_is = serving_told s _ lane deeds v serving ∙ ap (told_as (s.rules).acks) (ready.alike lane).states ∙ deeds_told s c.upkeeps lane ready.commands ∙ sym (ready.done).told }
 
 -- ---- what may be kept in order
 
 pub all_may_maintain : (s : Setting) (line : ℕ) (c : Cell) → IsReady s line c → EachLane MayMaintain c.lanes
 all_may_maintain s line c ready lane v at =
-    let serving = ready.kept.serving lane v at in
-    let deeds = deeds_of_lane s c.upkeeps lane ready.commands in
+    let serving = (ready.done).serving lane v at in
+    let deeds = ready.deeds lane in
     record { idle = serving.idle; published = some_there (last_state v.journal) (newest_in s deeds) (serving_newest s _ lane deeds v serving) }
 
 few_lanes : (bits : ℕ) → bits ≤ 6 → 2 ^ bits ≤ 64
 few_lanes bits few = pow_mono few
 
 pub few_of : (s : Setting) (line : ℕ) (c : Cell) → IsReady s line c → length c.lanes ≤ 64
-few_of s line c ready = subst (λ n. n ≤ 64) (sym ready.kept.lanes) (few_lanes s.bits ready.setting.most)
+few_of s line c ready = subst (λ n. n ≤ 64) (sym (ready.done).lanes) (few_lanes s.bits ready.setting.most)
 
 pub new_line : (s : Setting) (line : ℕ) (c : Cell) → IsReady s line c → spans_of line c.upkeeps ≡ None
-new_line s line c ready = ready.kept.unkept line (omega (arith, ready.next, ready.kept.dealt))
+new_line s line c ready = (ready.done).unkept line (omega (arith, ready.next, (ready.done).dealt))
 
 -- ---- what may be searched
 
 pub new_search : (s : Setting) (line : ℕ) (c : Cell) → IsReady s line c → fronts_of line c.fronts ≡ None
-new_search s line c ready = ready.kept.unread line (omega (arith, ready.next, ready.kept.dealt))
+new_search s line c ready = (ready.done).unread line (omega (arith, ready.next, (ready.done).dealt))
 
 pub all_typed : (s : Setting) (line : ℕ) (c : Cell) → IsReady s line c → EachLane (HasTypes s.schema) c.lanes
-all_typed s line c ready lane v at = (ready.kept.serving lane v at).types_are
+all_typed s line c ready lane v at = ((ready.done).serving lane v at).types_are
 
 -- ---- where room was made
 

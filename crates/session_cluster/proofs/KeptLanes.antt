@@ -9,7 +9,7 @@ use Rattle.lane_lives.specs.declared.setting.Setting.{Setting}
 use Rattle.lane_lives.specs.Lives.{Deed}
 use Rattle.lane_lives.specs.Serving.{bucket_in, IsServing}
 use Rattle.session_cluster.specs.Cells.{Cell, journals_of}
-use Rattle.session_cluster.specs.Keeping.{IsKept}
+use Rattle.session_cluster.specs.Keeping.{HaveDone}
 use Rattle.session_cluster.specs.Lanes.{Journal, journal_in, AreLegal}
 use Rattle.session_cluster.specs.declared.asked.Asked.{Asked}
 use Rattle.session_cluster.proofs.LaneLists.{journal_is, journal_at, journal_past}
@@ -29,5 +29,5 @@ in_lanes P vs empty each lane = elim (cases_lt lane (length vs)) [
 serving_legal : (s : Setting) (planned : List Fate) (lane : ℕ) (deeds : List Deed) (v : LaneValue) → IsServing s planned lane deeds v → IsLegal (setting_of (bucket_in s lane) s.rules) v.journal
 serving_legal s planned lane deeds v is = subst (λ b. IsLegal (setting_of b s.rules) v.journal) is.lane_is (subst (λ r. IsLegal (setting_of v.lane r) v.journal) is.rules_are (is.holds).legal)
 
-pub kept_legal : (s : Setting) (plans : ℕ → List Fate) (cs : List Asked) (c : Cell) → IsKept s plans cs c → AreLegal s (journals_of c)
+pub kept_legal : {deeds : ℕ → List Deed} (s : Setting) (plans : ℕ → List Fate) (cs : List Asked) (c : Cell) → HaveDone s plans cs deeds c → AreLegal s (journals_of c)
 kept_legal s plans cs c kept = in_lanes (λ lane J. IsLegal (setting_of (bucket_in s lane) s.rules) J) c.lanes (λ lane. tt) (λ lane v at. serving_legal s _ lane _ v (kept.serving lane v at))

@@ -2,6 +2,7 @@
 pub mod Elements
 pub mod LaneLists
 pub mod DeedLists
+pub mod AlikeDeeds
 pub mod KeptLanes
 pub mod SpanLists
 pub mod FrontLists

@@ -14,7 +14,7 @@ use Rattle.distributor_part.specs.declared.rules.Rules.{Rules}
 use Rattle.lane_calls.specs.LaneValues.{LaneValue}
 use Rattle.lane_lives.specs.declared.setting.Setting.{Setting}
 use Rattle.lane_calls.specs.Lines.{FeedLine, IsCarriedOut}
-use Rattle.lane_lives.specs.Lives.{Announces, Stops, Starts, Runs, Maintains}
+use Rattle.lane_lives.specs.Lives.{Deed, Announces, Stops, Starts, Runs, Maintains}
 use Rattle.lane_calls.specs.Readings.{outcome_in}
 use Rattle.lane_lives.specs.Serving.{bucket_in}
 use Rattle.lane_calls.proofs.OneLine.{IsLine}
@@ -22,7 +22,7 @@ use Rattle.lane_lives.proofs.Deeds.{deed_is}
 use Rattle.lane_calls.proofs.Upkept.{pass_made}
 use Rattle.reports.specs.declared.answer.Answer.TheVariants as answer
 use Rattle.session_cluster.specs.Cells.{Cell, journals}
-use Rattle.session_cluster.specs.Keeping.{IsKept}
+use Rattle.session_cluster.specs.Keeping.{HaveDone}
 use Rattle.session_cluster.specs.Lanes.{lane_of_id, journal_in}
 use Rattle.session_cluster.specs.Output.{plan_answer, operation_answer, upkeep_answer, found_answer_of, answer_in}
 use Rattle.session_cluster.specs.Searches.{fronts_of}
@@ -109,7 +109,7 @@ one_moves : (k : ℕ) (vs ws : List LaneValue) (at : ℕ) (v w : LaneValue) → 
 one_moves k vs ws at v w now there takes step = subst (Moves k vs) (sym now) (record { journal = moves_set k vs at v w there step; plans = plans_set vs at v w there takes })
 
 -- the line in the lane of its operation
-line_there : (s : Setting) (plans : ℕ → List Fate) (cs : List Asked) (op : Operation) (via : Option ℕ) (old new : Cell) (k at : ℕ) (x : Outcome) → IsKept s plans cs old → (d : IsOperatedIn at k op via old new x) → IsLine k (d.before).journal (d.after).journal
+line_there : {deeds : ℕ → List Deed} (s : Setting) (plans : ℕ → List Fate) (cs : List Asked) (op : Operation) (via : Option ℕ) (old new : Cell) (k at : ℕ) (x : Outcome) → HaveDone s plans cs deeds old → (d : IsOperatedIn at k op via old new x) → IsLine k (d.before).journal (d.after).journal
 line_there s plans cs op via old new k at x kept d =
     let line : FeedLine = record { number = k; operation = op; via = via } in
     let is = kept.serving at d.before d.there in
@@ -117,7 +117,7 @@ line_there s plans cs op via old new k at x kept d =
     (subst (λ (r : Rules). IsCarriedOut (bucket_in s at) r line via (d.before).journal (d.after).journal) is.rules_are
     (subst (λ (b : Low). IsCarriedOut b (d.before).rules line via (d.before).journal (d.after).journal) is.lane_is (d.ran).done))
 
-operation_moves : (s : Setting) (plans : ℕ → List Fate) (cs : List Asked) (op : Operation) (via : Option ℕ) (old new : Cell) (k at : ℕ) (x : Outcome) → IsKept s plans cs old → IsOperatedIn at k op via old new x → Moves k old.lanes new.lanes
+operation_moves : {deeds : ℕ → List Deed} (s : Setting) (plans : ℕ → List Fate) (cs : List Asked) (op : Operation) (via : Option ℕ) (old new : Cell) (k at : ℕ) (x : Outcome) → HaveDone s plans cs deeds old → IsOperatedIn at k op via old new x → Moves k old.lanes new.lanes
 operation_moves s plans cs op via old new k at x kept d =
     one_moves k old.lanes new.lanes at d.before d.after (ap (λ (c : Cell). c.lanes) d.now) d.there (ap (λ (v : LaneValue). v.takes_plans) (d.ran).after) (inl (line_there s plans cs op via old new k at x kept d))
 
@@ -164,7 +164,7 @@ all_move s k vs ws d = record {
 
 -- ---- any line
 
-pub moves : (s : Setting) (plans : ℕ → List Fate) (cs : List Asked) (c : Asked) (old new : Cell) (k : ℕ) → IsKept s plans cs old → IsAfter s k c old new → Moves k old.lanes new.lanes
+pub moves : {deeds : ℕ → List Deed} (s : Setting) (plans : ℕ → List Fate) (cs : List Asked) (c : Asked) (old new : Cell) (k : ℕ) → HaveDone s plans cs deeds old → IsAfter s k c old new → Moves k old.lanes new.lanes
 moves s plans cs command.Blank old new k kept now = same_moves k old.lanes new.lanes (ap (λ (x : Cell). x.lanes) now)
 moves s plans cs command.TooLong old new k kept now = same_moves k old.lanes new.lanes (ap (λ (x : Cell). x.lanes) now)
 moves s plans cs command.Barrier old new k kept now = same_moves k old.lanes new.lanes (ap (λ (x : Cell). x.lanes) now)

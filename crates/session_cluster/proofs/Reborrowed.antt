@@ -3,7 +3,6 @@ use Rattle.std.proofs.Common.{◌≡◌, ◌⊎◌, ℕ, List, Result, Ok, Err, 
 use Rattle.std.proofs.lemmas.List.{length-map}
 use Rattle.lane_calls.specs.LaneValues.{LaneValue}
 use Rattle.lane_lives.specs.declared.setting.Setting.{Setting}
-use Rattle.shelves.specs.Plain.{Plain}
 use Rattle.lane_core.specs.Shelved.{with_lane}
 use Rattle.session_cluster.specs.Cells.{Cell, ShownLane, ShownCell, own_lane, lanes_in, shelves_in, IsShownCluster}
 use Rattle.session_cluster.specs.Steps.{IsRoomier, with_room, without_room, IsAfter, IsAllOrNothing}

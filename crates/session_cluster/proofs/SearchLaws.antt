@@ -9,6 +9,7 @@ use Rattle.lane_calls.specs.LaneValues.{LaneValue}
 use Rattle.query_groups.specs.declared.answers.SearchAnswer.{SearchAnswer}
 use Rattle.query_text.specs.Grammar.{Said}
 use Rattle.query_text.specs.declared.query.Query.{Query}
+use Rattle.reports.specs.declared.answer.Answer.{Answer}
 use Rattle.reports.specs.declared.answer.Answer.TheVariants as answer
 use Rattle.search_views.specs.Answers.{search_answer}
 use Rattle.search_views.specs.Summed.{IsSummed}
@@ -16,7 +17,7 @@ use Rattle.search_views.specs.declared.sums.SearchSum.{SearchSum}
 use Rattle.session_cluster.specs.Cells.{Cell, ShownLane, lanes_in, journals, journals_of}
 use Rattle.session_cluster.specs.Output.{found_answer_of}
 use Rattle.session_cluster.specs.Searches.{fronts_of, fronts_now, front_now, view_to, views_to, version_now}
-use Rattle.session_cluster.specs.Steps.{EachLane, HasTypes, HasFew, IsSettledLane, IsSearched}
+use Rattle.session_cluster.specs.Steps.{EachLane, HasTypes, HasFew, IsSettledLane, IsNoted, IsSearched}
 use Rattle.session_cluster.proofs.FrontLists.{fronts_own}
 use Rattle.session_cluster.proofs.ShelvedLanes.{below_lanes, past_lanes}
 use Rattle.view_changes.specs.Opening.{opening}
@@ -34,7 +35,7 @@ views_are types [] typed = refl
 views_are types (v ∷ vs) typed = ap₂ (λ x xs. x ∷ xs) (view_is types v (typed zero v refl)) (views_are types vs (λ lane w at. typed (suc lane) w at))
 
 -- the answer is that of the views to which the line read
-pub searched : (types : Types) (line : ℕ) (said : Said) (old new : Cell) (a : SearchAnswer) → EachLane (HasTypes types) old.lanes → fronts_of line old.fronts ≡ None → IsSearched line old new
+pub searched : (types : Types) (line : ℕ) (said : Said) (old new : Cell) (a : SearchAnswer) → EachLane (HasTypes types) old.lanes → fronts_of line old.fronts ≡ None → IsNoted line old new
     → a ≡ search_answer said (version_now old.told) (map view_in old.lanes) → Some (answer.Search a) ≡ found_answer_of types old.told said (fronts_of line new.fronts) (journals_of new)
 searched types line said old new a typed none now is =
     let noted : fronts_of line new.fronts ≡ Some (fronts_now old.lanes) =
@@ -125,11 +126,18 @@ lanes_fronts q w k xs fronts sum so past = all_fronts q w k (lanes_in xs) fronts
 
 -- ---- the line
 
--- the answer of the line that noted how far it read
-pub searched_whole : (types : Types) (line : ℕ) (said : Said) (old mid new : Cell) (a : SearchAnswer) (fronts : List ℕ) → EachLane (HasTypes types) old.lanes → fronts_of line old.fronts ≡ None → mid ≡ old → fronts ≡ fronts_now mid.lanes
-    → a ≡ search_answer said (version_now mid.told) (map view_in mid.lanes) → new ≡ record mid { dealt = line; fronts = mid.fronts ++ record { line = line; fronts = fronts } ∷ [] }
-    → IsSearched line old new × (Some (answer.Search a) ≡ found_answer_of types old.told said (fronts_of line new.fronts) (journals_of new))
-searched_whole types line said old mid new a fronts typed none same are is after =
-    let now : IsSearched line old new = after ∙ ap (λ fs. record mid { dealt = line; fronts = mid.fronts ++ record { line = line; fronts = fs } ∷ [] }) are
-    ∙ ap (λ (x : Cell). record x { dealt = line; fronts = x.fronts ++ record { line = line; fronts = fronts_now x.lanes } ∷ [] }) same in
-    (now, searched types line said old new a typed none now (is ∙ ap (λ (x : Cell). search_answer said (version_now x.told) (map view_in x.lanes)) same))
+-- the answer of the line for which it is noted how far its search read
+pub noted_whole : (types : Types) (line : ℕ) (said : Said) (old new : Cell) (a : SearchAnswer) (fronts : List ℕ) → EachLane (HasTypes types) old.lanes → fronts_of line old.fronts ≡ None → fronts ≡ fronts_now old.lanes
+    → a ≡ search_answer said (version_now old.told) (map view_in old.lanes) → new ≡ record old { fronts = old.fronts ++ record { line = line; fronts = fronts } ∷ [] }
+    → IsNoted line old new × (Some (answer.Search a) ≡ found_answer_of types old.told said (fronts_of line new.fronts) (journals_of new))
+noted_whole types line said old new a fronts typed none are is after =
+    let now : IsNoted line old new = after ∙ ap (λ fs. record old { fronts = old.fronts ++ record { line = line; fronts = fs } ∷ [] }) are in
+    (now, searched types line said old new a typed none now is)
+
+-- which was then dealt with
+pub searched_whole : (types : Types) (line : ℕ) (said : Said) (old mid new : Cell) (a : Answer) → IsNoted line old mid → Some a ≡ found_answer_of types old.told said (fronts_of line mid.fronts) (journals_of mid) → new ≡ record mid { dealt = line }
+    → IsSearched line old new × (Some a ≡ found_answer_of types old.told said (fronts_of line new.fronts) (journals_of new))
+searched_whole types line said old mid new a noted told after = (
+  after ∙ ap (λ (x : Cell). record x { dealt = line }) noted,
+  told ∙ sym (ap (λ (x : Cell). found_answer_of types old.told said (fronts_of line x.fronts) (journals_of x)) after),
+)

@@ -1,5 +1,5 @@
 -- Lanes with their shelves, and both as a session shows them.
-use Rattle.std.proofs.Common.{◌≡◌, ◌<◌, ◌≤◌, ◌+◌, ◌++◌, ℕ, zero, suc, List, [], ◌∷◌, None, Some, inl, inr, map, set, length, slice_get, slice_index_or, refl, sym, ap, ap₂, ◌∙◌, subst, arith, append_assoc}
+use Rattle.std.proofs.Common.{◌≡◌, ◌<◌, ◌≤◌, ◌++◌, ℕ, zero, suc, List, [], ◌∷◌, None, Some, inl, inr, map, set, length, slice_get, slice_index_or, refl, sym, ap, ap₂, ◌∙◌, subst, arith, append_assoc}
 use Rattle.std.proofs.Math.Seq.{map-set_same}
 use Rattle.std.proofs.lemmas.List.{map-append, map-set, length-map}
 use Rattle.view_changes.specs.Opening.{opening}

@@ -79,8 +79,8 @@ pub record ShownCell : Type 0 where
 abbrev pub shown_cell_code : Coded ShownCell
 shown_cell_code = code_by (Cell × List Plain) (coded× cell_code (coded_list plain_code)) (λ s. (s.cell, s.shelves)) (λ p. record { cell = p.0; shelves = p.1 }) (λ _. refl)
 
--- it has lanes as a cluster has, and room for as many without shelves
+-- it has lanes as a cluster has, and room for all that its bits tell apart, without shelves
 pub record IsShownCluster {X : Type 0} (bits lanes : ℕ) (taken : List X) (room : ℕ) : Type 0 where
   pub cluster : IsCluster bits lanes
   pub none : taken ≡ []
-  pub roomy : lanes ≤ room
+  pub roomy : 2 ^ bits ≤ room

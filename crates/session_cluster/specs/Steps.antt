@@ -167,6 +167,10 @@ abbrev pub HasTypes : Types → LaneValue → Type 0
 HasTypes types v = v.types ≡ types
 
 -- how far the search read is noted, which is to the end of each lane's journal
+abbrev pub IsNoted : ℕ → Cell → Cell → Type 0
+IsNoted line old new = new ≡ record old { fronts = old.fronts ++ record { line = line; fronts = fronts_now old.lanes } ∷ [] }
+
+-- and the line is dealt with by that
 abbrev pub IsSearched : ℕ → Cell → Cell → Type 0
 IsSearched line old new = new ≡ record old { dealt = line; fronts = old.fronts ++ record { line = line; fronts = fronts_now old.lanes } ∷ [] }
 

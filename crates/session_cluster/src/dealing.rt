@@ -160,7 +160,12 @@ impl<C: Carrier + Drop> Session<C> {
     }
 
     /// The answer that an outcome in a lane is.
-    fn answer(&self, alloc: Global, at: u8, outcome: Outcome) -> Result<Option<Answer>, NoMemory>
+    pub fn answer(
+        &self,
+        alloc: Global,
+        at: u8,
+        outcome: Outcome,
+    ) -> Result<Option<Answer>, NoMemory>
         ensures { IfOk result (λ answer. answer
             ≡ outcome_answer outcome (entry_of outcome (journal_in at (journals_of self.now.cell)))) }
     {

@@ -5,6 +5,9 @@
 //! upkeep went that lines asked for, and how far searches read. Its lanes have no shelves. A `Session` is seen as a
 //! `ShownCell`: the cell of the cluster that it would leave, and what the shelf of each lane has.
 //!
+//! `deal` deals with one line. A caller that deals with many at once takes the lanes out, puts them back, says up to which
+//! line that dealt, and lets them settle; `answer` and `search_now` give the answers then.
+//!
 //! `specs/Steps.antt` says what one line makes of the cell, `specs/Deeds.antt` the same as deeds of each lane, and
 //! `specs/Output.antt` with which bytes it is answered, read off the lanes.
 //!

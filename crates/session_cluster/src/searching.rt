@@ -1,6 +1,6 @@
 //! What a search line reads of the lanes.
 
-ghost use Rattle.std.specs.Prelude.{◌≡◌, ◌≤◌, ◌∷◌, ◌++◌, [], None, length, map, option_map, IfOk, OnOk, OnErr};
+ghost use Rattle.std.specs.Prelude.{◌≡◌, ◌≤◌, ◌∷◌, ◌++◌, [], None, Some, length, map, option_map, IfOk, OnOk, OnErr};
 ghost use Rattle.std.specs.List.{find};
 ghost use Rattle.cluster_states.specs.Publishing.{newest_of};
 ghost use Rattle.doc_types.specs.SchemaCodes.{Types};
@@ -13,7 +13,7 @@ ghost use Rattle.session_cluster.specs.Output.{found_answer_of};
 ghost use Rattle.session_cluster.specs.Noted.{is_for};
 ghost use Rattle.session_cluster.specs.declared.searching.LineFronts.{LineFronts};
 ghost use Rattle.session_cluster.specs.Searches.{fronts_of, fronts_now, version_of, version_now};
-ghost use Rattle.session_cluster.specs.Steps.{EachLane, HasTypes, IsSearched, IsSettledLane, AreSettled, AreOpened, first_view};
+ghost use Rattle.session_cluster.specs.Steps.{EachLane, HasTypes, IsNoted, IsSearched, IsSettledLane, AreSettled, AreOpened, first_view};
 
 use crate::session::Session;
 use carriers::Carrier;
@@ -109,14 +109,35 @@ impl<C: Carrier + Drop> Session<C> {
         ensures settled { OnOk result (AreSettled self.new) }
         ensures err { OnErr result (self.new ≡ self.old) }
     {
+        let answer = self.search_now(alloc, line, query)?;
+        self.deal_up_to(line);
+        Ok(Some(answer))
+    }
+
+    /// What a query finds as the lanes stand; how far it read is noted for the line, which isn't dealt with by that.
+    pub fn search_now(
+        &mut self,
+        alloc: Global,
+        line: u32,
+        query: Parsed,
+    ) -> Result<Answer, NoMemory>
+        requires few { length self.old.cell.lanes ≤ 64 }
+        requires settled { AreSettled self.old }
+        requires new { fronts_of line self.old.cell.fronts ≡ None }
+        ensures ok { (types : Types) → EachLane (HasTypes types) self.old.cell.lanes
+            → IfOk result (λ answer. IsNoted line self.old.cell self.new.cell
+            × (Some answer ≡ found_answer_of types self.old.cell.told query (fronts_of line self.new.cell.fronts) (journals_of self.new.cell))) }
+        ensures settled { OnOk result (AreSettled self.new) }
+        ensures err { OnErr result (self.new ≡ self.old) }
+    {
         let mut fronts = Vec::with_capacity(alloc, self.lanes.len())?;
         let answer = self.read(alloc, query, &mut fronts)?;
         self.note_fronts(line, fronts)?;
-        Ok(Some(Answer::Search { answer }))
+        Ok(Answer::Search { answer })
     }
 
     /// Each lane shows all changes of its events. At want of memory some do.
-    pub(crate) fn settle(&mut self) -> Result<(), NoMemory>
+    pub fn settle(&mut self) -> Result<(), NoMemory>
         requires { AreOpened self.old.cell.lanes self.old.shelves }
         ensures cell { self.new.cell ≡ self.old.cell }
         ensures settled { OnOk result (AreSettled self.new) }
@@ -143,19 +164,15 @@ impl<C: Carrier + Drop> Session<C> {
         search_all(alloc, &self.lanes, &query, version, fronts)
     }
 
-    /// Notes how far a line's search read, and deals with the line by that.
+    /// Notes how far a line's search read.
     fn note_fronts(&mut self, line: u32, fronts: Vec<u64>) -> Result<(), NoMemory>
         ensures ok { OnOk result (self.new ≡ record self.old {
-          cell = record self.old.cell {
-            dealt = line;
-            fronts = self.old.cell.fronts ++ record { line = line; fronts = fronts.items } ∷ [];
-          };
+          cell = record self.old.cell { fronts = self.old.cell.fronts ++ record { line = line; fronts = fronts.items } ∷ [] };
         }) }
         ensures err { OnErr result (self.new ≡ self.old) }
     {
         let fronts = FrontList::of(fronts);
         self.fronts.push(LineFronts { line, fronts })?;
-        self.dealt = line;
         Ok(())
     }
 }

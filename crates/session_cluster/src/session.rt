@@ -1,4 +1,4 @@
-ghost use Rattle.std.specs.Prelude.{◌≡◌, ◌≤◌, [], length, vec_capacity, IfOk};
+ghost use Rattle.std.specs.Prelude.{◌≡◌, ◌≤◌, ◌^◌, [], length, vec_capacity, IfOk};
 ghost use Rattle.std.specs.Option.{option_copied};
 ghost use Rattle.lane_journals.specs.Meanings.{entry_at};
 ghost use Rattle.lane_lives.specs.Settings.{IsSetting, lane_count};
@@ -22,6 +22,7 @@ use shelves::{NoShelf, PlainShelf};
 use stamps::Stamp;
 use std::alloc::Global;
 use std::marker::Model;
+use std::mem;
 use value_lists::{NoMemory, TryCopy};
 
 /// A session at work: all its lanes, with the shelves from which its searches read.
@@ -114,6 +115,33 @@ impl<C: Carrier + Drop> Session<C> {
             upkeeps,
             fronts,
         };
+    }
+
+    /// Takes the lanes out, with their shelves; they are put back before anything else is done.
+    pub fn take_lanes(&mut self, alloc: Global) -> Vec<Lane<C, PlainShelf>>
+        ensures lanes { lanes_in result.items ≡ self.old.cell.lanes }
+        ensures shelves { shelves_in result.items ≡ self.old.shelves }
+        ensures rest { self.new ≡ record self.old { cell = record self.old.cell { lanes = [] }; shelves = [] } }
+    {
+        mem::replace(&mut self.lanes, Vec::new(alloc))
+    }
+
+    /// Puts all lanes in.
+    pub fn put_lanes(&mut self, lanes: Vec<Lane<C, PlainShelf>>)
+        requires all { length lanes.items ≡ 2 ^ self.old.cell.bits }
+        ensures { self.new ≡ record self.old {
+          cell = record self.old.cell { lanes = lanes_in lanes.items };
+          shelves = shelves_in lanes.items;
+        } }
+    {
+        self.lanes = lanes;
+    }
+
+    /// Lines up to this one are dealt with.
+    pub fn deal_up_to(&mut self, line: u32)
+        ensures { self.new ≡ record self.old { cell = record self.old.cell { dealt = line } } }
+    {
+        self.dealt = line;
     }
 
     /// The entry that was written in a lane with a stamp.

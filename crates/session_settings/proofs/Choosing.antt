@@ -1,5 +1,5 @@
 -- Words choose one session at most.
-use Rattle.std.proofs.Common.{◌≡◌, false, List, ℕ, None, Some, inl, inr, sym, ap, ◌∙◌, subst, arith}
+use Rattle.std.proofs.Common.{◌≡◌, ◌≢◌, ◌≤◌, false, List, ℕ, None, Some, inl, inr, sym, ap, ◌∙◌, subst, arith}
 use Rattle.std.proofs.lemmas.Bool.{false≢true}
 use Rattle.clap.specs.Walk.{Text}
 use Rattle.serde_json.specs.Read.{read}
@@ -12,7 +12,7 @@ use Rattle.json_documents.specs.declared.schema_faults.SchemaFault.{SchemaFault}
 use Rattle.words_line.specs.Said.{Says}
 use Rattle.words_line.specs.declared.options.Options.{Options}
 use Rattle.words_line.proofs.SaidOnce.{said_once}
-use Rattle.session_settings.specs.Choices.{is_built, rules_of, CanBegin, SaysSchema, Chooses, AreWrong}
+use Rattle.session_settings.specs.Choices.{is_built, rules_of, CanBegin, SaysSchema, Chooses, AreWrong, AreWrongAlone, AreWrongFed}
 use Rattle.lane_lives.specs.Settings.{AreRules, IsFirst, IsSetting}
 use Rattle.session_settings.specs.declared.choice.Choice.{Choice}
 use Rattle.lane_lives.specs.declared.setting.Setting.{Setting}
@@ -26,13 +26,13 @@ same_schema text a b x y = cc (x.said, y.said)
 same_setting : (a b : Setting) → a.bits ≡ b.bits → a.rules ≡ b.rules → a.initial ≡ b.initial → a.schema ≡ b.schema → a ≡ b
 same_setting a b bits rules initial schema = λ i. record { bits = bits i; rules = rules i; initial = initial i; schema = schema i }
 
-same_choice : (a b : Choice) → a.setting ≡ b.setting → a ≡ b
-same_choice a b setting = λ i. record { setting = setting i }
+same_choice : (a b : Choice) → a.feeders ≡ b.feeders → a.setting ≡ b.setting → a ≡ b
+same_choice a b feeders setting = λ i. record { feeders = feeders i; setting = setting i }
 
 pub one_choice : (words : List Text) (a b : Choice) → Chooses words a → Chooses words b → a ≡ b
 one_choice words a b x y =
     let same = same_options words a y.options y.said x in
-    same_choice a b
+    same_choice a b (x.feeders ∙ ap (λ (o : Options). o.feeders) same ∙ sym y.feeders)
     (same_setting a.setting b.setting (x.bits ∙ ap (λ (o : Options). o.bits) same ∙ sym y.bits) (x.rules ∙ ap rules_of same ∙ sym y.rules)
     (tells_one y.options.initial a.setting.initial b.setting.initial (subst (λ (o : Options). CanBegin o a.setting.initial) same x.initial).said y.initial.said)
     (same_schema y.options.schema a.setting.schema b.setting.schema (subst (λ (o : Options). SaysSchema o.schema a.setting.schema) same x.schema) y.schema))
@@ -86,3 +86,26 @@ pub no_schema : (words : List Text) (o : Options) (fault : SchemaFault) → Says
 no_schema words o fault said refused c x =
     let right : schema_fault (read o.schema) ≡ None = subst (λ (p : Options). schema_fault (read p.schema) ≡ None) (same_options words c o said x) x.schema.right in
     cc (refused, right)
+
+-- ---- with feeders, or without
+
+pub few_feeders : (words : List Text) (c : Choice) → Chooses words c → c.feeders ≤ 8
+few_feeders words c x = elim (x.said).said [
+  | inl plain ↦ subst (λ n. n ≤ 8) (sym x.feeders) plain.feeders.high
+  | inr made ↦ subst (λ n. n ≤ 8) (sym x.feeders) made.feeders.high
+]
+
+pub wrong_alone : (words : List Text) → AreWrong words → AreWrongAlone words
+wrong_alone words wrong c x = wrong c x.chooses
+
+pub wrong_fed : (words : List Text) → AreWrong words → AreWrongFed words
+wrong_fed words wrong c x = wrong c x.chooses
+
+-- words that choose feeders choose nothing that runs without
+pub fed_not_alone : (words : List Text) (a : Choice) → Chooses words a → a.feeders ≢ 0 → AreWrongAlone words
+fed_not_alone words a chosen some c x = some (ap (λ (o : Choice). o.feeders) (one_choice words a c chosen x.chooses) ∙ x.alone)
+
+pub alone_not_fed : (words : List Text) (a : Choice) → Chooses words a → a.feeders ≡ 0 → AreWrongFed words
+alone_not_fed words a chosen none c x =
+    let same : c.feeders ≡ 0 = ap (λ (o : Choice). o.feeders) (one_choice words c a x.chooses chosen) ∙ none in
+    omega (arith, same, x.some)

@@ -2,6 +2,7 @@ ghost use Rattle.std.specs.Prelude.{◌≡◌, ◌≢◌, IfOk, IfErr, IfSome, I
 ghost use Rattle.std.specs.String.{string_bytes};
 ghost use Rattle.cluster_states.specs.ClusterStates.{State};
 ghost use Rattle.session_settings.specs.Choices.{is_built, rules_of, CanBegin, SaysSchema, Chooses, AreWrong};
+ghost use Rattle.session_settings.specs.Choices.{ChoosesAlone, ChoosesFed, AreWrongAlone, AreWrongFed};
 
 use cluster_states::{ClusterState, States};
 use distributor_part::Rules;
@@ -13,6 +14,8 @@ use words_line::{Options, WordsFault, read_words};
 /// What the words choose.
 #[derive(Drop)]
 pub struct Choice {
+    /// How many feeders run the lines; where it is 0, each line is run behind the one before.
+    pub feeders: u8,
     /// What the session is set to, its schema with it.
     pub setting: Setting,
 }
@@ -36,6 +39,7 @@ pub fn read_choice(alloc: Global, words: &[String]) -> Result<Choice, WordsFault
     };
     match schema_from_json(alloc, options.schema.text()) {
         Ok(schema) => Ok(Choice {
+            feeders: options.feeders,
             setting: Setting {
                 bits: options.bits,
                 rules: rules_of(&options),
@@ -48,12 +52,44 @@ pub fn read_choice(alloc: Global, words: &[String]) -> Result<Choice, WordsFault
     }
 }
 
+/// What the words choose, where that is to run each line behind the one before.
+pub fn choose_alone(alloc: Global, words: &[String]) -> Result<Choice, WordsFault>
+    ensures chosen { IfOk result (λ choice. ChoosesAlone (map string_bytes words.now) choice) }
+    ensures usage { (result ≡ Err WordsFault.Usage) → AreWrongAlone (map string_bytes words.now) }
+{
+    let choice = match read_choice(alloc, words) {
+        Ok(choice) => choice,
+        Err(why) => return Err(why),
+    };
+    if choice.feeders == 0 {
+        Ok(choice)
+    } else {
+        Err(WordsFault::Usage)
+    }
+}
+
+/// What the words choose, where that is to have feeders run the lines.
+pub fn choose_fed(alloc: Global, words: &[String]) -> Result<Choice, WordsFault>
+    ensures chosen { IfOk result (λ choice. ChoosesFed (map string_bytes words.now) choice) }
+    ensures usage { (result ≡ Err WordsFault.Usage) → AreWrongFed (map string_bytes words.now) }
+{
+    let choice = match read_choice(alloc, words) {
+        Ok(choice) => choice,
+        Err(why) => return Err(why),
+    };
+    if choice.feeders == 0 {
+        Err(WordsFault::Usage)
+    } else {
+        Ok(choice)
+    }
+}
+
 /// Whether each option that isn't built yet stands at its default.
 #[tactic(auto, unfolding(crate::specs::Choices::is_built))]
 fn is_built(options: &Options) -> bool
     ensures { result ≡ is_built options.now }
 {
-    options.feeders == 0 && options.generate.is_none()
+    options.generate.is_none()
 }
 
 /// The state that the options say, where it can be published first.

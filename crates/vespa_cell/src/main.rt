@@ -10,6 +10,7 @@ use std::{env, mem};
 fn main(rt: HostRuntime) -> ExitCode {
     let mut cluster = Cluster::empty(rt.alloc());
     let code = run_program(
+        &rt,
         rt.alloc(),
         words_of(rt.alloc(), env::args(&rt)),
         &mut StdSource::new(rt.stdin()),

@@ -2,15 +2,9 @@ use Rattle.cell_session.proofs.program.run_program.Goals as goal
 
 pub returns-in-Ok-clause-session : goal.returns-in-Ok-clause-session
 returns-in-Ok-clause-session g c = rw c.in-Ok.is (record {
-  status = c.run_one.result;
+  status = c.run_words.result;
   number_is = c.exit_code.ensures;
-  holds = rw (← c.deref.ensures.value) (record {
-    legal = c.run_one.ensures.legal_lanes;
-    dealt_with = c.run_one.ensures.dealt_with;
-    lines = c.run_one.ensures.lines;
-    written = c.run_one.ensures.bytes_written;
-    wrong = c.run_one.ensures.wrong_words;
-  });
+  holds = rw (← c.deref.ensures.value) c.run_words.ensures;
 })
 
 pub returns-in-Err-Usage-clause-no_text : goal.returns-in-Err-Usage-clause-no_text

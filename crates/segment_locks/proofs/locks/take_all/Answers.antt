@@ -18,7 +18,7 @@ loop-lock-init g c = (
 pub loop-lock-preserved : goal.loop-lock-preserved
 loop-lock-preserved g c =
     let i = c.loop-lock.invariant in
-    let p = c.into_parts-number in
+    let p = c.finish-number in
     let fewer : length c.loop-lock.locks.items ≡ length c.pop.new.self.items + 1 = ap length c.in-Some.ensures.items ∙ push-length _ _ in
     let more : length c.push_reserved.new.self.items ≡ length c.loop-lock.taken.items + 1 = ap length c.push_reserved.ensures.items ∙ push-length _ _ in
     let numbers = ap (map (λ (f : FedLane _ _ _ _). f.number)) c.push_reserved.ensures.items ∙ map-push (λ (f : FedLane _ _ _ _). f.number) _ _ in
@@ -26,6 +26,6 @@ loop-lock-preserved g c =
       omega (arith, i.0, fewer, more),
       omega (arith, i.1, more, c.merge.ensures.parts, p.ensures.mark.1),
       omega (arith, i.2, sum, c.merge.ensures.amount, p.ensures.mark.2),
-      each-longer _ _ _ _ c.push_reserved.ensures.items i.3 (record { shelf_is = p.ensures.shelf; kept = p.ensures.kept }),
+      each-longer _ _ _ _ c.push_reserved.ensures.items i.3 (record { shelf_is = p.ensures.shelf; kept = p.ensures.kept; over = p.ensures.over; idle = p.ensures.idle }),
       omega (arith, i.4, c.push_reserved.ensures.capacity),
     )

@@ -1,4 +1,4 @@
-use Rattle.std.proofs.Common.{◌≤◌, ◌∙◌, ap, length, arith, Result, Ok, Err, OnOk}
+use Rattle.std.proofs.Common.{◌≤◌, ◌∙◌, ap, length, arith}
 use Rattle.proof_basics.proofs.Results.{ok_then}
 use Rattle.shelves.specs.Plain.{Plain}
 use Rattle.session_cluster.proofs.SearchLaws.{none_read, settled_at, read_more, lanes_summed, lanes_fronts}

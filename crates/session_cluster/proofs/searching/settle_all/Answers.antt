@@ -1,4 +1,4 @@
-use Rattle.std.proofs.Common.{refl, ap, ◌∙◌, arith}
+use Rattle.std.proofs.Common.{refl, ◌∙◌, arith}
 use Rattle.std.proofs.Math.Seq.{map-set_same}
 use Rattle.shelves.specs.Plain.{Plain, ShowsPlain}
 use Rattle.lane_core.specs.Showing.{IsSettled}

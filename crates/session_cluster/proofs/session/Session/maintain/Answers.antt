@@ -1,4 +1,4 @@
-use Rattle.std.proofs.Common.{◌⊎◌, Some, inl, inr, ap, ◌∙◌, sym, subst, map}
+use Rattle.std.proofs.Common.{Some, inr, ap, ◌∙◌, sym, subst, map}
 use Rattle.proof_basics.proofs.Results.{err_then}
 use Rattle.session_cluster.specs.Cells.{Cell}
 use Rattle.session_cluster.specs.Output.{upkeep_answer}

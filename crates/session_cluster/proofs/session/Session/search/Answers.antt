@@ -1,4 +1,4 @@
-use Rattle.std.proofs.Common.{refl, ap, sym, subst}
+use Rattle.std.proofs.Common.{ap, sym, subst}
 use Rattle.session_cluster.specs.Steps.{AreSettled}
 use Rattle.session_cluster.proofs.SearchLaws.{searched_whole}
 use Rattle.session_cluster.proofs.ShelvedLanes.{cell_of}
@@ -6,8 +6,8 @@ use Rattle.session_cluster.proofs.session.Session.search.Goals as goal
 
 pub returns-clause-ok : goal.returns-clause-ok
 returns-clause-ok g c types typed =
-    searched_whole types c.args.line c.args.query c.args.self.now.cell c.args.self.now.cell c.note_fronts.new.self.cell c.in_ok-answer.answer _ typed c.requires.new refl c.in_ok-answer.ensures.fronts c.in_ok-answer.ensures.answer
-    (ap cell_of c.in_ok-note_fronts.ensures.ok)
+    let told = c.in_ok-answer.ensures.ok types typed in
+    searched_whole types c.args.line c.args.query c.args.self.now.cell c.search_now.new.self.cell c.deal_up_to.new.self.cell c.in_ok-answer.answer told.0 told.1 (ap cell_of c.deal_up_to.ensures)
 
 pub returns-clause-settled : goal.returns-clause-settled
-returns-clause-settled g c = subst AreSettled (sym c.in_ok-note_fronts.ensures.ok) (record { shelves = c.requires.settled.shelves; few = c.requires.settled.few })
+returns-clause-settled g c = subst AreSettled (sym c.deal_up_to.ensures) (record { shelves = c.in_ok-answer.ensures.settled.shelves; few = c.in_ok-answer.ensures.settled.few })

@@ -1,0 +1,2 @@
+-- Of this program alone.
+mod Asking

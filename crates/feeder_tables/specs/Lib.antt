@@ -1,0 +1,2 @@
+-- `Lines` says which lines a lane can be asked for.
+pub mod Lines

@@ -1,0 +1,78 @@
+-- What a session on threads does at once: one line alone, or those of a segment together.
+use Rattle.std.specs.Prelude.{◌≡◌, ℕ, Bool, true, false, List, [], ◌∷◌, ◌++◌}
+use Rattle.lane_calls.specs.Lines.{Lines}
+use Rattle.session_cluster.specs.Asking.{IsOwnAsked}
+use Rattle.session_cluster.specs.declared.asked.Asked.{Asked}
+use Rattle.session_cluster.specs.declared.asked.Asked.TheVariants as command
+
+-- ---- where a segment ends
+
+-- the line ends a segment: it changes states, nodes, fates or upkeep, or it is a barrier
+abbrev pub cuts : Asked → Bool
+cuts command.Blank = false
+cuts command.TooLong = false
+cuts command.Barrier = true
+cuts (command.Bad why) = false
+cuts (command.Feed op via) = false
+cuts (command.State state deaf) = true
+cuts (command.BadState offset) = true
+cuts (command.Stop node) = true
+cuts (command.Start node) = true
+cuts (command.Net lane fates) = true
+cuts command.Maintain = true
+cuts (command.Search query) = false
+cuts (command.BadQuery offset) = false
+
+-- none of the lines does
+abbrev pub AreStill : List Asked → Type 0
+AreStill [] = Unit {0}
+AreStill (c ∷ cs) = (cuts c ≡ false) × AreStill cs
+
+-- each asks for what may be asked in a session of 2^bits lanes
+abbrev pub AreOwn : ℕ → List Asked → Type 0
+AreOwn bits [] = Unit {0}
+AreOwn bits (c ∷ cs) = IsOwnAsked bits c × AreOwn bits cs
+
+-- ---- what is done at once
+
+-- one line alone, or those of a segment together, where these of each lane were left without an outcome
+pub data Part : Type 0 where
+  Alone : Asked → Part
+  Together : List Asked → (ℕ → Lines) → Part
+
+abbrev pub asked_of : Part → List Asked
+asked_of (Alone c) = c ∷ []
+asked_of (Together cs left) = cs
+
+-- the lines of parts, the oldest first
+abbrev pub asked_in : List Part → List Asked
+asked_in [] = []
+asked_in (p ∷ ps) = asked_of p ++ asked_in ps
+
+-- no line of a segment would end it
+abbrev pub AreStillIn : List Part → Type 0
+AreStillIn [] = Unit {0}
+AreStillIn (Alone c ∷ ps) = AreStillIn ps
+AreStillIn (Together cs left ∷ ps) = AreStill cs × AreStillIn ps
+
+-- a segment, perhaps of no line, stands before each line that cuts, and behind the last one
+abbrev pub AreCut : List Part → Type 0
+AreCut [] = ⊥
+AreCut (Alone c ∷ ps) = ⊥
+AreCut (Together cs left ∷ []) = AreStill cs
+AreCut (Together cs left ∷ Alone c ∷ ps) = AreStill cs × ((cuts c ≡ true) × AreCut ps)
+AreCut (Together cs left ∷ Together ds more ∷ ps) = ⊥
+
+-- each segment so far was ended by a line that cuts
+abbrev pub AreEnded : List Part → Type 0
+AreEnded [] = Unit {0}
+AreEnded (Alone c ∷ ps) = ⊥
+AreEnded (Together cs left ∷ []) = ⊥
+AreEnded (Together cs left ∷ Alone c ∷ ps) = AreStill cs × ((cuts c ≡ true) × AreEnded ps)
+AreEnded (Together cs left ∷ Together ds more ∷ ps) = ⊥
+
+-- memory was wanted for no line
+abbrev pub NoneLeft : List Part → Type 0
+NoneLeft [] = Unit {0}
+NoneLeft (Alone c ∷ ps) = NoneLeft ps
+NoneLeft (Together cs left ∷ ps) = ((lane : ℕ) → left lane ≡ []) × NoneLeft ps
