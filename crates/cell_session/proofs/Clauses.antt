@@ -36,7 +36,7 @@ use Rattle.cell_session.specs.Ends.{IfTold, AreFirst, OfFirst, HasLanes, PassesL
 use Rattle.cell_session.specs.Lines.{HaveLines}
 use Rattle.session_cluster.specs.Lanes.{Journal, journal_in, AreLegal, AreInOrder, AreTogether}
 use Rattle.cell_session.specs.LanePromises.{AreDurable, AreComplete, AreShownRight}
-use Rattle.cell_session.specs.Operations.{IsCommandAt, WereAsked, deeds_in, HaveOutcomes, HaveFates}
+use Rattle.cell_session.specs.Operations.{IsCommandAt, WereAsked, deeds_in, deeds_before, HaveOutcomes, HaveFates}
 use Rattle.cell_session.specs.declared.status.Status.{Status}
 use Rattle.cell_session.specs.declared.status.Status.TheVariants as status
 use Rattle.cell_session.proofs.OrderLaws.{none_gone}
@@ -199,8 +199,8 @@ none_lines s types plans text c none dealt unkept unread = record {
     refused = λ lane v at line owner version. absurd (no_lane c.lanes lane v none at);
     short = λ lane v at line answered needed absent. absurd (no_lane c.lanes lane v none at);
   };
-  upkeeps = none_upkept status.NoMemory s c unkept;
-  search_fronts = none_read s c unread;
+  upkeeps = none_upkept status.NoMemory s (deeds_before s [] c) c unkept;
+  search_fronts = none_read s (deeds_before s [] c) c unread;
   full_at_rest = none_full s c;
   reached = tt;
 }
@@ -226,7 +226,7 @@ ends_lines all end s setting types plans text left c before now (inr some) = rec
   causes = kept_causes all.refused all.short s setting plans some.commands c some.kept;
   upkeeps = some.upkept;
   search_fronts = some.read;
-  full_at_rest = kept_full all.searches all.covered end s setting plans some.commands c some.kept (some.few).few some.upkept some.read;
+  full_at_rest = kept_full s plans some.commands c some.kept some.read all.searches all.covered end setting (some.few).few some.upkept;
   reached = some.reached;
 }
 
@@ -237,7 +237,7 @@ pub ends_searches : SearchLaws → (end : Status) (s : Setting) → IsSetting s 
 ends_searches laws end s setting types plans text left c before now (inl none) = record {
   asked = [];
   were_asked = were_asked types s.bits text [] c.dealt (sym none.dealt) few_none (told_none types s.bits text);
-  each = none_counts s [] c none.unread;
+  each = none_counts s (deeds_before s [] c) c none.unread;
 }
 ends_searches laws end s setting types plans text left c before now (inr some) = record {
   asked = some.commands;

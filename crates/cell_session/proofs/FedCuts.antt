@@ -1,5 +1,5 @@
 -- A line that ends a segment, and how the session ends behind one.
-use Rattle.std.proofs.Common.{◌≡◌, ℕ, ◌+◌, ◌<◌, ◌≤◌, true, List, [], ◌∷◌, ◌++◌, Option, Ok, Err, inl, inr, refl, sym, ap, ap₂, ◌∙◌, subst, arith, length, length-append, append-nil}
+use Rattle.std.proofs.Common.{◌≡◌, ℕ, ◌+◌, ◌≤◌, true, List, [], ◌∷◌, ◌++◌, Option, Ok, Err, inl, inr, refl, sym, ap, ap₂, ◌∙◌, subst, arith, length, length-append, append-nil}
 use Rattle.std.proofs.KnownBytes.{Appends-trans}
 use Rattle.std.specs.Io.KnownBytes.{Appends, Keeps}
 use Rattle.carriers.specs.declared.fate.Fate.{Fate}
@@ -9,9 +9,9 @@ use Rattle.io_ends.specs.Reading.{Reading}
 use Rattle.io_ends.specs.declared.next.LimitKind.{LimitKind}
 use Rattle.lane_lives.specs.declared.setting.Setting.{Setting}
 use Rattle.session_cluster.specs.Cells.{Cell, journals_of}
-use Rattle.session_cluster.specs.Deeds.{first_told}
+use Rattle.session_cluster.specs.Deeds.{first_told, told_of}
 use Rattle.session_cluster.specs.Output.{report_in, output_of}
-use Rattle.session_cluster.specs.Steps.{IsRoomier, IsAfter, IsDealt, IsAllOrNothing}
+use Rattle.session_cluster.specs.Steps.{IsRoomier, IsSpanNoted, IsAfter, IsDealt, IsAllOrNothing}
 use Rattle.session_cluster.specs.declared.asked.Asked.{Asked}
 use Rattle.session_cluster.proofs.KeptLanes.{kept_legal}
 use Rattle.session_cluster.proofs.SessionSteps.{done_roomier, done_as}
@@ -22,7 +22,8 @@ use Rattle.session_segments.proofs.PartLists.{asked_push, cut_still, ended_more,
 use Rattle.cell_session.specs.Answering.{StopsAs}
 use Rattle.cell_session.specs.Counting.{state_lines, maintain_lines, counts_with, AreFew}
 use Rattle.cell_session.specs.Ends.{IfTold, StopsAt}
-use Rattle.cell_session.specs.FedEnds.{StopsFed, WritesFed}
+use Rattle.cell_session.specs.FedDealing.{AreNoted}
+use Rattle.cell_session.specs.FedEnds.{EndsInLines, StopsFed, WritesFed}
 use Rattle.cell_session.specs.Limits.{most_lines, most_bytes, most_states, most_maintains}
 use Rattle.cell_session.specs.Reads.{IsReadEnd}
 use Rattle.cell_session.specs.SegmentReads.{TakesStep}
@@ -32,31 +33,33 @@ use Rattle.cell_session.specs.declared.counts.Counts.{Counts}
 use Rattle.cell_session.specs.declared.next_command.Step.TheVariants as step
 use Rattle.cell_session.specs.declared.status.Status.{Status}
 use Rattle.cell_session.specs.declared.status.Status.TheVariants as status
-use Rattle.cell_session.proofs.FedLoops.{SegmentLaws, IsFedTo, Ends, ended, short_stops, takes_all, all_told, output_append}
+use Rattle.cell_session.proofs.FedLoops.{SegmentLaws, IsFedTo, Ends, ended, short_stops, ends_in_lines, all_told, output_append}
+use Rattle.cell_session.proofs.FedNoted.{noted_at, noted_roomier, noted_alone}
 use Rattle.cell_session.proofs.FedOutput.{GoesOn, AreAnswered, journals_grow, all_answered_on, answered_append, output_on}
 use Rattle.cell_session.proofs.FedSteps.{cut_goes, cut_within, cut_answered}
 use Rattle.cell_session.proofs.Loops.{AreCounts, counts_more, counts_full, full_passes, full_reached, told_more, first_of, few_of, stops_of, reached_of, appends_kept}
 use Rattle.cell_session.proofs.OutputLaws.{roomier_output}
+use Rattle.cell_session.proofs.UpkeepLaws.{noted_last, cut_last}
 
 -- ---- ends of reading
 
 -- one that comes of reading stops the session as where each line runs alone
-stops_same : (end : Status) (types : Types) (bits : ℕ) (text left : Option (List ℕ)) (cs : List Asked) (last : Option ℕ) (a b : ℕ) → IsReadEnd end last a b → IfTold text (λ t. StopsAt end types bits t left cs)
-    → IfTold text (λ t. StopsFed end types bits t left cs)
-stops_same status.Done types bits text left cs last a b may stops = stops
-stops_same status.ReadFault types bits text left cs last a b may stops = stops
-stops_same status.NoMemory types bits text left cs last a b may stops = stops
-stops_same (status.Limit which) types bits text left cs last a b may stops = stops
-stops_same status.Usage types bits text left cs last a b may stops = absurd may
-stops_same status.WriteFault types bits text left cs last a b may stops = absurd may
+stops_same : (end : Status) (types : Types) (bits : ℕ) (text left : Option (List ℕ)) (ps : List Part) (last : Option ℕ) (a b : ℕ) → IsReadEnd end last a b → IfTold text (λ t. StopsAt end types bits t left (asked_in ps))
+    → IfTold text (λ t. StopsFed end types bits t left ps)
+stops_same status.Done types bits text left ps last a b may stops = stops
+stops_same status.ReadFault types bits text left ps last a b may stops = stops
+stops_same status.NoMemory types bits text left ps last a b may stops = stops
+stops_same (status.Limit which) types bits text left ps last a b may stops = stops
+stops_same status.Usage types bits text left ps last a b may stops = absurd may
+stops_same status.WriteFault types bits text left ps last a b may stops = absurd may
 
-written_same : (end : Status) (s : Setting) (cs : List Asked) (c : Cell) (before now : Option (List ℕ)) (last : Option ℕ) (a b : ℕ) → IsReadEnd end last a b → Appends before now (output_of s cs c) → WritesFed end s cs c before now
-written_same status.Done s cs c before now last a b may wrote = wrote
-written_same status.ReadFault s cs c before now last a b may wrote = wrote
-written_same status.NoMemory s cs c before now last a b may wrote = takes_all s cs c before now wrote
-written_same (status.Limit which) s cs c before now last a b may wrote = wrote
-written_same status.Usage s cs c before now last a b may wrote = absurd may
-written_same status.WriteFault s cs c before now last a b may wrote = absurd may
+written_same : (end : Status) (s : Setting) (ps : List Part) (c : Cell) (before now : Option (List ℕ)) (last : Option ℕ) (a b : ℕ) → IsReadEnd end last a b → Appends before now (output_of s (asked_in ps) c) → WritesFed end s ps c before now
+written_same status.Done s ps c before now last a b may wrote = wrote
+written_same status.ReadFault s ps c before now last a b may wrote = wrote
+written_same status.NoMemory s ps c before now last a b may wrote = inl wrote
+written_same (status.Limit which) s ps c before now last a b may wrote = wrote
+written_same status.Usage s ps c before now last a b may wrote = absurd may
+written_same status.WriteFault s ps c before now last a b may wrote = absurd may
 
 module _ (laws : SegmentLaws) (s : Setting) (types : Types) (feeders : ℕ) (plans : ℕ → List Fate) (text : Option (List ℕ)) where
   abbrev Behind : Reading → Option (List ℕ) → Counts → Cell → Option (List ℕ) → Option (List ℕ) → Type 0
@@ -71,8 +74,8 @@ module _ (laws : SegmentLaws) (s : Setting) (types : Types) (feeders : ℕ) (pla
   over_end end mid reader between left counts c before now last a b so lines bytes takes may =
       let was = asked_in so.parts in
       ended end s types feeders plans text left c before now so.parts was refl (inl so.cut) (λ other. so.none_left) so.done (first_of types s.bits text was mid between so.told)
-      (stops_same end types s.bits text left was last a b may (stops_of end types s.bits text between left mid reader was so.told so.count lines bytes takes.shows takes.stands takes.advances last a b may))
-      (written_same end s was c before now last a b may so.output) (few_of was counts so.counts_are so.few) (reached_of end mid reader was so.count lines takes.advances)
+      (stops_same end types s.bits text left so.parts last a b may (stops_of end types s.bits text between left mid reader was so.told so.count lines bytes takes.shows takes.stands takes.advances last a b may))
+      (written_same end s so.parts c before now last a b may so.output) (noted_at end s feeders so.parts c so.noted) (few_of was counts so.counts_are so.few) (reached_of end mid reader was so.count lines takes.advances)
 
   -- one line more is of a kind of which there may be no more
   pub limit_end : (which : LimitKind) (mid reader : Reading) (between left : Option (List ℕ)) (counts : Counts) (c : Cell) (before now : Option (List ℕ)) (number : ℕ) (command : Asked)
@@ -83,7 +86,7 @@ module _ (laws : SegmentLaws) (s : Setting) (types : Types) (feeders : ℕ) (pla
       let is_full = counts_full counts command which full in
       ended (status.Limit which) s types feeders plans text left c before now so.parts was refl (inl so.cut) (λ other. so.none_left) so.done (first_of types s.bits text was mid between so.told)
       (full_passes which types s.bits text between mid counts was number command so.told so.count (so.counts_are).states_are (so.counts_are).maintains_are lines bytes takes.shows is_full)
-      so.output (few_of was counts so.counts_are so.few) (full_reached which counts was command (so.counts_are).states_are (so.counts_are).maintains_are is_full)
+      so.output (noted_at (status.Limit which) s feeders so.parts c so.noted) (few_of was counts so.counts_are so.few) (full_reached which counts was command (so.counts_are).states_are (so.counts_are).maintains_are is_full)
 
   -- ---- one line more
 
@@ -146,8 +149,11 @@ module _ (laws : SegmentLaws) (s : Setting) (types : Types) (feeders : ℕ) (pla
       all_answered = answered_append s 1 was (c ∷ []) (journals_of new) (all_answered_on s 1 was (journals_of old) (journals_of new) (journals_grow (length was) old new goes) so.answered)
           (cut_answered s (1 + length was) c (journals_of new) cut, tt)
 
-      cut_more : Appends now now' (report_in s old.told number c new) → IsFedTo AreEnded s types feeders plans text reader left counted new before now'
-      cut_more wrote = record {
+      noted_by : IsSpanNoted number c old new → (end : Status) → AreNoted end s feeders (ps ++ Alone c ∷ []) new
+      noted_by spans end = noted_alone s plans feeders ps c old new number so.done next after so.noted end cut (noted_last s c old new number end spans)
+
+      cut_more : IsSpanNoted number c old new → Appends now now' (report_in s old.told number c new) → IsFedTo AreEnded s types feeders plans text reader left counted new before now'
+      cut_more spans wrote = record {
         setting = so.setting;
         parts = ps ++ Alone c ∷ [];
         cut = whole;
@@ -160,44 +166,57 @@ module _ (laws : SegmentLaws) (s : Setting) (types : Types) (feeders : ℕ) (pla
             (subst (Appends before now') (sym bytes_more) (Appends-trans before now now' (output_of s was old) (report_in s old.told number c new) so.output wrote));
         answered = subst (λ (ds : List Asked). AreAnswered s 1 ds (journals_of new)) (sym asked) all_answered;
         within = cut_within s plans feeders ps c old new number so.done after cut so.within;
+        noted = noted_by spans status.Done;
         told = subst (λ (ds : List Asked). IfTold text (IsBehind types s.bits reader left ds)) (sym asked) behind;
       }
 
-      front_end : AppendsFront now now' (report_in s old.told number c new) → EndsSo status.WriteFault left new before now'
-      front_end (front, (rest, (all, (some, wrote)))) =
+      front_end : IsSpanNoted number c old new → AppendsFront now now' (report_in s old.told number c new) → EndsSo status.WriteFault left new before now'
+      front_end spans (front, (rest, (all, (some, wrote)))) =
           ended status.WriteFault s types feeders plans text left new before now' (ps ++ Alone c ∷ []) more asked (inr whole) (λ other. left_none) done (first_of types s.bits text more reader left behind)
-          (all_told text (0 < length more) (omega (arith, length-append was (c ∷ [])))) (record {
-            earlier = was;
-            last = c;
-            later = [];
+          (all_told text (EndsInLines (ps ++ Alone c ∷ [])) (ends_in_lines ps (Alone c) (omega arith))) (record {
+            whole = ps;
+            last = Alone c;
             all = refl;
+            earlier = [];
+            line = c;
+            later = [];
+            lines = refl;
             front = front;
             rest = rest;
             cut = some;
-            report = ap₂ (λ t n. report_in s t n c new) (sym (so.done).told) (sym next) ∙ all;
-            output = subst (λ x. Appends before now' (x ++ front)) (sym earlier) (Appends-trans before now now' (output_of s was old) front so.output wrote);
-          }) few tt
+            report = ap (λ es. report_in s (told_of s es) (length es + 1) c new) (append-nil was) ∙ ap₂ (λ t n. report_in s t n c new) (sym (so.done).told) (sym next) ∙ all;
+            output = subst (λ es. Appends before now' (output_of s es new ++ front)) (sym (append-nil was))
+                (subst (λ x. Appends before now' (x ++ front)) (sym earlier) (Appends-trans before now now' (output_of s was old) front so.output wrote));
+          }) (noted_by spans status.WriteFault) few tt
 
       unreported_end : Keeps now now' → EndsSo status.NoMemory left new before now'
       unreported_end kept =
           ended status.NoMemory s types feeders plans text left new before now' (ps ++ Alone c ∷ []) more asked (inr whole) (λ other. left_none) done (first_of types s.bits text more reader left behind)
-          (short_stops types s.bits text left more)
-          (record { earlier = was; later = c ∷ []; all = refl; output = subst (Appends before now') (sym earlier) (appends_kept before now now' (output_of s was old) so.output kept) }) few tt
+          (short_stops types s.bits text left (ps ++ Alone c ∷ []))
+          (inr (record {
+            whole = ps;
+            last = Alone c;
+            all = refl;
+            earlier = [];
+            later = c ∷ [];
+            lines = refl;
+            output = subst (λ es. Appends before now' (output_of s es new)) (sym (append-nil was)) (subst (Appends before now') (sym earlier) (appends_kept before now now' (output_of s was old) so.output kept));
+          })) (noted_alone s plans feeders ps c old new number so.done next after so.noted status.NoMemory cut (cut_last s c old new number after)) few tt
 
     room_end : IsRoomier old new → Keeps now now' → EndsSo status.NoMemory left new before now'
     room_end room kept =
         let same = ap (λ (x : Cell). x.upkeeps) room.rest in
         let done = done_as s plans was (λ lane. fed_deeds s old.upkeeps feeders lane ps) (λ lane. fed_deeds s new.upkeeps feeders lane ps) new (λ lane. ap (λ us. fed_deeds s us feeders lane ps) (sym same))
         (done_roomier s plans was (λ lane. fed_deeds s old.upkeeps feeders lane ps) old new room so.done) in
-        ended status.NoMemory s types feeders plans text left new before now' ps was refl (inl so.cut) (λ other. so.none_left) done (first_of types s.bits text was mid between so.told) (short_stops types s.bits text left was)
-        (takes_all s was new before now' (subst (Appends before now') (sym (roomier_output s was old new room)) (appends_kept before now now' (output_of s was old) so.output kept)))
-        (few_of was counts so.counts_are so.few) tt
+        ended status.NoMemory s types feeders plans text left new before now' ps was refl (inl so.cut) (λ other. so.none_left) done (first_of types s.bits text was mid between so.told) (short_stops types s.bits text left ps)
+        (inl (subst (Appends before now') (sym (roomier_output s was old new room)) (appends_kept before now now' (output_of s was old) so.output kept)))
+        (noted_roomier status.NoMemory s feeders ps old new room so.noted) (few_of was counts so.counts_are so.few) tt
 
     pub line_more : IsDealt s number c old new → Appends now now' (report_in s old.told number c new) → IsFedTo AreEnded s types feeders plans text reader left counted new before now'
-    line_more dealt wrote = cut_more dealt.0 wrote
+    line_more dealt wrote = cut_more dealt.0 dealt.1 wrote
 
     pub line_fault : StopsAs stop.Fault s number c old new now now' → EndsSo status.WriteFault left new before now'
-    line_fault stopped = front_end stopped.0.0 stopped.1
+    line_fault stopped = front_end stopped.0.0 stopped.0.1 stopped.1
 
     by_all : IsAllOrNothing s number c old new → Keeps now now' → EndsSo status.NoMemory left new before now'
     by_all (inl room) kept = room_end room kept

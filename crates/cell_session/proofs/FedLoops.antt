@@ -1,5 +1,5 @@
 -- The segments of a session, and the lines that end them, one after the other.
-use Rattle.std.proofs.Common.{◌≡◌, ◌≢◌, ◌⊎◌, ℕ, suc, ◌+◌, ◌<◌, ◌≤◌, Bool, false, List, [], ◌∷◌, ◌++◌, Option, None, Some, inl, inr, refl, sym, ap, ap₂, ◌∙◌, subst, arith, length, length-append, append_assoc, append-nil, take}
+use Rattle.std.proofs.Common.{◌≡◌, ◌≢◌, ℕ, suc, ◌+◌, ◌<◌, ◌≤◌, Bool, false, List, [], ◌∷◌, ◌++◌, Option, None, Some, inl, inr, refl, sym, ap, ap₂, ◌∙◌, subst, arith, length, length-append, append_assoc, append-nil, take}
 use Rattle.std.proofs.KnownBytes.{Appends-nil, Appends-trans}
 use Rattle.std.specs.Io.KnownBytes.{Appends, Keeps}
 use Rattle.std.specs.List.{count_by}
@@ -18,16 +18,17 @@ use Rattle.session_cluster.specs.Output.{bytes_of, report_in, output_from, outpu
 use Rattle.session_cluster.specs.Searches.{fronts_of}
 use Rattle.session_cluster.specs.Steps.{IsAfter}
 use Rattle.session_cluster.specs.declared.asked.Asked.{Asked}
+use Rattle.session_cluster.specs.declared.asked.Asked.TheVariants as command
 use Rattle.session_cluster.proofs.DeedLists.{told_append}
 use Rattle.session_cluster.proofs.KeptLanes.{kept_legal}
 use Rattle.session_segments.specs.Fed.{IsFed, IsFedShort, answers_from, HaveFed}
-use Rattle.session_segments.specs.Parts.{cuts, AreStill, AreStillIn, Part, Alone, Together, asked_in, AreCut, AreEnded, NoneLeft}
+use Rattle.session_segments.specs.Parts.{cuts, AreStill, AreStillIn, Part, Alone, Together, asked_of, asked_in, AreCut, AreEnded, AreInTurn, NoneLeft}
 use Rattle.session_segments.proofs.PartLists.{told_still, asked_push, ended_still, cut_more, none_left_together}
 use Rattle.cell_session.specs.Counting.{is_state, is_maintain, state_lines, maintain_lines, AreFew}
 use Rattle.cell_session.specs.Ends.{IfTold, AreFirst, EndsAtLimit}
 use Rattle.cell_session.specs.FedAnswering.{IsCutShort, StopsSegmentAs}
-use Rattle.cell_session.specs.FedDealing.{EndsFedAs}
-use Rattle.cell_session.specs.FedEnds.{StopsFed, TakesSomeFront, TakesSome, WritesFed}
+use Rattle.cell_session.specs.FedDealing.{AreNoted, EndsFedAs}
+use Rattle.cell_session.specs.FedEnds.{EndsInLines, StopsFed, TakesPartFront, TakesPart, WritesFed}
 use Rattle.cell_session.specs.Limits.{most_lines, most_bytes}
 use Rattle.cell_session.specs.Reporting.{reports_from, TakesReports, TakesReportsFront}
 use Rattle.cell_session.specs.SegmentReads.{ReadsOn}
@@ -36,6 +37,7 @@ use Rattle.cell_session.specs.declared.answering.Stop.TheVariants as stop
 use Rattle.cell_session.specs.declared.counts.Counts.{Counts}
 use Rattle.cell_session.specs.declared.status.Status.{Status}
 use Rattle.cell_session.specs.declared.status.Status.TheVariants as status
+use Rattle.cell_session.proofs.FedNoted.{take_at, taken_from, none_noted, noted_at, noted_together}
 use Rattle.cell_session.proofs.FedOutput.{GoesOn, AreAnswered, ReadWithin, journals_grow, all_answered_on, answered_append, output_on}
 use Rattle.cell_session.proofs.FedSteps.{fed_goes, fed_within, fed_answered}
 use Rattle.cell_session.proofs.Loops.{AreCounts, first_of, few_of, no_counts, told_none, appends_kept}
@@ -141,6 +143,7 @@ pub record IsFedTo (shape : List Part → Type 0) (s : Setting) (types : Types) 
   pub output : Appends before now (output_of s (asked_in parts) c)
   pub answered : AreAnswered s 1 (asked_in parts) (journals_of c)
   pub within : ReadWithin c
+  pub noted : AreNoted status.Done s feeders parts c
   pub told : IfTold text (IsBehind types s.bits reader left (asked_in parts))
 
 none_within : (c : Cell) → c.fronts ≡ [] → ReadWithin c
@@ -149,9 +152,9 @@ none_within c none line gs has = absurd (nothing (sym (ap (fronts_of line) none)
     nothing : fronts_of line [] ≡ Some gs → ⊥
     nothing h = cc h
 
-pub fed_to_none : (s : Setting) (types : Types) (feeders : ℕ) (plans : ℕ → List Fate) (text before : Option (List ℕ)) (reader : Reading) (c : Cell) → IsSetting s → reader ≡ first_reading → IsKept s plans [] c → c.fronts ≡ []
+pub fed_to_none : (s : Setting) (types : Types) (feeders : ℕ) (plans : ℕ → List Fate) (text before : Option (List ℕ)) (reader : Reading) (c : Cell) → IsSetting s → reader ≡ first_reading → IsKept s plans [] c → c.upkeeps ≡ [] → c.fronts ≡ []
     → IsFedTo AreEnded s types feeders plans text reader text no_counts c before before
-fed_to_none s types feeders plans text before reader c setting is kept unread = subst (λ r. IsFedTo AreEnded s types feeders plans text r text no_counts c before before) (sym is) (record {
+fed_to_none s types feeders plans text before reader c setting is kept unkept unread = subst (λ r. IsFedTo AreEnded s types feeders plans text r text no_counts c before before) (sym is) (record {
   setting = setting;
   parts = [];
   cut = tt;
@@ -163,6 +166,7 @@ fed_to_none s types feeders plans text before reader c setting is kept unread = 
   output = Appends-nil before;
   answered = tt;
   within = none_within c unread;
+  noted = none_noted status.Done s feeders c unkept unread;
   told = told_none types s.bits text;
 })
 
@@ -170,16 +174,17 @@ fed_to_none s types feeders plans text before reader c setting is kept unread = 
 
 -- of these lines
 pub ended : (end : Status) (s : Setting) (types : Types) (feeders : ℕ) (plans : ℕ → List Fate) (text left : Option (List ℕ)) (c : Cell) (before now : Option (List ℕ)) (ps : List Part) (cs : List Asked) → asked_in ps ≡ cs
-    → AreCut ps ⊎ AreEnded ps → (end ≢ status.NoMemory → NoneLeft ps) → HaveFed s plans feeders ps c → IfTold text (λ t. AreFirst types s.bits t cs) → IfTold text (λ t. StopsFed end types s.bits t left cs)
-    → WritesFed end s cs c before now → AreFew cs → EndsAtLimit end cs → EndsFedAs end s types feeders plans text left c before now
-ended end s types feeders plans text left c before now ps cs is cut none done first stops wrote few reached = inr (record {
+    → AreInTurn ps → (end ≢ status.NoMemory → NoneLeft ps) → HaveFed s plans feeders ps c → IfTold text (λ t. AreFirst types s.bits t cs) → IfTold text (λ t. StopsFed end types s.bits t left ps)
+    → WritesFed end s ps c before now → AreNoted end s feeders ps c → AreFew cs → EndsAtLimit end cs → EndsFedAs end s types feeders plans text left c before now
+ended end s types feeders plans text left c before now ps cs is turns none done first stops wrote noted few reached = inr (record {
   parts = ps;
-  cut = cut;
+  turns = turns;
   none_left = none;
   done = done;
   first = subst (λ ds. IfTold text (λ t. AreFirst types s.bits t ds)) (sym is) first;
-  stops = subst (λ ds. IfTold text (λ t. StopsFed end types s.bits t left ds)) (sym is) stops;
-  output = subst (λ ds. WritesFed end s ds c before now) (sym is) wrote;
+  stops = stops;
+  output = wrote;
+  noted = noted;
   few = subst AreFew (sym is) few;
   reached = subst (EndsAtLimit end) (sym is) reached;
 })
@@ -189,12 +194,14 @@ all_told None P holds = tt
 all_told (Some t) P holds = holds
 
 -- where memory wanted, nothing is claimed of what was read
-pub short_stops : (types : Types) (bits : ℕ) (text left : Option (List ℕ)) (cs : List Asked) → IfTold text (λ t. StopsFed status.NoMemory types bits t left cs)
-short_stops types bits None left cs = tt
-short_stops types bits (Some t) left cs = tt
+pub short_stops : (types : Types) (bits : ℕ) (text left : Option (List ℕ)) (ps : List Part) → IfTold text (λ t. StopsFed status.NoMemory types bits t left ps)
+short_stops types bits None left ps = tt
+short_stops types bits (Some t) left ps = tt
 
-pub takes_all : (s : Setting) (cs : List Asked) (c : Cell) (before now : Option (List ℕ)) → Appends before now (output_of s cs c) → TakesSome s cs c before now
-takes_all s cs c before now wrote = record { earlier = cs; later = []; all = sym (append-nil cs); output = wrote }
+pub ends_in_lines : (ps : List Part) (p : Part) → 0 < length (asked_of p) → EndsInLines (ps ++ p ∷ [])
+ends_in_lines [] p some = some
+ends_in_lines (x ∷ []) p some = some
+ends_in_lines (x ∷ y ∷ ps) p some = ends_in_lines (y ∷ ps) p some
 
 module _ (laws : SegmentLaws) (s : Setting) (types : Types) (feeders : ℕ) (plans : ℕ → List Fate) (text : Option (List ℕ)) where
   abbrev pub To : (List Part → Type 0) → Reading → Option (List ℕ) → Counts → Cell → Option (List ℕ) → Option (List ℕ) → Type 0
@@ -211,11 +218,11 @@ module _ (laws : SegmentLaws) (s : Setting) (types : Types) (feeders : ℕ) (pla
   few_lines cs counts are few = few_of cs counts are few
 
   -- memory wanted, and all is as it was
-  pub same_ends : (shape : List Part → Type 0) → ((ps : List Part) → shape ps → AreCut ps ⊎ AreEnded ps) → (reader : Reading) (left left' : Option (List ℕ)) (counts : Counts) (c : Cell) (before now : Option (List ℕ))
+  pub same_ends : (shape : List Part → Type 0) → ((ps : List Part) → shape ps → AreInTurn ps) → (reader : Reading) (left left' : Option (List ℕ)) (counts : Counts) (c : Cell) (before now : Option (List ℕ))
       → To shape reader left counts c before now → Ends status.NoMemory left' c before now
   same_ends shape cut reader left left' counts c before now so =
       ended status.NoMemory s types feeders plans text left' c before now so.parts (asked_in so.parts) refl (cut so.parts so.cut) (λ other. so.none_left) so.done
-      (first_of types s.bits text (asked_in so.parts) reader left so.told) (short_stops types s.bits text left' (asked_in so.parts)) (takes_all s (asked_in so.parts) c before now so.output)
+      (first_of types s.bits text (asked_in so.parts) reader left so.told) (short_stops types s.bits text left' so.parts) (inl so.output) (noted_at status.NoMemory s feeders so.parts c so.noted)
       (few_lines (asked_in so.parts) counts so.counts_are so.few) tt
 
   -- ---- a segment
@@ -283,6 +290,12 @@ module _ (laws : SegmentLaws) (s : Setting) (types : Types) (feeders : ℕ) (pla
       all_answered = answered_append s 1 was cs (journals_of new) (all_answered_on s 1 was (journals_of old) (journals_of new) (journals_grow (length was) old new goes) so.answered)
           (subst (λ n. AreAnswered s n cs (journals_of new)) (omega (arith, number)) (fed_answered s feeders first cs old new fed done.lanes))
 
+      within_now : ReadWithin new
+      within_now = fed_within s feeders first cs none old new fed.lanes cs fed.now so.within
+
+      noted_now : AreNoted status.Done s feeders (ps ++ Together cs none ∷ []) new
+      noted_now = noted_together status.Done s plans feeders first ps cs cs none old new so.done done still number fed.lanes fed.now so.noted (λ j q asks. inl asks) (λ j q asks. asks) within_now
+
       pub fed_more : Appends now now' (reports_from first (answers_from s old.told first cs new)) → To AreCut mid between counts new before now'
       fed_more wrote = record {
         setting = so.setting;
@@ -295,27 +308,31 @@ module _ (laws : SegmentLaws) (s : Setting) (types : Types) (feeders : ℕ) (pla
         done = done;
         output = subst (λ (ds : List Asked). Appends before now' (output_of s ds new)) (sym asked) (wrote_more cs still wrote);
         answered = subst (λ (ds : List Asked). AreAnswered s 1 ds (journals_of new)) (sym asked) all_answered;
-        within = fed_within s feeders first cs none old new fed.lanes cs fed.now so.within;
+        within = within_now;
+        noted = noted_now;
         told = subst (λ (ds : List Asked). IfTold text (IsBehind types s.bits mid between ds)) (sym asked) behind;
       }
 
       -- the sink took a front of one of its reports
-      front_taken : TakesReportsFront first (answers_from s old.told first cs new) now now' → TakesSomeFront s (was ++ cs) new before now'
+      front_taken : TakesReportsFront first (answers_from s old.told first cs new) now now' → TakesPartFront s (ps ++ Together cs none ∷ []) new before now'
       front_taken t =
           let p = parted s old.told first cs new t.earlier (t.last ∷ t.later) t.all in
           by_later p.earlier p.later p.all p.front_is p.back_is
         where
-          by_later : (es ls : List Asked) → cs ≡ es ++ ls → answers_from s old.told first es new ≡ t.earlier → answers_from s old.told (first + length es) ls new ≡ t.last ∷ t.later → TakesSomeFront s (was ++ cs) new before now'
+          by_later : (es ls : List Asked) → cs ≡ es ++ ls → answers_from s old.told first es new ≡ t.earlier → answers_from s old.told (first + length es) ls new ≡ t.last ∷ t.later → TakesPartFront s (ps ++ Together cs none ∷ []) new before now'
           by_later es [] all front back = absurd (omega (arith, ap length back))
           by_later es (l ∷ ls) all front back =
               let quiet = still_front es (l ∷ ls) (subst AreStill all still) in
               let size : length t.earlier ≡ length es = ap length (sym front) ∙ answers_long s old.told first es new in
               let told : told_of s (was ++ es) ≡ old.told = told_append (first_told s) was es ∙ ap (λ u. told_by u es) (sym (so.done).told) ∙ told_still old.told es quiet in
               record {
-                earlier = was ++ es;
-                last = l;
+                whole = ps;
+                last = Together cs none;
+                all = refl;
+                earlier = es;
+                line = l;
                 later = ls;
-                all = ap (λ ds. was ++ ds) all ∙ sym (append_assoc was es (l ∷ ls));
+                lines = all;
                 front = t.front;
                 rest = t.rest;
                 cut = t.cut;
@@ -331,37 +348,54 @@ module _ (laws : SegmentLaws) (s : Setting) (types : Types) (feeders : ℕ) (pla
                   ∙ ap (λ l. l ++ t.front) (ap (λ xs. output_of s was old ++ reports_from first xs) (sym front) ∙ sym (bytes_more es quiet))
 
       -- or some whole ones
-      some_taken : TakesReports first (answers_from s old.told first cs new) now now' → TakesSome s (was ++ cs) new before now'
+      some_taken : TakesReports first (answers_from s old.told first cs new) now now' → TakesPart s (ps ++ Together cs none ∷ []) new before now'
       some_taken t =
           let p = parted s old.told first cs new t.earlier t.later t.all in
           let quiet = still_front p.earlier p.later (subst AreStill p.all still) in
           record {
-            earlier = was ++ p.earlier;
+            whole = ps;
+            last = Together cs none;
+            all = refl;
+            earlier = p.earlier;
             later = p.later;
-            all = ap (λ ds. was ++ ds) p.all ∙ sym (append_assoc was p.earlier p.later);
+            lines = p.all;
             output = wrote_more p.earlier quiet (subst (λ xs. Appends now now' (reports_from first xs)) (sym p.front_is) t.output);
           }
 
-      some_line : TakesReportsFront first (answers_from s old.told first cs new) now now' → 0 < length (was ++ cs)
-      some_line t = let size = answers_long s old.told first cs new in omega (arith, ap length t.all, size, length-append t.earlier (t.last ∷ t.later), length-append was cs)
+      some_line : TakesReportsFront first (answers_from s old.told first cs new) now now' → 0 < length cs
+      some_line t = let size = answers_long s old.told first cs new in omega (arith, ap length t.all, size, length-append t.earlier (t.last ∷ t.later))
 
       fault_end : (left' : Option (List ℕ)) → TakesReportsFront first (answers_from s old.told first cs new) now now' → Ends status.WriteFault left' new before now'
       fault_end left' t = ended status.WriteFault s types feeders plans text left' new before now' (ps ++ Together cs none ∷ []) (was ++ cs) asked (inl whole) (λ other. left_none) done
-          (first_of types s.bits text (was ++ cs) mid between behind) (all_told text (0 < length (was ++ cs)) (some_line t)) (front_taken t) few tt
+          (first_of types s.bits text (was ++ cs) mid between behind) (all_told text (EndsInLines (ps ++ Together cs none ∷ [])) (ends_in_lines ps (Together cs none) (some_line t))) (front_taken t) (noted_at status.WriteFault s feeders (ps ++ Together cs none ∷ []) new noted_now) few tt
 
       memory_end : (left' : Option (List ℕ)) → TakesReports first (answers_from s old.told first cs new) now now' → Ends status.NoMemory left' new before now'
       memory_end left' t = ended status.NoMemory s types feeders plans text left' new before now' (ps ++ Together cs none ∷ []) (was ++ cs) asked (inl whole) (λ other. left_none) done
-          (first_of types s.bits text (was ++ cs) mid between behind) (short_stops types s.bits text left' (was ++ cs)) (some_taken t) few tt
+          (first_of types s.bits text (was ++ cs) mid between behind) (short_stops types s.bits text left' (ps ++ Together cs none ∷ [])) (inr (some_taken t)) (noted_at status.NoMemory s feeders (ps ++ Together cs none ∷ []) new noted_now) few tt
 
     -- where memory wanted as the segment ran
     short_end : (left' : Option (List ℕ)) → IsFedShort s feeders first cs old new → Keeps now now' → Ends status.NoMemory left' new before now'
     short_end left' f kept =
         let parts = ps ++ Together cs f.left ∷ [] in
         let goes = fed_goes s feeders first cs f.left old new f.lanes (take f.searched cs) f.now (length was) (omega (arith, number)) in
+        let done = laws.short s plans feeders first ps cs old new so.done (ended_still ps so.cut) still number f in
+        let within = fed_within s feeders first cs f.left old new f.lanes (take f.searched cs) f.now so.within in
         ended status.NoMemory s types feeders plans text left' new before now' parts (was ++ cs) (asked_push ps (Together cs f.left)) (inl (cut_more ps cs f.left so.cut still))
-        (λ other. absurd (other refl)) (laws.short s plans feeders first ps cs old new so.done (ended_still ps so.cut) still number f)
-        (first_of types s.bits text (was ++ cs) mid between behind) (short_stops types s.bits text left' (was ++ cs))
-        (record { earlier = was; later = cs; all = refl; output = subst (Appends before now') (sym (legal_before goes)) (appends_kept before now now' (output_of s was old) so.output kept) }) few tt
+        (λ other. absurd (other refl)) done (first_of types s.bits text (was ++ cs) mid between behind) (short_stops types s.bits text left' parts)
+        (inr (record {
+          whole = ps;
+          last = Together cs f.left;
+          all = refl;
+          earlier = [];
+          later = cs;
+          lines = refl;
+          output = subst (λ es. Appends before now' (output_of s es new)) (sym (append-nil was)) (subst (Appends before now') (sym (legal_before goes)) (appends_kept before now now' (output_of s was old) so.output kept));
+        }))
+        (noted_together status.NoMemory s plans feeders first ps cs (take f.searched cs) f.left old new so.done done still number f.lanes f.now so.noted
+        (λ j q asks. elim (take_at f.searched cs j (command.Search q) asks) [
+          | inl there ↦ inl there
+          | inr past ↦ inr (refl, past)
+        ]) (λ j q asks. taken_from f.searched cs j (command.Search q) asks) within) few tt
 
     -- or before it ran
     unfed_end : (left' : Option (List ℕ)) → new ≡ old → Keeps now now' → Ends status.NoMemory left' new before now'
@@ -380,6 +414,7 @@ module _ (laws : SegmentLaws) (s : Setting) (types : Types) (feeders : ℕ) (pla
           output = wrote;
           answered = so.answered;
           within = so.within;
+          noted = so.noted;
           told = so.told;
         }
 

@@ -67,7 +67,7 @@ fronts_early line first [] g less = refl
 fronts_early line first (c ∷ cs) g less = front_early line first c g (fronts_from (suc first) cs g) less (fronts_early line (suc first) cs g (omega (arith, less)))
 
 -- what is found stands in the first part, or in the second
-fronts_either : (line : ℕ) (fs gs : List LineFronts) (g : List ℕ) → fronts_of line (fs ++ gs) ≡ Some g → (fronts_of line fs ≡ Some g) ⊎ (fronts_of line gs ≡ Some g)
+pub fronts_either : (line : ℕ) (fs gs : List LineFronts) (g : List ℕ) → fronts_of line (fs ++ gs) ≡ Some g → (fronts_of line fs ≡ Some g) ⊎ (fronts_of line gs ≡ Some g)
 fronts_either line [] gs g has = inr has
 fronts_either line (f ∷ fs) gs g has = by_test (f.line == line) has (fronts_either line fs gs g)
   where
@@ -99,7 +99,7 @@ front_is line n (command.Net lane fates) g h fs rest has = rest has
 front_is line n command.Maintain g h fs rest has = rest has
 front_is line n (command.BadQuery offset) g h fs rest has = rest has
 
-fronts_are : (line first : ℕ) (cs : List Asked) (g h : List ℕ) → fronts_of line (fronts_from first cs g) ≡ Some h → h ≡ g
+pub fronts_are : (line first : ℕ) (cs : List Asked) (g h : List ℕ) → fronts_of line (fronts_from first cs g) ≡ Some h → h ≡ g
 fronts_are line first [] g h has = cc has
 fronts_are line first (c ∷ cs) g h has = front_is line first c g h (fronts_from (suc first) cs g) (fronts_are line (suc first) cs g h) has
 
@@ -111,7 +111,7 @@ none_past [] (suc lane) past = refl
 none_past (v ∷ vs) zero past = absurd (omega (arith, past))
 none_past (v ∷ vs) (suc lane) past = none_past vs lane (omega (arith, past))
 
-segment_grown : (feeders : ℕ) (lines : Lines) (v w : LaneValue) → IsSegment feeders lines v w → Grown w.journal v.journal
+pub segment_grown : (feeders : ℕ) (lines : Lines) (v w : LaneValue) → IsSegment feeders lines v w → Grown w.journal v.journal
 segment_grown feeders lines v w segment =
     let later = grows-later feeders lines v.lane v.rules v.journal w.journal (segment-grows feeders lines v w segment) in
     (later.added, later.is)

@@ -36,7 +36,7 @@ use Rattle.search_laws.specs.Searches.{covered}
 use Rattle.search_views.specs.Answers.{search_answer, all_covered, capped}
 use Rattle.session_cluster.specs.Cells.{Cell, journals, journals_of}
 use Rattle.session_cluster.specs.Deeds.{told_of, with_state, with_line, deeds_of_lane}
-use Rattle.session_cluster.specs.Keeping.{IsKept}
+use Rattle.session_cluster.specs.Keeping.{HaveDone, IsKept}
 use Rattle.session_cluster.specs.Lanes.{Journal, lane_of_id}
 use Rattle.session_cluster.specs.Output.{upkeep_answer, found_answer_of}
 use Rattle.session_cluster.specs.Searches.{fronts_of, views_to, version_of, version_now}
@@ -44,15 +44,17 @@ use Rattle.session_cluster.specs.Spans.{spans_of, span_in, is_rested}
 use Rattle.session_cluster.specs.declared.asked.Asked.{Asked}
 use Rattle.session_cluster.specs.declared.asked.Asked.TheVariants as command
 use Rattle.session_cluster.specs.declared.cluster.LineSpans.{LineSpans}
+use Rattle.session_cluster.proofs.AlikeDeeds.{AreLow}
 use Rattle.session_cluster.proofs.DeedLists.{deeds_push, deeds_told}
 use Rattle.upkeep_spans.specs.declared.answers.Upkeep.{Upkeep}
 use Rattle.upkeep_spans.specs.declared.answers.Upkeep.TheVariants.{Rested, Blocked, Disturbed, Held, NoMemory}
 use Rattle.cell_session.specs.FullSearches.{IsCalmLine, answer_at, AllRested, FollowsRest, IsFull, AreFull}
 use Rattle.cell_session.specs.Limits.{most_lines}
-use Rattle.cell_session.specs.Searches.{FrontStands, HasRead, AreRead, IsFrontIn, AreFrontsIn}
+use Rattle.cell_session.specs.Operations.{deeds_before}
+use Rattle.cell_session.specs.Searches.{FrontStands, HasRead, SearchesAt, AreRead, IsFrontIn, AreFrontsIn}
 use Rattle.cell_session.specs.Upkeep.{HasStood, AreUpkept}
 use Rattle.cell_session.specs.declared.status.Status.{Status}
-use Rattle.cell_session.proofs.SearchCounts.{SearchLaws, covered_is, legal_in, counts_at}
+use Rattle.cell_session.proofs.SearchCounts.{SearchLaws, covered_is, kept_low, legal_in, counts_at}
 use Rattle.cell_session.proofs.UpkeepLaws.{some_is}
 
 -- ---- the answers
@@ -112,12 +114,12 @@ answer_is types told q o Js fronts a is h = some_is (sym h ∙ ap (λ x. found_a
 -- ---- the deeds between
 
 -- the deeds are calm ones behind these
-record IsCalmBehind (base deeds : List Deed) : Type 0 where
-  more : List Deed
-  calm : AreCalm more
-  are : deeds ≡ more ++ base
+pub record IsCalmBehind (base deeds : List Deed) : Type 0 where
+  pub more : List Deed
+  pub calm : AreCalm more
+  pub are : deeds ≡ more ++ base
 
-one_behind : (base deeds : List Deed) (deed : Deed) → ((more : List Deed) → AreCalm more → AreCalm (deed ∷ more)) → IsCalmBehind base deeds → IsCalmBehind base (deed ∷ deeds)
+pub one_behind : (base deeds : List Deed) (deed : Deed) → ((more : List Deed) → AreCalm more → AreCalm (deed ∷ more)) → IsCalmBehind base deeds → IsCalmBehind base (deed ∷ deeds)
 one_behind base deeds deed calm x = record { more = deed ∷ x.more; calm = calm x.more x.calm; are = ap (λ ds. deed ∷ ds) x.are }
 
 calm_operation : (t : Bool) (line : ℕ) (op : Operation) (via : Option ℕ) (base deeds : List Deed) → IsCalmBehind base deeds → IsCalmBehind base (if t then Runs (record { number = line; operation = op; via = via }) ∷ deeds else deeds)
@@ -129,7 +131,7 @@ calm_state None state deaf base deeds not x = absurd (not refl)
 calm_state (Some why) state deaf base deeds not x = x
 
 -- a calm line adds none but calm ones
-calm_line : (s : Setting) (us : List LineSpans) (lane : ℕ) (told : Told) (line : ℕ) (c : Asked) (base deeds : List Deed) → IsCalmLine told c → IsCalmBehind base deeds → IsCalmBehind base (with_line s us lane told line c deeds)
+pub calm_line : (s : Setting) (us : List LineSpans) (lane : ℕ) (told : Told) (line : ℕ) (c : Asked) (base deeds : List Deed) → IsCalmLine told c → IsCalmBehind base deeds → IsCalmBehind base (with_line s us lane told line c deeds)
 calm_line s us lane told line command.Blank base deeds calm x = x
 calm_line s us lane told line command.TooLong base deeds calm x = x
 calm_line s us lane told line command.Barrier base deeds calm x = x
@@ -208,9 +210,9 @@ newest_state s (Feeds feeders lines left ∷ deeds) = newest_state s deeds
 newest_state s (Maintains noted ∷ deeds) = newest_state s deeds
 
 -- it is that of the state that was published last in each lane
-version_is : (s : Setting) (us : List LineSpans) (lane : ℕ) (cs : List Asked) (b : Low) (K : List LaneEvent) (state : ClusterState) → IsLife s b (deeds_of_lane s us lane cs) K → last_state K ≡ Some state → version_now (told_of s cs) ≡ state.version
-version_is s us lane cs b K state life last =
-    ap version_now (sym (deeds_told s us lane cs)) ∙ ap version_of (newest_state s (deeds_of_lane s us lane cs)) ∙ ap version_of (sym (newest_published s b (deeds_of_lane s us lane cs) K life)) ∙ ap version_of last
+version_is : (s : Setting) (t : Told) (deeds : List Deed) (b : Low) (K : List LaneEvent) (state : ClusterState) → states_in s deeds ≡ t.states → IsLife s b deeds K → last_state K ≡ Some state → version_now t ≡ state.version
+version_is s t deeds b K state told life last =
+    ap (λ ss. version_of (newest_of ss)) (sym told) ∙ ap version_of (newest_state s deeds) ∙ ap version_of (sym (newest_published s b deeds K life)) ∙ ap version_of last
 
 -- ---- all keys
 
@@ -259,16 +261,28 @@ abbrev pub StayCovered : Type 0
 StayCovered = (s : Setting) (lane : Low) (more deeds : List Deed) (given : List Fate) (J K later : List LaneEvent) (span : UpkeepSpan) → IsLegal (setting_of lane s.rules) J → SpanStands s lane deeds given J span → span.answer ≡ Rested → AreCalm more
     → IsLife s lane (more ++ Maintains (Some span) ∷ deeds) K → J ≡ later ++ K → (key : ℕ) → has_key lane key ≡ true → IsCovered key K
 
-module _ (laws : SearchLaws) (covers : StayCovered) (end : Status) (s : Setting) (setting : IsSetting s) (plans : ℕ → List Fate) (asked : List Asked) (c : Cell) (kept : IsKept s plans asked c) (few : length asked ≤ most_lines) (upkept : AreUpkept end s asked c)
-    (read : AreRead s asked c) where
-  module _ (upkeep at : ℕ) (q : Said) (x : FollowsRest s asked c upkeep at q) where
+-- what a session's deeds say of searches that read behind an upkeep
+pub record ReadBehind (s : Setting) (plans : ℕ → List Fate) (asked : List Asked) (c : Cell) (deeds : ℕ → List Deed) (before to : ℕ → ℕ → List Deed) : Type 0 where
+  pub done : HaveDone s plans asked deeds c
+  pub lows : AreLow deeds (length asked)
+  -- a line that searches, and has fronts, read
+  pub reads : (at : ℕ) (q : Said) → SearchesAt at q asked → (gs : List ℕ) → fronts_of (suc at) c.fronts ≡ Some gs → HasRead s (to at) (suc at) c
+  -- the states that are told as it reads
+  pub told : (at : ℕ) (q : Said) → SearchesAt at q asked → (lane : ℕ) → states_in s (to at lane) ≡ (told_of s (take at asked)).states
+  -- nothing but what is calm was done since an upkeep that it follows
+  pub calm : (upkeep at : ℕ) (q : Said) → FollowsRest s asked c upkeep at q → (lane : ℕ) (span : UpkeepSpan) → span_in lane (suc upkeep) c.upkeeps ≡ Some span
+      → IsCalmBehind (Maintains (Some span) ∷ before upkeep lane) (to at lane)
+
+module _ (laws : SearchLaws) (covers : StayCovered) (end : Status) (s : Setting) (setting : IsSetting s) (plans : ℕ → List Fate) (asked : List Asked) (c : Cell) (deeds_done : ℕ → List Deed) (before to : ℕ → ℕ → List Deed)
+    (x : ReadBehind s plans asked c deeds_done before to) (few : length asked ≤ most_lines) (upkept : AreUpkept end s before asked c) where
+  module _ (upkeep at : ℕ) (q : Said) (f : FollowsRest s asked c upkeep at q) where
     abbrev said : AllRested s asked c upkeep
-    said = x.all_rested
+    said = f.all_rested
 
     rested : HaveRested (suc upkeep) c.upkeeps
     rested = all_rested (suc upkeep) said.lanes said.blocked said.disturbed c.upkeeps said.rested
 
-    stood : HasStood s (take upkeep asked) (suc upkeep) c
+    stood : HasStood s (before upkeep) (suc upkeep) c
     stood = elim (upkept.answered upkeep said.asks) [
       | inl h ↦ h
       | inr cut ↦ none_noted (sym cut.none ∙ rested.are)
@@ -280,15 +294,12 @@ module _ (laws : SearchLaws) (covers : StayCovered) (end : Status) (s : Setting)
     same : stood.spans ≡ rested.spans
     same = some_is (sym stood.are ∙ rested.are)
 
-    has : HasRead s (take at asked) (suc at) c
-    has = read.answered at q x.searches
-
     abbrev w : ℕ
     w = version_now (told_of s (take at asked))
 
     -- there is a span of each lane
     span_there : (lane : ℕ) (v : LaneValue) → slice_get c.lanes lane ≡ Some v → (span : UpkeepSpan) × (slice_get rested.spans lane ≡ Some span)
-    span_there lane v here = in_list rested.spans lane (omega (arith, slice_get_within c.lanes lane v here, kept.lanes, stood.count, ap length same))
+    span_there lane v here = in_list rested.spans lane (omega (arith, slice_get_within c.lanes lane v here, (x.done).lanes, stood.count, ap length same))
       where
         in_list : (xs : List UpkeepSpan) (k : ℕ) → k < length xs → (y : UpkeepSpan) × (slice_get xs k ≡ Some y)
         in_list [] k h = absurd (omega (arith, h))
@@ -296,11 +307,11 @@ module _ (laws : SearchLaws) (covers : StayCovered) (end : Status) (s : Setting)
         in_list (y ∷ ys) (suc k) h = in_list ys k (omega (arith, h))
 
     abbrev deeds : ℕ → List Deed
-    deeds lane = deeds_of_lane s c.upkeeps lane (take at asked)
+    deeds = to at
 
     -- the version of the search is that of what covers the key
     under_version : (lane : ℕ) (K : List LaneEvent) → IsLife s (bucket_in s lane) (deeds lane) K → (key : ℕ) (y : IsCovered key K) → (z : IsCovered key K) × (z.state.version ≡ w)
-    under_version lane K life key y = (y, sym (version_is s c.upkeeps lane (take at asked) (bucket_in s lane) K y.state life y.newest))
+    under_version lane K life key y = (y, sym (version_is s (told_of s (take at asked)) (deeds lane) (bucket_in s lane) K y.state (x.told at q f.searches lane) life y.newest))
 
     -- each key of a lane is covered there, under the version of the search
     lane_read : (lane g : ℕ) (v : LaneValue) → slice_get c.lanes lane ≡ Some v → (stands : FrontStands s (bucket_in s lane) (deeds lane) v.journal g) → (key : ℕ) → has_key (bucket_in s lane) key ≡ true
@@ -309,13 +320,9 @@ module _ (laws : SearchLaws) (covers : StayCovered) (end : Status) (s : Setting)
         let span = span_there lane v here in
         let rests = stood.stand lane v span.0 here (ap (λ xs. slice_get xs lane) same ∙ span.1) in
         let noted : span_in lane (suc upkeep) c.upkeeps ≡ Some span.0 = ap (λ (o : Option (List UpkeepSpan)). option_and_then (λ spans. slice_get spans lane) o) rested.are ∙ span.1 in
-        let d = at - suc upkeep in
-        let e : suc upkeep + d ≡ at = omega (arith, x.order) in
-        let low = slice_get_within asked at (command.Search q) x.searches in
-        let calm = calm_since s c.upkeeps asked lane upkeep span.0 said.asks noted d (omega (arith, e, low)) (λ k line late early there. x.between k line late (omega (arith, early, e)) there) in
-        let are : deeds lane ≡ calm.more ++ Maintains (Some span.0) ∷ deeds_of_lane s c.upkeeps lane (take upkeep asked) = ap (λ n. deeds_of_lane s c.upkeeps lane (take n asked)) (sym e) ∙ calm.are in
-        let y = covers s (bucket_in s lane) calm.more (deeds_of_lane s c.upkeeps lane (take upkeep asked)) v.given v.journal stands.before stands.later span.0 (legal_in s plans asked c kept lane v here) rests (rested.rested lane span.0 span.1) calm.calm
-        (subst (λ ds. IsLife s (bucket_in s lane) ds stands.before) are stands.behind) stands.whole key own in
+        let calm = x.calm upkeep at q f lane span.0 noted in
+        let y = covers s (bucket_in s lane) calm.more (before upkeep lane) v.given v.journal stands.before stands.later span.0 (legal_in s plans asked deeds_done c x.done lane v here) rests (rested.rested lane span.0 span.1) calm.calm
+        (subst (λ ds. IsLife s (bucket_in s lane) ds stands.before) calm.are stands.behind) stands.whole key own in
         under_version lane stands.before stands.behind key y
 
     -- each key lies in a lane
@@ -323,12 +330,12 @@ module _ (laws : SearchLaws) (covers : StayCovered) (end : Status) (s : Setting)
     key_read gs fs are key =
         let lane = key % 2 ^ s.bits in
         let low : lane < 2 ^ s.bits = mod_below key (2 ^ s.bits) (pow_pos s.bits) in
-        let f = front_there s deeds 0 lane gs c.lanes fs are (omega (arith, low, kept.lanes)) in
-        let is = subst (λ n. IsFrontIn s n (deeds n) f.g (f.v).journal f.front) (none lane) f.is in
-        let y = lane_read lane f.g f.v f.here is.stands key (own lane lane refl) in
+        let g = front_there s deeds 0 lane gs c.lanes fs are (omega (arith, low, (x.done).lanes)) in
+        let is = subst (λ n. IsFrontIn s n (deeds n) g.g (g.v).journal g.front) (none lane) g.is in
+        let y = lane_read lane g.g g.v g.here is.stands key (own lane lane refl) in
         record {
-          front = f.front;
-          among = f.among;
+          front = g.front;
+          among = g.among;
           node = (y.0).node;
           version_is = ap (λ J. version (y.0).node (history J)) is.journal ∙ (y.0).current ∙ y.1;
           runs = ap (λ J. stopped (y.0).node (history J)) is.journal ∙ (y.0).runs;
@@ -341,9 +348,9 @@ module _ (laws : SearchLaws) (covers : StayCovered) (end : Status) (s : Setting)
         own : (n m : ℕ) → n ≡ m → (n == m) ≡ true
         own n m e = grind (arith, nat_tests)
 
-    is_full : (a : Answer) → answer_at s asked c at (command.Search q) ≡ Some a → IsFull a
-    is_full a is =
-        let got = counts_at laws s setting plans asked c kept few at (suc at) has in
+    full_where : (a : Answer) → answer_at s asked c at (command.Search q) ≡ Some a → (has : HasRead s (to at) (suc at) c) → IsFull a
+    full_where a is has =
+        let got = counts_at laws s setting plans asked deeds_done c x.done x.lows few deeds (suc at) has in
         let all : covered w (map (seen_at s.schema) got.fronts) ≡ 2 ^ 58 = laws.full s.schema w got.fronts got.legal (λ key small. key_read has.fronts got.fronts got.are key) in
         let sum : all_covered w (views_to s.schema has.fronts (journals_of c)) ≡ 2 ^ 58 = sym (covered_is s.schema w got.fronts ∙ ap (all_covered w) got.views) ∙ all in
         subst IsFull (sym (answer_is s.schema (told_of s (take at asked)) q (fronts_of (suc at) c.fronts) (journals c.lanes) has.fronts a has.are is))
@@ -352,8 +359,42 @@ module _ (laws : SearchLaws) (covers : StayCovered) (end : Status) (s : Setting)
         full_at : (n : ℕ) → n ≡ 2 ^ 58 → (capped n == 2 ^ 58) ≡ true
         full_at n h = ap (λ (k : ℕ). capped k == 2 ^ 58) h
 
-  pub kept_full : AreFull s asked c
-  kept_full upkeep at q x = is_full upkeep at q x
+    is_full : (a : Answer) → answer_at s asked c at (command.Search q) ≡ Some a → IsFull a
+    is_full a is = by_fronts (fronts_of (suc at) c.fronts) refl
+      where
+        no_answer : None ≡ Some a → IsFull a
+        no_answer e = cc e
+
+        by_fronts : (o : Option (List ℕ)) → fronts_of (suc at) c.fronts ≡ o → IsFull a
+        by_fronts None none = no_answer (sym (ap (λ o. found_answer_of s.schema (told_of s (take at asked)) q o (journals c.lanes)) none) ∙ is)
+        by_fronts (Some gs) has = full_where a is (x.reads at q f.searches gs has)
+
+  pub all_full : AreFull s asked c
+  all_full upkeep at q f = is_full upkeep at q f
+
+-- ---- of lines one after the other
+
+module _ (s : Setting) (plans : ℕ → List Fate) (asked : List Asked) (c : Cell) (kept : IsKept s plans asked c) (read : AreRead s (deeds_before s asked c) asked c) where
+  kept_calm : (upkeep at : ℕ) (q : Said) → FollowsRest s asked c upkeep at q → (lane : ℕ) (span : UpkeepSpan) → span_in lane (suc upkeep) c.upkeeps ≡ Some span
+      → IsCalmBehind (Maintains (Some span) ∷ deeds_before s asked c upkeep lane) (deeds_before s asked c at lane)
+  kept_calm upkeep at q f lane span noted =
+      let d = at - suc upkeep in
+      let e : suc upkeep + d ≡ at = omega (arith, f.order) in
+      let low = slice_get_within asked at (command.Search q) f.searches in
+      subst (λ n. IsCalmBehind (Maintains (Some span) ∷ deeds_of_lane s c.upkeeps lane (take upkeep asked)) (deeds_of_lane s c.upkeeps lane (take n asked))) e
+      (calm_since s c.upkeeps asked lane upkeep span (f.all_rested).asks noted d (omega (arith, e, low)) (λ k line late early here. f.between k line late (omega (arith, early, e)) here))
+
+  kept_behind : ReadBehind s plans asked c (λ lane. deeds_of_lane s c.upkeeps lane asked) (deeds_before s asked c) (deeds_before s asked c)
+  kept_behind = record {
+    done = kept;
+    lows = kept_low s asked c;
+    reads = λ at q asks gs has. read.answered at q asks;
+    told = λ at q asks lane. ap (λ (t : Told). t.states) (deeds_told s c.upkeeps lane (take at asked));
+    calm = kept_calm;
+  }
+
+  pub kept_full : SearchLaws → StayCovered → (end : Status) → IsSetting s → length asked ≤ most_lines → AreUpkept end s (deeds_before s asked c) asked c → AreFull s asked c
+  kept_full laws covers end setting few upkept = all_full laws covers end s setting plans asked c (λ lane. deeds_of_lane s c.upkeeps lane asked) (deeds_before s asked c) (deeds_before s asked c) kept_behind few upkept
 
 -- where there is no line
 pub none_full : (s : Setting) (c : Cell) → AreFull s [] c

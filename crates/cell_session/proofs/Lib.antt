@@ -13,6 +13,8 @@ mod SegmentLaws
 mod ReportLaws
 mod FedOutput
 mod FedSteps
+mod FedNoted
+mod FedFull
 mod FedLoops
 mod FedCuts
 mod FedRounds

@@ -1,5 +1,5 @@
 -- The lines of a session, one after the other.
-use Rattle.std.proofs.Common.{◌≡◌, ◌==◌, ◌⊎◌, ℕ, zero, suc, ◌+◌, ◌<◌, ◌≤◌, Bool, true, false, cond, List, [], ◌∷◌, ◌++◌, Option, None, Some, Result, Ok, Err, inl, inr, refl, sym, ap, ap₂, ◌∙◌, subst, arith, length, append_assoc, length-append, drop, slice_get}
+use Rattle.std.proofs.Common.{◌≡◌, ◌==◌, ◌⊎◌, ℕ, zero, suc, ◌+◌, ◌<◌, ◌≤◌, Bool, true, false, cond, List, [], ◌∷◌, ◌++◌, Option, None, Some, Result, Ok, Err, inl, inr, refl, sym, ap, ap₂, ◌∙◌, subst, arith, length, append_assoc, length-append, drop, take, slice_get}
 use Rattle.std.proofs.lemmas.Bool.Decides.{nat_tests}
 use Rattle.std.proofs.lemmas.List.Sums.{sum_by-append}
 use Rattle.std.proofs.lemmas.Option.{slice_get_within}
@@ -21,6 +21,7 @@ use Rattle.session_cluster.specs.declared.asked.Asked.{Asked}
 use Rattle.session_cluster.specs.declared.asked.Asked.TheVariants as command
 use Rattle.cell_session.specs.Answering.{StopsAs}
 use Rattle.session_cluster.specs.Cells.{Cell}
+use Rattle.session_cluster.specs.Deeds.{deeds_of_lane}
 use Rattle.session_cluster.specs.Keeping.{IsKept, IsReady}
 use Rattle.cell_session.specs.Dealing.{EndsAs}
 use Rattle.cell_session.specs.Ends.{IfTold, AreFirst, IsReadTo, IsReadNear, PassesKind, PassesLimit, StopsAt, Writes, IsReached, EndsAtLimit}
@@ -29,7 +30,7 @@ use Rattle.cell_session.specs.Reads.{Finishes, Shows, HoldsBack, IsReadEnd}
 use Rattle.carriers.specs.declared.fate.Fate.{Fate}
 use Rattle.lane_lives.specs.Settings.{IsSetting}
 use Rattle.lane_lives.specs.declared.setting.Setting.{Setting}
-use Rattle.cell_session.specs.Operations.{IsCommandAt}
+use Rattle.cell_session.specs.Operations.{IsCommandAt, deeds_before}
 use Rattle.cell_session.specs.Orders.{GoInOrder}
 use Rattle.cell_session.specs.Searches.{AreRead}
 use Rattle.cell_session.specs.SoFar.{first_reading, IsBehind, IsSoFar}
@@ -45,9 +46,9 @@ use Rattle.cell_session.proofs.OutputLaws.{output_kept, output_more, roomier_out
 use Rattle.session_cluster.proofs.AlikeDeeds.{ready_of_kept}
 use Rattle.session_cluster.proofs.Elements.{element_seen}
 use Rattle.session_cluster.proofs.SessionSteps.{kept_more, kept_roomier}
-use Rattle.cell_session.proofs.OrderLaws.{gone_more, none_gone, gone_roomier}
-use Rattle.cell_session.proofs.ReadLaws.{read_more, none_read, read_roomier}
-use Rattle.cell_session.proofs.UpkeepLaws.{upkept_more, noted_last, cut_last, none_upkept, upkept_at, upkept_roomier}
+use Rattle.cell_session.proofs.OrderLaws.{gone_more, none_gone, gone_on}
+use Rattle.cell_session.proofs.ReadLaws.{JournalsGrew, read_more, none_read, reads_on}
+use Rattle.cell_session.proofs.UpkeepLaws.{AllGrew, AreAsBefore, upkept_more, noted_last, cut_last, none_upkept, upkept_at, upkept_on, grew_roomier}
 
 -- ---- how many lines are read as states, and how many as upkeep
 
@@ -256,9 +257,9 @@ so_far_new s types plans text before reader c setting is kept none unread = subs
   few_maintains = omega arith;
   kept = kept;
   output = Appends-nil before;
-  upkept = none_upkept status.Done s c none;
+  upkept = none_upkept status.Done s (deeds_before s [] c) c none;
   gone = none_gone s c none;
-  read = none_read s c unread;
+  read = none_read s (deeds_before s [] c) c unread;
   told = told_none types s.bits text;
 })
 
@@ -283,7 +284,7 @@ record IsMore (s : Setting) (types : Types) (plans : ℕ → List Fate) (text le
   earlier : output_of s cs new ≡ output_of s cs old
   output : output_of s (cs ++ c ∷ []) new ≡ output_of s cs old ++ report_in s old.told number c new
   gone : GoInOrder s new
-  read : AreRead s (cs ++ c ∷ []) new
+  read : AreRead s (deeds_before s (cs ++ c ∷ []) new) (cs ++ c ∷ []) new
 
 line_more : (s : Setting) (types : Types) (plans : ℕ → List Fate) (text left left' : Option (List ℕ)) (reader reader' : Reading) (counts counted : Counts) (old new : Cell) (before now : Option (List ℕ)) (number : ℕ) (c : Asked)
     → (so : IsSoFar s types plans text reader left counts old before now) → reader.max_lines ≡ most_lines → reader.max_bytes ≡ most_bytes
@@ -309,24 +310,34 @@ line_more s types plans text left left' reader reader' counts counted old new be
 
 -- the same where room was made
 module _ (s : Setting) (old new : Cell) (room : IsRoomier old new) where
-  roomier_seen : (lane : ℕ) (w : LaneValue) → slice_get new.lanes lane ≡ Some w → (v : LaneValue) × ((slice_get old.lanes lane ≡ Some v) × (w.journal ≡ v.journal))
-  roomier_seen lane w at =
-      let found = element_seen without_room old.lanes new.lanes lane w room.lanes at in
-      (found.0, (found.1.0, ap (λ (x : LaneValue). x.journal) found.1.1))
-
   roomier_given : (lane : ℕ) (w : LaneValue) → slice_get new.lanes lane ≡ Some w → (v : LaneValue) × ((slice_get old.lanes lane ≡ Some v) × (w.journal ≡ v.journal) × (w.given ≡ v.given))
   roomier_given lane w at =
       let found = element_seen without_room old.lanes new.lanes lane w room.lanes at in
       (found.0, (found.1.0, ap (λ (x : LaneValue). x.journal) found.1.1, ap (λ (x : LaneValue). x.given) found.1.1))
 
-  read_then : (cs : List Asked) → AreRead s cs old → AreRead s cs new
-  read_then cs so = read_roomier s cs old new (ap (λ (x : Cell). x.fronts) room.rest) (ap (λ (x : Cell). x.upkeeps) room.rest) roomier_seen so
+  pub room_grew : AllGrew old new
+  room_grew = grew_roomier old new roomier_given
+
+  pub room_journals : JournalsGrew old new
+  room_journals lane w at = let g = room_grew lane w at in (g.0, (g.1.0, (g.1.1).journal))
+
+  pub room_spans : new.upkeeps ≡ old.upkeeps
+  room_spans = ap (λ (x : Cell). x.upkeeps) room.rest
+
+  pub room_fronts : new.fronts ≡ old.fronts
+  room_fronts = ap (λ (x : Cell). x.fronts) room.rest
+
+  room_before : (cs : List Asked) → AreAsBefore (length cs) (deeds_before s cs old) (deeds_before s cs new)
+  room_before cs at lane low = ap (λ us. deeds_of_lane s us lane (take at cs)) room_spans
+
+  read_then : (cs : List Asked) → AreRead s (deeds_before s cs old) cs old → AreRead s (deeds_before s cs new) cs new
+  read_then cs so = reads_on s old new cs room_fronts room_journals (deeds_before s cs old) (deeds_before s cs new) (room_before cs) so
 
   gone_then : GoInOrder s old → GoInOrder s new
-  gone_then so = gone_roomier s old new (ap (λ (x : Cell). x.upkeeps) room.rest) roomier_given so
+  gone_then so = gone_on s old new room_spans room_grew so
 
-  upkept_then : (end : Status) (cs : List Asked) → AreUpkept end s cs old → AreUpkept end s cs new
-  upkept_then end cs so = upkept_roomier end s cs old new (ap (λ (x : Cell). x.upkeeps) room.rest) roomier_given so
+  upkept_then : (end : Status) (cs : List Asked) → AreUpkept status.Done s (deeds_before s cs old) cs old → AreUpkept end s (deeds_before s cs new) cs new
+  upkept_then end cs so = upkept_on end s old new cs cs room_spans room_grew (deeds_before s cs old) (deeds_before s cs new) (room_before cs) (λ at asks. asks) (λ at asks. asks) so
 
 pub so_far_more : (s : Setting) (types : Types) (plans : ℕ → List Fate) (text left left' : Option (List ℕ)) (reader reader' : Reading) (counts counted : Counts) (old new : Cell) (before now now' : Option (List ℕ)) (number : ℕ) (c : Asked)
     → IsSoFar s types plans text reader left counts old before now → reader.max_lines ≡ most_lines → reader.max_bytes ≡ most_bytes
@@ -415,7 +426,7 @@ over_with end s types plans text left left' reader reader' states c before now s
   first = first_of types s.bits text so.commands reader left so.told;
   stops = stops_of end types s.bits text left left' reader reader' so.commands so.told so.count lines bytes finishes stands holds last a b may;
   output = wrote;
-  upkept = upkept_at end s so.commands c so.upkept;
+  upkept = upkept_at end s (deeds_before s so.commands c) so.commands c so.upkept;
   gone = so.gone;
   read = so.read;
   few = so_few s types plans text reader left states c before now so;
@@ -487,7 +498,7 @@ full_end s types plans text left left' reader counts c before now number command
   first = first_of types s.bits text so.commands reader left so.told;
   stops = full_passes which types s.bits text left reader counts so.commands number command so.told so.count so.states_are so.maintains_are lines bytes shows (counts_full counts command which full);
   output = so.output;
-  upkept = upkept_at (status.Limit which) s so.commands c so.upkept;
+  upkept = upkept_at (status.Limit which) s (deeds_before s so.commands c) so.commands c so.upkept;
   gone = so.gone;
   read = so.read;
   few = so_few s types plans text reader left counts c before now so;
@@ -578,7 +589,7 @@ memory_ends why s types plans text left left' reader reader' counts counted old 
       first = first_of types s.bits text so.commands reader left so.told;
       stops = no_claim types s.bits text left' so.commands;
       output = inl (subst (Appends before now') (sym (roomier_output s so.commands old new room)) wrote);
-      upkept = upkept_at status.NoMemory s so.commands new (upkept_then s old new room status.Done so.commands so.upkept);
+      upkept = upkept_then s old new room status.NoMemory so.commands so.upkept;
       gone = gone_then s old new room so.gone;
       read = read_then s old new room so.commands so.read;
       few = so_few s types plans text reader left counts old before now so;
@@ -616,9 +627,9 @@ opened_ends s types plans text left c before kept none unread = inr (record {
   first = firsts_none types s.bits text;
   stops = no_claim types s.bits text left [];
   output = inl (Appends-nil before);
-  upkept = none_upkept status.NoMemory s c none;
+  upkept = none_upkept status.NoMemory s (deeds_before s [] c) c none;
   gone = none_gone s c none;
-  read = none_read s c unread;
+  read = none_read s (deeds_before s [] c) c unread;
   few = few_none;
   reached = tt;
 })

@@ -4,11 +4,13 @@ use Rattle.std.proofs.lemmas.Bool.{cases_eq}
 use Rattle.carriers.specs.declared.fate.Fate.{Fate}
 use Rattle.lane_journals.specs.declared.event.LaneEvent.{LaneEvent}
 use Rattle.lane_calls.specs.LaneValues.{LaneValue}
+use Rattle.lane_calls.specs.Segments.{GaveOn}
+use Rattle.lane_lives.specs.Lives.{Deed}
 use Rattle.lane_lives.specs.declared.setting.Setting.{Setting}
 use Rattle.lane_lives.specs.declared.spans.UpkeepSpan.{UpkeepSpan}
 use Rattle.lane_promises.proofs.Before.{Grown}
 use Rattle.session_cluster.specs.Cells.{Cell}
-use Rattle.session_cluster.specs.Keeping.{IsKept}
+use Rattle.session_cluster.specs.Keeping.{HaveDone}
 use Rattle.session_cluster.specs.Spans.{spans_of}
 use Rattle.session_cluster.specs.Steps.{HasSpans, MayHaveAllPassed, IsMaintained, IsAfter}
 use Rattle.session_cluster.specs.declared.asked.Asked.{Asked}
@@ -16,7 +18,7 @@ use Rattle.session_cluster.proofs.Passing.{passes_in_order}
 use Rattle.session_cluster.proofs.SessionSteps.{lane_was, passed_legal, noted_after, leaves_spans}
 use Rattle.session_cluster.proofs.SpanLists.{spans_own}
 use Rattle.cell_session.specs.Orders.{WentInOrder, GoInOrder}
-use Rattle.cell_session.proofs.UpkeepLaws.{GaveOn, grew_after, some_is, none_some}
+use Rattle.cell_session.proofs.UpkeepLaws.{AllGrew, grew_after, some_is, none_some}
 
 -- a span is that of its pass still
 went_on : (s : Setting) (lane : ℕ) (given now : List Fate) (J K : List LaneEvent) (span : UpkeepSpan) → WentInOrder s lane given J span → GaveOn now given → Grown K J → WentInOrder s lane now K span
@@ -34,7 +36,7 @@ went_on s lane given now J K span h more g = record {
   passes = h.passes;
 }
 
-module _ (s : Setting) (plans : ℕ → List Fate) (cs : List Asked) (c : Asked) (old new : Cell) (k : ℕ) (kept : IsKept s plans cs old) (is : k ≡ length cs + 1) (after : IsAfter s k c old new) (so : GoInOrder s old) where
+module _ (s : Setting) (plans : ℕ → List Fate) (cs : List Asked) {deeds : ℕ → List Deed} (c : Asked) (old new : Cell) (k : ℕ) (kept : HaveDone s plans cs deeds old) (is : k ≡ length cs + 1) (after : IsAfter s k c old new) (so : GoInOrder s old) where
   own_none : spans_of k old.upkeeps ≡ None
   own_none = kept.unkept k (omega (arith, is, kept.dealt))
 
@@ -97,10 +99,8 @@ module _ (s : Setting) (plans : ℕ → List Fate) (cs : List Asked) (c : Asked)
 pub none_gone : (s : Setting) (c : Cell) → c.upkeeps ≡ [] → GoInOrder s c
 none_gone s c none line spans has lane v span at there = absurd (none_some (spans_of line c.upkeeps) spans (ap (spans_of line) none) has)
 
--- room and what is shown change nothing of it
-pub gone_roomier : (s : Setting) (old new : Cell) → new.upkeeps ≡ old.upkeeps → ((lane : ℕ) (w : LaneValue) → slice_get new.lanes lane ≡ Some w → (v : LaneValue) × ((slice_get old.lanes lane ≡ Some v) × (w.journal ≡ v.journal) × (w.given ≡ v.given)))
-    → GoInOrder s old → GoInOrder s new
-gone_roomier s old new same seen so line spans has lane w span at there =
-    let v = seen lane w at in
-    subst (λ g. WentInOrder s lane g w.journal span) (sym v.1.2)
-    (subst (λ J. WentInOrder s lane (v.0).given J span) (sym v.1.1) (so line spans (sym (ap (spans_of line) same) ∙ has) lane v.0 span v.1.0 there))
+-- what was said stays where no span came, and the lanes grew
+pub gone_on : (s : Setting) (old new : Cell) → new.upkeeps ≡ old.upkeeps → AllGrew old new → GoInOrder s old → GoInOrder s new
+gone_on s old new same grew so line spans has lane w span at there =
+    let g = grew lane w at in
+    went_on s lane (g.0).given w.given (g.0).journal w.journal span (so line spans (sym (ap (spans_of line) same) ∙ has) lane g.0 span g.1.0 there) (g.1.1).fates (g.1.1).journal

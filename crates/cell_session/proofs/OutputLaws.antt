@@ -28,6 +28,7 @@ use Rattle.session_cluster.specs.declared.asked.Asked.TheVariants as command
 use Rattle.session_cluster.proofs.KeptLanes.{kept_legal}
 use Rattle.session_cluster.proofs.Moving.{Moves, moves, answer_seen}
 use Rattle.session_cluster.proofs.SessionSteps.{LeavesSpans, LeavesFronts, leaves_spans, leaves_fronts}
+use Rattle.cell_session.specs.Operations.{deeds_before}
 use Rattle.cell_session.specs.Searches.{AreRead}
 use Rattle.cell_session.proofs.ReadLaws.{ViewsStay, views_stay}
 use Rattle.doc_types.specs.SchemaCodes.{Types}
@@ -100,12 +101,12 @@ output-push s told start (x ∷ cs) c vs =
     ∙ sym (append_assoc (report_in s told start x vs) (output_from s next (suc start) cs vs) (report_in s (told_by next cs) (start + suc (length cs)) c vs))
 
 -- the output of the earlier lines stays
-pub output_kept : (s : Setting) (plans : ℕ → List Fate) (cs : List Asked) (c : Asked) (old new : Cell) (k : ℕ) → IsKept s plans cs old → k ≡ length cs + 1 → IsAfter s k c old new → AreRead s cs old → output_of s cs new ≡ output_of s cs old
+pub output_kept : (s : Setting) (plans : ℕ → List Fate) (cs : List Asked) (c : Asked) (old new : Cell) (k : ℕ) → IsKept s plans cs old → k ≡ length cs + 1 → IsAfter s k c old new → AreRead s (deeds_before s cs old) cs old → output_of s cs new ≡ output_of s cs old
 output_kept s plans cs c old new k kept is after so =
     output_stays s (first_told s) 1 k cs old new (moves s plans cs c old new k kept after) (leaves_spans s c old new k after) (leaves_fronts s c old new k after) (views_stay s plans cs c old new k kept is after so s.schema)
     (kept_legal s plans cs old kept) (omega (arith, is))
 
-pub output_more : (s : Setting) (plans : ℕ → List Fate) (cs : List Asked) (c : Asked) (old new : Cell) (k : ℕ) → IsKept s plans cs old → k ≡ length cs + 1 → IsAfter s k c old new → AreRead s cs old
+pub output_more : (s : Setting) (plans : ℕ → List Fate) (cs : List Asked) (c : Asked) (old new : Cell) (k : ℕ) → IsKept s plans cs old → k ≡ length cs + 1 → IsAfter s k c old new → AreRead s (deeds_before s cs old) cs old
     → output_of s (cs ++ c ∷ []) new ≡ output_of s cs old ++ report_in s old.told k c new
 output_more s plans cs c old new k kept is after so =
     output-push s (first_told s) 1 cs c new ∙ ap₂ (λ a n. a ++ report_in s (told_of s cs) n c new) (output_kept s plans cs c old new k kept is after so) (omega (arith, is))

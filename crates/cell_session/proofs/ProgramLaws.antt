@@ -64,7 +64,8 @@ no_session words text left c before empty =
           let ends = fed_unmade x.setting x.setting.schema x.feeders none_planned text left c before empty in
           record {
             dealt_with = fed_dealt status.NoMemory x.setting x.setting.schema x.feeders none_planned text left c before before ends;
-            lines = nothing_lines status.NoMemory x.setting x.setting.schema x.feeders none_planned text left c before before none.0 none.1.0;
+            lines = nothing_lines status.NoMemory x.setting x.setting.schema x.feeders none_planned text left c before before
+                (record { memory = refl; none = none.0; dealt = none.1.0; unkept = none.1.1.0; unread = none.1.1.1; kept = keeps_same before });
             written = fed_written status.NoMemory x.setting x.setting.schema x.feeders none_planned text left c before before ends;
           };
       wrong = λ w. keeps_same before;

@@ -2,8 +2,7 @@
 use Rattle.std.proofs.Common.{◌≡◌, ◌≢◌, ◌<◌, ◌≤◌, ◌+◌, ℕ, zero, suc, List, [], ◌∷◌, ◌++◌, Option, None, Some, option_and_then, inl, inr, refl, sym, ap, ap₂, ◌∙◌, subst, arith, length, append_assoc, map, take, slice_get}
 use Rattle.std.specs.Option.{IsSome}
 use Rattle.std.proofs.lemmas.Bool.{cases_eq, false≢true}
-use Rattle.std.proofs.Math.Seq.{take-length}
-use Rattle.std.proofs.lemmas.List.{length-map, take-append-le}
+use Rattle.std.proofs.lemmas.List.{length-map}
 use Rattle.std.proofs.lemmas.Option.{slice_get_within}
 use Rattle.bucket_ids.specs.Buckets.{Low}
 use Rattle.carriers.specs.declared.fate.Fate.{Fate}
@@ -18,17 +17,16 @@ use Rattle.lane_lives.specs.declared.setting.Setting.{Setting}
 use Rattle.lane_promises.proofs.Before.{Grown}
 use Rattle.query_text.specs.Grammar.{Said}
 use Rattle.session_cluster.specs.Cells.{Cell, journals, journals_of}
-use Rattle.session_cluster.specs.Deeds.{deeds_of_lane}
 use Rattle.session_cluster.specs.Keeping.{IsKept}
 use Rattle.session_cluster.specs.Searches.{fronts_of, front_in, fronts_now, front_now, view_to, views_to}
 use Rattle.session_cluster.specs.Steps.{IsSearched, IsAfter}
 use Rattle.session_cluster.specs.declared.asked.Asked.{Asked}
 use Rattle.session_cluster.specs.declared.asked.Asked.TheVariants as command
-use Rattle.cell_session.specs.Searches.{FrontStands, HasRead, SearchesAt, AreRead}
-use Rattle.session_cluster.proofs.DeedLists.{deeds_same}
+use Rattle.cell_session.specs.Operations.{deeds_before}
+use Rattle.cell_session.specs.Searches.{FrontStands, HasRead, SearchesAt, OnlySearchesRead, FrontsRise, AreRead}
 use Rattle.session_cluster.proofs.FrontLists.{fronts_own}
-use Rattle.session_cluster.proofs.SessionSteps.{kept_more, leaves_spans, leaves_fronts, read_after}
-use Rattle.cell_session.proofs.UpkeepLaws.{some_is, none_some, pushed, still, last_there, take_low, grew_after}
+use Rattle.session_cluster.proofs.SessionSteps.{kept_more, leaves_fronts, read_after}
+use Rattle.cell_session.proofs.UpkeepLaws.{some_is, none_some, pushed, still, last_there, AreAsBefore, before_stays, before_own, grew_after}
 use Rattle.view_changes.specs.Opening.{opening}
 use Rattle.view_changes.specs.Views.{view_after}
 
@@ -79,7 +77,7 @@ mapped_at f (z ∷ xs) zero x y at is = sym (some_is is) ∙ ap f (some_is at)
 mapped_at f (z ∷ xs) (suc k) x y at is = mapped_at f xs k x y at is
 
 -- a lane's front is one of its line's
-fronts_there : (lane : ℕ) (o : Option (List ℕ)) (a : ℕ) → option_and_then (λ gs. slice_get gs lane) o ≡ Some a → (gs : List ℕ) × ((o ≡ Some gs) × (slice_get gs lane ≡ Some a))
+pub fronts_there : (lane : ℕ) (o : Option (List ℕ)) (a : ℕ) → option_and_then (λ gs. slice_get gs lane) o ≡ Some a → (gs : List ℕ) × ((o ≡ Some gs) × (slice_get gs lane ≡ Some a))
 fronts_there lane None a h = cc h
 fronts_there lane (Some gs) a h = (gs, (refl, h))
 
@@ -92,7 +90,38 @@ in_list [] lane h = absurd (omega (arith, h))
 in_list (v ∷ vs) zero h = (v, refl)
 in_list (v ∷ vs) (suc lane) h = in_list vs lane (omega (arith, h))
 
-module _ (s : Setting) (plans : ℕ → List Fate) (cs : List Asked) (c : Asked) (old new : Cell) (k : ℕ) (kept : IsKept s plans cs old) (is : k ≡ length cs + 1) (after : IsAfter s k c old new) (so : AreRead s cs old) where
+-- each lane's journal grew
+abbrev pub JournalsGrew : Cell → Cell → Type 0
+JournalsGrew old new = (lane : ℕ) (w : LaneValue) → slice_get new.lanes lane ≡ Some w → (v : LaneValue) × ((slice_get old.lanes lane ≡ Some v) × Grown w.journal v.journal)
+
+-- a line's fronts stand on
+pub read_on : (s : Setting) (old new : Cell) → JournalsGrew old new → (line : ℕ) → fronts_of line new.fronts ≡ fronts_of line old.fronts → (b d : ℕ → List Deed) → ((lane : ℕ) → d lane ≡ b lane) → HasRead s b line old → HasRead s d line new
+read_on s old new grew line same b d deeds h = record {
+  fronts = h.fronts;
+  are = same ∙ h.are;
+  count = h.count;
+  stand = λ lane w g at there.
+      let grown = grew lane w at in
+      subst (λ ds. FrontStands s (bucket_in s lane) ds w.journal g) (sym (deeds lane))
+      (front_on s (bucket_in s lane) (b lane) (grown.0).journal w.journal g (h.stand lane grown.0 g grown.1.0 there) grown.1.1);
+}
+
+-- a lane's front of a line lies within its journal
+pub low_of : (s : Setting) (b : ℕ → List Deed) (line : ℕ) (c : Cell) → HasRead s b line c → (lane a : ℕ) (v : LaneValue) → front_in lane line c.fronts ≡ Some a → slice_get c.lanes lane ≡ Some v → a ≤ front_now v
+low_of s b line c h lane a v has there =
+    let at = fronts_there lane (fronts_of line c.fronts) a has in
+    front_within s (bucket_in s lane) (b lane) v.journal a (h.stand lane v a there (ap (λ xs. slice_get xs lane) (some_is (sym h.are ∙ at.1.0)) ∙ at.1.1))
+
+module _ (s : Setting) (plans : ℕ → List Fate) (cs : List Asked) (c : Asked) (old new : Cell) (k : ℕ) (kept : IsKept s plans cs old) (is : k ≡ length cs + 1) (after : IsAfter s k c old new) (so : AreRead s (deeds_before s cs old) cs old) where
+  abbrev b : ℕ → ℕ → List Deed
+  b = deeds_before s cs old
+
+  abbrev d : ℕ → ℕ → List Deed
+  d = deeds_before s (cs ++ c ∷ []) new
+
+  grew : JournalsGrew old new
+  grew lane w at = let grown = grew_after s c old new k after lane w at in (grown.0, (grown.1.0, (grown.1.1).journal))
+
   abbrev cs' : List Asked
   cs' = cs ++ c ∷ []
 
@@ -105,12 +134,12 @@ module _ (s : Setting) (plans : ℕ → List Fate) (cs : List Asked) (c : Asked)
   -- ---- an earlier line's
 
   -- the line that has fronts
-  found : (line : ℕ) (gs : List ℕ) → fronts_of line old.fronts ≡ Some gs → (earlier : List Asked) × ((h : HasRead s earlier line old) × (h.fronts ≡ gs))
+  found : (line : ℕ) (gs : List ℕ) → fronts_of line old.fronts ≡ Some gs → (deeds : ℕ → List Deed) × ((h : HasRead s deeds line old) × (h.fronts ≡ gs))
   found line gs has =
       let was = so.others line (subst IsSome (sym has) refl) in
       let h = so.answered was.0 was.1.0 was.1.1.1 in
-      let own : HasRead s (take was.0 cs) line old = subst (λ n. HasRead s (take was.0 cs) n old) (sym was.1.1.0) h in
-      (take was.0 cs, (own, some_is (sym own.are ∙ has)))
+      let own : HasRead s (b was.0) line old = subst (λ n. HasRead s (b was.0) n old) (sym was.1.1.0) h in
+      (b was.0, (own, some_is (sym own.are ∙ has)))
 
   pub views_stay : (types : Types) → ViewsStay types old new
   views_stay types line gs has =
@@ -119,19 +148,8 @@ module _ (s : Setting) (plans : ℕ → List Fate) (cs : List Asked) (c : Asked)
       views_same types gs old.lanes new.lanes as_many (λ lane v w g was at there.
       let grown = grew_after s c old new k after lane w at in
       let same : grown.0 ≡ v = some_is (sym grown.1.0 ∙ was) in
-      front_view s types (bucket_in s lane) (deeds_of_lane s old.upkeeps lane f.0) v.journal w.journal g (h.stand lane v g was (ap (λ xs. slice_get xs lane) f.1.1 ∙ there))
+      front_view s types (bucket_in s lane) (f.0 lane) v.journal w.journal g (h.stand lane v g was (ap (λ xs. slice_get xs lane) f.1.1 ∙ there))
       (subst (λ (x : LaneValue). Grown w.journal x.journal) same (grown.1.1).journal))
-
-  read_on : (earlier : List Asked) (line : ℕ) → length earlier ≤ length cs → k ≢ line → HasRead s earlier line old → HasRead s earlier line new
-  read_on earlier line low other h = record {
-    fronts = h.fronts;
-    are = same_as line other ∙ h.are;
-    count = h.count;
-    stand = λ lane w g at there.
-        let grown = grew_after s c old new k after lane w at in
-        subst (λ ds. FrontStands s (bucket_in s lane) ds w.journal g) (sym (deeds_same s old.upkeeps new.upkeeps k lane earlier (omega (arith, low, is)) (leaves_spans s c old new k after)))
-        (front_on s (bucket_in s lane) (deeds_of_lane s old.upkeeps lane earlier) (grown.0).journal w.journal g (h.stand lane grown.0 g grown.1.0 there) (grown.1.1).journal);
-  }
 
   -- ---- the line's own
 
@@ -142,7 +160,7 @@ module _ (s : Setting) (plans : ℕ → List Fate) (cs : List Asked) (c : Asked)
     own_are : fronts_of k new.fronts ≡ Some (fronts_now old.lanes)
     own_are = ap (λ (x : Cell). fronts_of k x.fronts) now ∙ fronts_own k old.fronts (record { line = k; fronts = fronts_now old.lanes }) refl own_none
 
-    read : HasRead s cs k new
+    read : HasRead s (d (length cs)) k new
     read = record {
       fronts = fronts_now old.lanes;
       are = own_are;
@@ -151,7 +169,7 @@ module _ (s : Setting) (plans : ℕ → List Fate) (cs : List Asked) (c : Asked)
           let was : slice_get old.lanes lane ≡ Some w = subst (λ (x : Cell). slice_get x.lanes lane ≡ Some w) now at in
           record {
             before = w.journal;
-            behind = subst (λ (x : Cell). IsLife s (bucket_in s lane) (deeds_of_lane s x.upkeeps lane cs) w.journal) (sym now) (kept.serving lane w was).life;
+            behind = subst (λ ds. IsLife s (bucket_in s lane) ds w.journal) (sym (before_own s cs c old new k is after lane)) (kept.serving lane w was).life;
             front = mapped_at front_now old.lanes lane w g was there;
             later = [];
             whole = refl;
@@ -160,24 +178,21 @@ module _ (s : Setting) (plans : ℕ → List Fate) (cs : List Asked) (c : Asked)
 
   -- ---- all lines
 
-  old_answered : (at : ℕ) (q : Said) → SearchesAt at q cs → HasRead s (take at cs') (suc at) new
+  old_answered : (at : ℕ) (q : Said) → SearchesAt at q cs → HasRead s (d at) (suc at) new
   old_answered at q asks =
       let within = slice_get_within cs at (command.Search q) asks in
-      subst (λ (es : List Asked). HasRead s es (suc at) new) (sym (take-append-le at cs (c ∷ []) (omega (arith, within))))
-      (read_on (take at cs) (suc at) (take_low at cs) (λ e. absurd (omega (arith, e, is, within))) (so.answered at q asks))
+      read_on s old new grew (suc at) (same_as (suc at) (λ e. absurd (omega (arith, e, is, within)))) (b at) (d at) (λ lane. before_stays s cs c old new k is after at lane within) (so.answered at q asks)
 
-  own_answered : (q : Said) → c ≡ command.Search q → HasRead s (take (length cs) cs') (suc (length cs)) new
-  own_answered q own =
-      subst (λ (es : List Asked). HasRead s es (suc (length cs)) new) (sym (take-append-le (length cs) cs (c ∷ []) (omega arith) ∙ take-length cs))
-      (subst (λ n. HasRead s cs n new) (number is) (read (subst (λ (x : Asked). IsAfter s k x old new) own after)))
+  own_answered : (q : Said) → c ≡ command.Search q → HasRead s (d (length cs)) (suc (length cs)) new
+  own_answered q own = subst (λ n. HasRead s (d (length cs)) n new) (number is) (read (subst (λ (x : Asked). IsAfter s k x old new) own after))
     where
       number : k ≡ length cs + 1 → k ≡ suc (length cs)
       number e = omega (arith, e)
 
-  answered : (at : ℕ) (q : Said) → SearchesAt at q cs' → HasRead s (take at cs') (suc at) new
+  answered : (at : ℕ) (q : Said) → SearchesAt at q cs' → HasRead s (d at) (suc at) new
   answered at q asks = elim (pushed cs c at (command.Search q) asks) [
     | inl before ↦ old_answered at q before
-    | inr here ↦ subst (λ n. HasRead s (take n cs') (suc n) new) (sym here.0) (own_answered q here.1)
+    | inr here ↦ subst (λ n. HasRead s (d n) (suc n) new) (sym here.0) (own_answered q here.1)
   ]
 
   old_others : (line : ℕ) → IsSome (fronts_of line old.fronts) → (at : ℕ) × ((q : Said) × ((line ≡ suc at) × SearchesAt at q cs'))
@@ -207,8 +222,7 @@ module _ (s : Setting) (plans : ℕ → List Fate) (cs : List Asked) (c : Asked)
   low_front lane line a v has there =
       let at = fronts_there lane (fronts_of line old.fronts) a has in
       let f = found line at.0 at.1.0 in
-      let h = f.1.0 in
-      front_within s (bucket_in s lane) (deeds_of_lane s old.upkeeps lane f.0) v.journal a (h.stand lane v a there (ap (λ xs. slice_get xs lane) f.1.1 ∙ at.1.1))
+      low_of s f.0 line old f.1.0 lane a v has there
 
   none_later : (lane line b : ℕ) → k < line → front_in lane line new.fronts ≡ Some b → ⊥
   none_later lane line b later has =
@@ -235,36 +249,37 @@ module _ (s : Setting) (plans : ℕ → List Fate) (cs : List Asked) (c : Asked)
     ]
   ]
 
-  pub read_more : AreRead s cs' new
+  pub read_more : AreRead s d cs' new
   read_more = record { answered = answered; others = others; in_order = in_order }
 
 -- ---- where no line was dealt with
 
-no_search : (at : ℕ) (q : Said) → SearchesAt at q [] → ⊥
+pub no_search : (at : ℕ) (q : Said) → SearchesAt at q [] → ⊥
 no_search zero q h = cc h
 no_search (suc at) q h = cc h
 
-pub none_read : (s : Setting) (c : Cell) → c.fronts ≡ [] → AreRead s [] c
-none_read s c none = record {
+-- no line has fronts
+pub none_others : (cs : List Asked) (c : Cell) → c.fronts ≡ [] → OnlySearchesRead cs c
+none_others cs c none line some = absurd (false≢true (subst IsSome (ap (fronts_of line) none) some))
+
+pub none_rise : (c : Cell) → c.fronts ≡ [] → FrontsRise c
+none_rise c none lane earlier line early a b has there =
+    absurd (none_some (front_in lane line c.fronts) b (ap (λ o. option_and_then (λ gs. slice_get gs lane) o) (ap (fronts_of line) none)) there)
+
+pub none_read : (s : Setting) (b : ℕ → ℕ → List Deed) (c : Cell) → c.fronts ≡ [] → AreRead s b [] c
+none_read s b c none = record {
   answered = λ at q asks. absurd (no_search at q asks);
-  others = λ line some. absurd (false≢true (subst IsSome (ap (fronts_of line) none) some));
-  in_order = λ lane earlier line early a b has there. absurd (none_some (front_in lane line c.fronts) b (ap (λ o. option_and_then (λ gs. slice_get gs lane) o) (ap (fronts_of line) none)) there);
+  others = none_others [] c none;
+  in_order = none_rise c none;
 }
 
--- room and what is shown change nothing of it
-pub read_roomier : (s : Setting) (cs : List Asked) (old new : Cell) → new.fronts ≡ old.fronts → new.upkeeps ≡ old.upkeeps
-    → ((lane : ℕ) (w : LaneValue) → slice_get new.lanes lane ≡ Some w → (v : LaneValue) × ((slice_get old.lanes lane ≡ Some v) × (w.journal ≡ v.journal))) → AreRead s cs old → AreRead s cs new
-read_roomier s cs old new same spans seen so = record {
-  answered = λ at q asks. let h = so.answered at q asks in record {
-    fronts = h.fronts;
-    are = ap (fronts_of (suc at)) same ∙ h.are;
-    count = h.count;
-    stand = λ lane w g here there.
-        let v = seen lane w here in
-        subst (λ us. FrontStands s (bucket_in s lane) (deeds_of_lane s us lane (take at cs)) w.journal g) (sym spans)
-        (subst (λ J. FrontStands s (bucket_in s lane) (deeds_of_lane s old.upkeeps lane (take at cs)) J g) (sym v.1.1) (h.stand lane v.0 g v.1.0 there));
-  };
+-- what was said stays where no search came, and the lanes grew
+pub reads_on : (s : Setting) (old new : Cell) (cs : List Asked) → new.fronts ≡ old.fronts → JournalsGrew old new → (b d : ℕ → ℕ → List Deed) → AreAsBefore (length cs) b d → AreRead s b cs old → AreRead s d cs new
+reads_on s old new cs same grew b d stays so = record {
+  answered = λ at q asks.
+      let within = slice_get_within cs at (command.Search q) asks in
+      read_on s old new grew (suc at) (ap (fronts_of (suc at)) same) (b at) (d at) (λ lane. stays at lane within) (so.answered at q asks);
   others = λ line some. so.others line (subst (λ fs. IsSome (fronts_of line fs)) same some);
-  in_order = λ lane earlier line early a b has there.
-      so.in_order lane earlier line early a b (subst (λ fs. front_in lane earlier fs ≡ Some a) same has) (subst (λ fs. front_in lane line fs ≡ Some b) same there);
+  in_order = λ lane earlier line early a c has there.
+      so.in_order lane earlier line early a c (subst (λ fs. front_in lane earlier fs ≡ Some a) same has) (subst (λ fs. front_in lane line fs ≡ Some c) same there);
 }

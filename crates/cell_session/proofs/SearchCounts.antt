@@ -22,7 +22,6 @@ use Rattle.lane_journals.specs.declared.event.LaneEvent.TheVariants.{Wrote}
 use Rattle.lane_keeping.specs.LaneKeeping.{setting_of}
 use Rattle.lane_calls.specs.LaneValues.{LaneValue}
 use Rattle.lane_lives.specs.Lives.{Deed, lines_of}
-use Rattle.lane_calls.specs.Lines.{last_line}
 use Rattle.lane_lives.specs.Serving.{bucket_in}
 use Rattle.lane_lives.specs.Settings.{lane_count, IsSetting}
 use Rattle.lane_lives.specs.declared.setting.Setting.{Setting}
@@ -34,12 +33,14 @@ use Rattle.search_laws.specs.Searches.{times_counted, covered}
 use Rattle.search_views.specs.Answers.{search_answer, all_covered, capped}
 use Rattle.session_cluster.specs.Cells.{Cell, journals, journals_of}
 use Rattle.session_cluster.specs.Deeds.{deeds_of_lane}
-use Rattle.session_cluster.specs.Keeping.{IsKept}
+use Rattle.session_cluster.specs.Keeping.{HaveDone, IsKept}
 use Rattle.session_cluster.specs.Lanes.{Journal}
 use Rattle.session_cluster.specs.Searches.{fronts_of, view_to, views_to}
 use Rattle.session_cluster.specs.declared.asked.Asked.{Asked}
+use Rattle.session_cluster.proofs.AlikeDeeds.{AreLow}
 use Rattle.session_cluster.proofs.DeedLists.{lines_low}
 use Rattle.cell_session.specs.Limits.{most_lines}
+use Rattle.cell_session.specs.Operations.{deeds_before}
 use Rattle.cell_session.specs.Searches.{FrontStands, HasRead, AreRead, AreFrontsIn, CountsOnce, EachCounts}
 use Rattle.cell_session.proofs.UpkeepLaws.{some_is}
 use Rattle.view_changes.specs.Kept.{IsView}
@@ -69,15 +70,14 @@ more_written (e ∷ N) J = let more = more_written N J in let one = with_one e (
     with_one _ K = omega arith
 
 -- a session's lanes have few
-few_written : SearchLaws → (s : Setting) → IsSetting s → (plans : ℕ → List Fate) (cs : List Asked) (c : Cell) → IsKept s plans cs c → length cs ≤ most_lines → (lane : ℕ) (v : LaneValue) → slice_get c.lanes lane ≡ Some v
-    → IsLegal (setting_of (bucket_in s lane) s.rules) v.journal → FindRoom v.journal
-few_written laws s setting plans cs c kept few lane v at legal =
-    let is = kept.serving lane v at in
-    let deeds = deeds_of_lane s c.upkeeps lane cs in
-    let low : last_line (lines_of deeds) ≤ length cs = lines_low s c.upkeeps lane cs in
+few_written : SearchLaws → (s : Setting) → IsSetting s → (plans : ℕ → List Fate) (cs : List Asked) (deeds : ℕ → List Deed) (c : Cell) → HaveDone s plans cs deeds c → AreLow deeds (length cs) → length cs ≤ most_lines
+    → (lane : ℕ) (v : LaneValue) → slice_get c.lanes lane ≡ Some v → IsLegal (setting_of (bucket_in s lane) s.rules) v.journal → FindRoom v.journal
+few_written laws s setting plans cs deeds c done lows few lane v at legal =
+    let is = done.serving lane v at in
+    let low = lows lane in
     let most = laws.few (setting_of (bucket_in s lane) s.rules) (setting.rules).some_acks v.journal legal 50001 (λ line wrote. elim (cases_lt line 50001) [
       | inl below ↦ below
-      | inr past ↦ absurd (false≢true (sym (others_fresh s (bucket_in s lane) deeds v.journal is.life line (later_none line (lines_of deeds) is.rising (omega (arith, low, few, past)))).unwritten ∙ wrote))
+      | inr past ↦ absurd (false≢true (sym (others_fresh s (bucket_in s lane) (deeds lane) v.journal is.life line (later_none line (lines_of (deeds lane)) is.rising (omega (arith, low, few, past)))).unwritten ∙ wrote))
     ]) in
     omega (arith, most)
 
@@ -189,40 +189,48 @@ module _ (laws : SearchLaws) (s : Setting) (setting : IsSetting s) (deeds : ℕ 
 
 -- ---- of a session
 
-pub legal_in : (s : Setting) (plans : ℕ → List Fate) (cs : List Asked) (c : Cell) → IsKept s plans cs c → (lane : ℕ) (v : LaneValue) → slice_get c.lanes lane ≡ Some v → IsLegal (setting_of (bucket_in s lane) s.rules) v.journal
-legal_in s plans cs c kept lane v at =
-    let is = kept.serving lane v at in
+pub legal_in : (s : Setting) (plans : ℕ → List Fate) (cs : List Asked) (deeds : ℕ → List Deed) (c : Cell) → HaveDone s plans cs deeds c → (lane : ℕ) (v : LaneValue) → slice_get c.lanes lane ≡ Some v → IsLegal (setting_of (bucket_in s lane) s.rules) v.journal
+legal_in s plans cs deeds c done lane v at =
+    let is = done.serving lane v at in
     subst (λ b. IsLegal (setting_of b s.rules) v.journal) is.lane_is (subst (λ r. IsLegal (setting_of v.lane r) v.journal) is.rules_are (is.holds).legal)
 
--- what the lines before a place did in a lane
-abbrev pub deeds_to : Setting → List Asked → Cell → ℕ → ℕ → List Deed
-deeds_to s cs c at lane = deeds_of_lane s c.upkeeps lane (take at cs)
+-- a session whose lines did these deeds, and no other line
+module _ (laws : SearchLaws) (s : Setting) (setting : IsSetting s) (plans : ℕ → List Fate) (cs : List Asked) (deeds : ℕ → List Deed) (c : Cell) (done : HaveDone s plans cs deeds c) (lows : AreLow deeds (length cs)) (few : length cs ≤ most_lines) where
+  -- the search of a line that read behind deeds
+  pub counts_at : (b : ℕ → List Deed) (line : ℕ) (h : HasRead s b line c) → CountsOnce s b h.fronts (journals_of c)
+  counts_at b line h = counts laws s setting b h.fronts c.lanes (collect laws s setting b 0 h.fronts c.lanes (h.count ∙ sym done.lanes) (omega (arith, done.lanes)) (λ lane v g here there.
+      let legal = legal_in s plans cs deeds c done lane v here in
+      subst (λ n. LaneHas s n (b n) g v.journal) (from_none lane) (record { stands = h.stand lane v g here there; legal = legal; room = few_written laws s setting plans cs deeds c done lows few lane v here legal })))
+    where
+      from_none : (n : ℕ) → n ≡ 0 + n
+      from_none n = omega arith
 
--- the search of the line at a place
-pub counts_at : SearchLaws → (s : Setting) → IsSetting s → (plans : ℕ → List Fate) (cs : List Asked) (c : Cell) → IsKept s plans cs c → length cs ≤ most_lines → (at line : ℕ) (h : HasRead s (take at cs) line c)
-    → CountsOnce s (λ lane. deeds_of_lane s c.upkeeps lane (take at cs)) h.fronts (journals_of c)
-counts_at laws s setting plans cs c kept few at line h = counts laws s setting (deeds_to s cs c at) h.fronts c.lanes (collect laws s setting (deeds_to s cs c at) 0 h.fronts c.lanes (h.count ∙ sym kept.lanes) (omega (arith, kept.lanes)) (λ lane v g here there.
-    let legal = legal_in s plans cs c kept lane v here in
-    subst (λ n. LaneHas s n (deeds_to s cs c at n) g v.journal) (from_none lane) (record { stands = h.stand lane v g here there; legal = legal; room = few_written laws s setting plans cs c kept few lane v here legal })))
-  where
-    from_none : (n : ℕ) → n ≡ 0 + n
-    from_none n = omega arith
+  -- each search, where each line with fronts is one that read
+  pub each_counts_once : (b : ℕ → ℕ → List Deed) → ((line : ℕ) (gs : List ℕ) → fronts_of line c.fronts ≡ Some gs → (at : ℕ) × ((line ≡ suc at) × HasRead s (b at) (suc at) c)) → EachCounts s b c
+  each_counts_once b reads line gs has =
+      let was = reads line gs has in
+      let h = subst (λ n. HasRead s (b was.0) n c) (sym was.1.0) was.1.1 in
+      let same : h.fronts ≡ gs = some_is (sym h.are ∙ has) in
+      record {
+        at = was.0;
+        own = was.1.0;
+        counts = subst (λ fs. CountsOnce s (b was.0) fs (journals_of c)) same (counts_at (b was.0) line h);
+      }
+
+-- of lines one after the other no number is greater
+pub kept_low : (s : Setting) (cs : List Asked) (c : Cell) → AreLow (λ lane. deeds_of_lane s c.upkeeps lane cs) (length cs)
+kept_low s cs c lane = lines_low s c.upkeeps lane cs
 
 -- each search
-pub kept_counts : SearchLaws → (s : Setting) → IsSetting s → (plans : ℕ → List Fate) (cs : List Asked) (c : Cell) → IsKept s plans cs c → length cs ≤ most_lines → AreRead s cs c → EachCounts s cs c
-kept_counts laws s setting plans cs c kept few so line gs has =
+pub kept_counts : SearchLaws → (s : Setting) → IsSetting s → (plans : ℕ → List Fate) (cs : List Asked) (c : Cell) → IsKept s plans cs c → length cs ≤ most_lines → AreRead s (deeds_before s cs c) cs c → EachCounts s (deeds_before s cs c) c
+kept_counts laws s setting plans cs c kept few so =
+    each_counts_once laws s setting plans cs (λ lane. deeds_of_lane s c.upkeeps lane cs) c kept (kept_low s cs c) few (deeds_before s cs c) (λ line gs has.
     let was = so.others line (subst IsSome (sym has) refl) in
-    let h = subst (λ n. HasRead s (take was.0 cs) n c) (sym was.1.1.0) (so.answered was.0 was.1.0 was.1.1.1) in
-    let same : h.fronts ≡ gs = some_is (sym h.are ∙ has) in
-    record {
-      at = was.0;
-      own = was.1.1.0;
-      counts = subst (λ fs. CountsOnce s (λ lane. deeds_of_lane s c.upkeeps lane (take was.0 cs)) fs (journals_of c)) same (counts_at laws s setting plans cs c kept few was.0 line h);
-    }
+    (was.0, (was.1.1.0, so.answered was.0 was.1.0 was.1.1.1)))
 
 -- where there is no search
-pub none_counts : (s : Setting) (cs : List Asked) (c : Cell) → c.fronts ≡ [] → EachCounts s cs c
-none_counts s cs c none line gs has = absurd (nothing (ap (fronts_of line) none) has)
+pub none_counts : (s : Setting) (b : ℕ → ℕ → List Deed) (c : Cell) → c.fronts ≡ [] → EachCounts s b c
+none_counts s b c none line gs has = absurd (nothing (ap (fronts_of line) none) has)
   where
     nothing : {o : Option (List ℕ)} → o ≡ None → o ≡ Some gs → ⊥
     nothing a b = cc

@@ -15,6 +15,7 @@ use Rattle.distributor_part.specs.declared.rules.Rules.{Rules}
 use Rattle.lane_keeping.specs.LaneKeeping.{setting_of}
 use Rattle.lane_rest.specs.Rest.{IsAtRest}
 use Rattle.lane_calls.specs.LaneValues.{LaneValue}
+use Rattle.lane_calls.specs.Segments.{GaveOn}
 use Rattle.lane_calls.specs.Upkept.{IsLaneAtRest, IsMaintained}
 use Rattle.lane_lives.specs.declared.setting.Setting.{Setting}
 use Rattle.lane_lives.specs.Lives.{Deed, Announces, Stops, Starts, Maintains, IsLife}
@@ -27,10 +28,11 @@ use Rattle.lane_promises.proofs.Before.{Grown, grown_deed, grown_line}
 use Rattle.lane_calls.proofs.Upkept.{pass_made}
 use Rattle.session_cluster.specs.Cells.{Cell}
 use Rattle.session_cluster.specs.Deeds.{deeds_of_lane}
-use Rattle.session_cluster.specs.Keeping.{IsKept}
+use Rattle.session_cluster.specs.Keeping.{HaveDone, IsKept}
 use Rattle.session_cluster.specs.Lanes.{lane_of_id}
 use Rattle.session_cluster.specs.Spans.{spans_of, span_in}
 use Rattle.session_cluster.specs.Steps.{with_room, after_state, after_stop, after_start, IsStateTold, MayHavePassed, MayHaveAllPassed, HasSpans, IsSpanNoted, IsAfter}
+use Rattle.cell_session.specs.Operations.{deeds_before}
 use Rattle.cell_session.specs.Upkeep.{HasStood, WasCut, AsksAt, AreUpkept}
 use Rattle.session_cluster.specs.declared.asked.Asked.{Asked}
 use Rattle.session_cluster.specs.declared.asked.Asked.TheVariants as command
@@ -46,10 +48,6 @@ use Rattle.session_cluster.proofs.SpanLists.{spans_own}
 grown_itself : (J : List LaneEvent) → Grown J J
 grown_itself J = ([], refl)
 
--- these fates were given behind those
-abbrev pub GaveOn : List Fate → List Fate → Type 0
-GaveOn now given = (more : List Fate) × (now ≡ given ++ more)
-
 gave_none : (given : List Fate) → GaveOn given given
 gave_none given = ([], sym (append-nil given))
 
@@ -62,7 +60,7 @@ grew_itself : (v : LaneValue) → Grew v v
 grew_itself v = record { journal = grown_itself v.journal; fates = gave_none v.given }
 
 -- a lane that was there, from which this one grew
-abbrev GrewFrom : List LaneValue → ℕ → LaneValue → Type 0
+abbrev pub GrewFrom : List LaneValue → ℕ → LaneValue → Type 0
 GrewFrom vs lane w = (v : LaneValue) × ((slice_get vs lane ≡ Some v) × Grew w v)
 
 grew_same : (vs ws : List LaneValue) (lane : ℕ) (w : LaneValue) → ws ≡ vs → slice_get ws lane ≡ Some w → GrewFrom vs lane w
@@ -187,20 +185,46 @@ spans_there : (lane : ℕ) (o : Option (List UpkeepSpan)) (a : UpkeepSpan) → o
 spans_there lane None a h = cc h
 spans_there lane (Some spans) a h = (spans, (refl, h))
 
-module _ (s : Setting) (plans : ℕ → List Fate) (cs : List Asked) (c : Asked) (old new : Cell) (k : ℕ) (kept : IsKept s plans cs old) (is : k ≡ length cs + 1) (after : IsAfter s k c old new) where
+-- ---- what was done before a line stays
+
+-- the deeds before each of so many lines are the same
+abbrev pub AreAsBefore : ℕ → (ℕ → ℕ → List Deed) → (ℕ → ℕ → List Deed) → Type 0
+AreAsBefore count b d = (at lane : ℕ) → at < count → d at lane ≡ b at lane
+
+-- of lines that stand one behind the other, with one more
+pub before_stays : (s : Setting) (cs : List Asked) (c : Asked) (old new : Cell) (k : ℕ) → k ≡ length cs + 1 → IsAfter s k c old new → AreAsBefore (length cs) (deeds_before s cs old) (deeds_before s (cs ++ c ∷ []) new)
+before_stays s cs c old new k is after at lane low =
+    let few = take_low at cs in
+    ap (deeds_of_lane s new.upkeeps lane) (take-append-le at cs (c ∷ []) (omega (arith, low)))
+    ∙ deeds_same s old.upkeeps new.upkeeps k lane (take at cs) (omega (arith, few, is)) (leaves_spans s c old new k after)
+
+pub before_own : (s : Setting) (cs : List Asked) (c : Asked) (old new : Cell) (k : ℕ) → k ≡ length cs + 1 → IsAfter s k c old new → (lane : ℕ) → deeds_before s (cs ++ c ∷ []) new (length cs) lane ≡ deeds_of_lane s old.upkeeps lane cs
+before_own s cs c old new k is after lane =
+    ap (deeds_of_lane s new.upkeeps lane) (take-append-le (length cs) cs (c ∷ []) (omega arith) ∙ take-length cs)
+    ∙ deeds_same s old.upkeeps new.upkeeps k lane cs (omega (arith, is)) (leaves_spans s c old new k after)
+
+-- each lane of a cell grew
+abbrev pub AllGrew : Cell → Cell → Type 0
+AllGrew old new = (lane : ℕ) (w : LaneValue) → slice_get new.lanes lane ≡ Some w → GrewFrom old.lanes lane w
+
+-- a line's spans stand on where the lanes grew
+pub stood_on : (s : Setting) (old new : Cell) → AllGrew old new → (line : ℕ) → spans_of line new.upkeeps ≡ spans_of line old.upkeeps → (b d : ℕ → List Deed) → ((lane : ℕ) → d lane ≡ b lane) → HasStood s b line old → HasStood s d line new
+stood_on s old new grew line same b d deeds h = record {
+  spans = h.spans;
+  are = same ∙ h.are;
+  count = h.count;
+  stand = λ lane w span at there.
+      let g = grew lane w at in
+      subst (λ ds. SpanStands s (bucket_in s lane) ds w.given w.journal span) (sym (deeds lane))
+      (stands_on s (bucket_in s lane) (b lane) (g.0).given w.given (g.0).journal w.journal span (h.stand lane g.0 span g.1.0 there) (g.1.1).fates (g.1.1).journal);
+}
+
+-- ---- one line more
+
+module _ (s : Setting) (plans : ℕ → List Fate) (cs : List Asked) (deeds : ℕ → List Deed) (c : Asked) (old new : Cell) (k : ℕ) (kept : HaveDone s plans cs deeds old) (is : k ≡ length cs + 1) (after : IsAfter s k c old new)
+    (b d : ℕ → ℕ → List Deed) (stays : AreAsBefore (length cs) b d) (own_deeds : (lane : ℕ) → d (length cs) lane ≡ deeds lane) where
   same_as : (line : ℕ) → k ≢ line → spans_of line new.upkeeps ≡ spans_of line old.upkeeps
   same_as = leaves_spans s c old new k after
-
-  stood_on : (earlier : List Asked) (line : ℕ) → length earlier ≤ length cs → k ≢ line → HasStood s earlier line old → HasStood s earlier line new
-  stood_on earlier line low other h = record {
-    spans = h.spans;
-    are = same_as line other ∙ h.are;
-    count = h.count;
-    stand = λ lane w span at there.
-        let g = grew_after s c old new k after lane w at in
-        subst (λ ds. SpanStands s (bucket_in s lane) ds w.given w.journal span) (sym (deeds_same s old.upkeeps new.upkeeps k lane earlier (omega (arith, low, is)) same_as))
-        (stands_on s (bucket_in s lane) (deeds_of_lane s old.upkeeps lane earlier) (g.0).given w.given (g.0).journal w.journal span (h.stand lane g.0 span g.1.0 there) (g.1.1).fates (g.1.1).journal);
-  }
 
   -- ---- the line's own
 
@@ -211,7 +235,7 @@ module _ (s : Setting) (plans : ℕ → List Fate) (cs : List Asked) (c : Asked)
     own_are : spans_of k new.upkeeps ≡ Some h.spans
     own_are = ap (spans_of k) h.noted ∙ spans_own k old.upkeeps (record { line = k; spans = h.spans }) refl own_none
 
-    stood : HasStood s cs k new
+    stood : HasStood s (d (length cs)) k new
     stood = record {
       spans = h.spans;
       are = own_are;
@@ -225,7 +249,7 @@ module _ (s : Setting) (plans : ℕ → List Fate) (cs : List Asked) (c : Asked)
           record {
             before = v.journal;
             after = w.journal;
-            behind = subst (λ ds. IsLife s (bucket_in s lane) ds v.journal) (sym (deeds_same s old.upkeeps new.upkeeps k lane cs (omega (arith, is)) same_as)) serving.life;
+            behind = subst (λ ds. IsLife s (bucket_in s lane) ds v.journal) (sym (own_deeds lane)) serving.life;
             pass = subst (λ (b : Low). IsMaintained b v.journal w.journal) serving.lane_is (pass_made v w made.pass);
             from = made.from;
             to = made.to;
@@ -259,7 +283,7 @@ module _ (s : Setting) (plans : ℕ → List Fate) (cs : List Asked) (c : Asked)
 
   -- ---- all lines
 
-  module _ (end : Status) (so : AreUpkept status.Done s cs old) (last : c ≡ command.Maintain → HasSpans k old new ⊎ ((end ≡ status.NoMemory) × (new.upkeeps ≡ old.upkeeps))) where
+  module _ (end : Status) (so : AreUpkept status.Done s b cs old) (last : c ≡ command.Maintain → HasSpans k old new ⊎ ((end ≡ status.NoMemory) × (new.upkeeps ≡ old.upkeeps))) where
     abbrev cs' : List Asked
     cs' = cs ++ c ∷ []
 
@@ -269,24 +293,20 @@ module _ (s : Setting) (plans : ℕ → List Fate) (cs : List Asked) (c : Asked)
     not_done : {A : Type 0} → status.Done ≡ status.NoMemory → A
     not_done e = cc e
 
-    earlier_answered : (at : ℕ) → AsksAt at cs → HasStood s (take at cs) (suc at) old
+    earlier_answered : (at : ℕ) → AsksAt at cs → HasStood s (b at) (suc at) old
     earlier_answered at asks = elim (so.answered at asks) [
       | inl stood ↦ stood
       | inr cut ↦ not_done cut.memory
     ]
 
-    old_answered : (at : ℕ) → AsksAt at cs → HasStood s (take at cs') (suc at) new
+    old_answered : (at : ℕ) → AsksAt at cs → HasStood s (d at) (suc at) new
     old_answered at asks =
         let within = slice_get_within cs at command.Maintain asks in
-        subst (λ (es : List Asked). HasStood s es (suc at) new) (sym (take-append-le at cs (c ∷ []) (omega (arith, within))))
-        (stood_on (take at cs) (suc at) (take_low at cs) (λ e. absurd (omega (arith, e, is, within))) (earlier_answered at asks))
+        stood_on s old new (grew_after s c old new k after) (suc at) (same_as (suc at) (λ e. absurd (omega (arith, e, is, within)))) (b at) (d at) (λ lane. stays at lane (omega (arith, within))) (earlier_answered at asks)
 
-    all_before : take (length cs) cs' ≡ cs
-    all_before = take-append-le (length cs) cs (c ∷ []) (omega arith) ∙ take-length cs
-
-    own_answered : c ≡ command.Maintain → HasStood s (take (length cs) cs') (suc (length cs)) new ⊎ WasCut end cs' (suc (length cs)) new
+    own_answered : c ≡ command.Maintain → HasStood s (d (length cs)) (suc (length cs)) new ⊎ WasCut end cs' (suc (length cs)) new
     own_answered own = elim (last own) [
-      | inl h ↦ inl (subst (λ (es : List Asked). HasStood s es (suc (length cs)) new) (sym all_before) (subst (λ n. HasStood s cs n new) (number is) (stood (passed own) h)))
+      | inl h ↦ inl (subst (λ n. HasStood s (d (length cs)) n new) (number is) (stood (passed own) h))
       | inr cut ↦ inr (record {
         memory = cut.0;
         last = omega (arith, length-append cs (c ∷ []));
@@ -297,10 +317,10 @@ module _ (s : Setting) (plans : ℕ → List Fate) (cs : List Asked) (c : Asked)
         number : k ≡ length cs + 1 → k ≡ suc (length cs)
         number e = omega (arith, e)
 
-    answered : (at : ℕ) → AsksAt at cs' → HasStood s (take at cs') (suc at) new ⊎ WasCut end cs' (suc at) new
+    answered : (at : ℕ) → AsksAt at cs' → HasStood s (d at) (suc at) new ⊎ WasCut end cs' (suc at) new
     answered at asks = elim (pushed cs c at command.Maintain asks) [
       | inl before ↦ inl (old_answered at before)
-      | inr here ↦ subst (λ n. HasStood s (take n cs') (suc n) new ⊎ WasCut end cs' (suc n) new) (sym here.0) (own_answered here.1)
+      | inr here ↦ subst (λ n. HasStood s (d n) (suc n) new ⊎ WasCut end cs' (suc n) new) (sym here.0) (own_answered here.1)
     ]
 
     -- whose spans there are
@@ -328,7 +348,7 @@ module _ (s : Setting) (plans : ℕ → List Fate) (cs : List Asked) (c : Asked)
         let was = so.others line (subst IsSome (sym found.1.0) refl) in
         let stood = earlier_answered was.0 was.1.1 in
         let same : stood.spans ≡ found.0 = some_is (sym stood.are ∙ ap (λ n. spans_of n old.upkeeps) (sym was.1.0) ∙ found.1.0) in
-        stands_within s (bucket_in s lane) (deeds_of_lane s old.upkeeps lane (take was.0 cs)) v.given v.journal a (stood.stand lane v a there (ap (λ ss. slice_get ss lane) same ∙ found.1.1))
+        stands_within s (bucket_in s lane) (b was.0 lane) v.given v.journal a (stood.stand lane v a there (ap (λ ss. slice_get ss lane) same ∙ found.1.1))
 
     same_in : (lane line : ℕ) → k ≢ line → span_in lane line new.upkeeps ≡ span_in lane line old.upkeeps
     same_in lane line other = ap (λ o. option_and_then (λ spans. slice_get spans lane) o) (same_as line other)
@@ -365,8 +385,35 @@ module _ (s : Setting) (plans : ℕ → List Fate) (cs : List Asked) (c : Asked)
       ]
     ]
 
-    pub upkept_more : AreUpkept end s cs' new
-    upkept_more = record { answered = answered; others = others; in_order = in_order }
+    pub upkept_behind : AreUpkept end s d cs' new
+    upkept_behind = record { answered = answered; others = others; in_order = in_order }
+
+-- of lines one after the other
+pub upkept_more : (s : Setting) (plans : ℕ → List Fate) (cs : List Asked) (c : Asked) (old new : Cell) (k : ℕ) → IsKept s plans cs old → k ≡ length cs + 1 → IsAfter s k c old new → (end : Status) → AreUpkept status.Done s (deeds_before s cs old) cs old
+    → (c ≡ command.Maintain → HasSpans k old new ⊎ ((end ≡ status.NoMemory) × (new.upkeeps ≡ old.upkeeps))) → AreUpkept end s (deeds_before s (cs ++ c ∷ []) new) (cs ++ c ∷ []) new
+upkept_more s plans cs c old new k kept is after end so last =
+    upkept_behind s plans cs (λ lane. deeds_of_lane s old.upkeeps lane cs) c old new k kept is after (deeds_before s cs old) (deeds_before s (cs ++ c ∷ []) new)
+    (before_stays s cs c old new k is after) (before_own s cs c old new k is after) end so last
+
+-- ---- lines that ask for no upkeep
+
+-- what was said stays where no span came, and the lanes grew
+pub upkept_on : (end : Status) (s : Setting) (old new : Cell) (cs ds : List Asked) → new.upkeeps ≡ old.upkeeps → AllGrew old new → (b d : ℕ → ℕ → List Deed) → AreAsBefore (length cs) b d
+    → ((at : ℕ) → AsksAt at ds → AsksAt at cs) → ((at : ℕ) → AsksAt at cs → AsksAt at ds) → AreUpkept status.Done s b cs old → AreUpkept end s d ds new
+upkept_on end s old new cs ds same grew b d stays none asks so = record {
+  answered = λ at asked. inl (elim (so.answered at (none at asked)) [
+    | inl h ↦
+        let within = slice_get_within cs at command.Maintain (none at asked) in
+        stood_on s old new grew (suc at) (ap (spans_of (suc at)) same) (b at) (d at) (λ lane. stays at lane within) h
+    | inr cut ↦ not_done cut.memory
+  ]);
+  others = λ line some. let was = so.others line (subst (λ us. IsSome (spans_of line us)) same some) in (was.0, (was.1.0, asks was.0 was.1.1));
+  in_order = λ lane earlier line early a c has there.
+      so.in_order lane earlier line early a c (subst (λ us. span_in lane earlier us ≡ Some a) same has) (subst (λ us. span_in lane line us ≡ Some c) same there);
+}
+  where
+    not_done : {A : Type 0} → status.Done ≡ status.NoMemory → A
+    not_done e = cc e
 
 -- ---- the last line
 
@@ -391,8 +438,8 @@ no_asked (suc at) h = cc h
 no_spans : (line : ℕ) (c : Cell) → c.upkeeps ≡ [] → spans_of line c.upkeeps ≡ None
 no_spans line c none = ap (spans_of line) none
 
-pub none_upkept : (end : Status) (s : Setting) (c : Cell) → c.upkeeps ≡ [] → AreUpkept end s [] c
-none_upkept end s c none = record {
+pub none_upkept : (end : Status) (s : Setting) (b : ℕ → ℕ → List Deed) (c : Cell) → c.upkeeps ≡ [] → AreUpkept end s b [] c
+none_upkept end s b c none = record {
   answered = λ at asks. absurd (no_asked at asks);
   others = λ line some. absurd (false≢true (subst IsSome (no_spans line c none) some));
   in_order = λ lane earlier line early a b has there. absurd (none_some (span_in lane line c.upkeeps) b (ap (λ o. option_and_then (λ spans. slice_get spans lane) o) (no_spans line c none)) there);
@@ -400,8 +447,8 @@ none_upkept end s c none = record {
 
 -- ---- what stands at the end of a session stands whatever ends it
 
-pub upkept_at : (end : Status) (s : Setting) (cs : List Asked) (c : Cell) → AreUpkept status.Done s cs c → AreUpkept end s cs c
-upkept_at end s cs c so = record {
+pub upkept_at : (end : Status) (s : Setting) (b : ℕ → ℕ → List Deed) (cs : List Asked) (c : Cell) → AreUpkept status.Done s b cs c → AreUpkept end s b cs c
+upkept_at end s b cs c so = record {
   answered = λ at asks. elim (so.answered at asks) [
     | inl stood ↦ inl stood
     | inr cut ↦ absurd (not_done cut.memory)
@@ -413,24 +460,16 @@ upkept_at end s cs c so = record {
     not_done : status.Done ≡ status.NoMemory → ⊥
     not_done e = cc e
 
--- room and what is shown change nothing of it
-pub upkept_roomier : (end : Status) (s : Setting) (cs : List Asked) (old new : Cell) → new.upkeeps ≡ old.upkeeps → ((lane : ℕ) (w : LaneValue) → slice_get new.lanes lane ≡ Some w → (v : LaneValue) × ((slice_get old.lanes lane ≡ Some v) × (w.journal ≡ v.journal) × (w.given ≡ v.given)))
-    → AreUpkept end s cs old → AreUpkept end s cs new
-upkept_roomier end s cs old new same seen so = record {
-  answered = λ at asks. elim (so.answered at asks) [
-    | inl stood ↦ inl (record {
-      spans = stood.spans;
-      are = ap (spans_of (suc at)) same ∙ stood.are;
-      count = stood.count;
-      stand = λ lane w span here there.
-          let v = seen lane w here in
-          subst (λ us. SpanStands s (bucket_in s lane) (deeds_of_lane s us lane (take at cs)) w.given w.journal span) (sym same)
-          (subst (λ g. SpanStands s (bucket_in s lane) (deeds_of_lane s old.upkeeps lane (take at cs)) g w.journal span) (sym v.1.2)
-          (subst (λ J. SpanStands s (bucket_in s lane) (deeds_of_lane s old.upkeeps lane (take at cs)) (v.0).given J span) (sym v.1.1) (stood.stand lane v.0 span v.1.0 there)));
-    })
-    | inr cut ↦ inr (record { memory = cut.memory; last = cut.last; none = ap (spans_of (suc at)) same ∙ cut.none })
-  ];
-  others = λ line some. so.others line (subst (λ us. IsSome (spans_of line us)) same some);
-  in_order = λ lane earlier line early a b has there.
-      so.in_order lane earlier line early a b (subst (λ us. span_in lane earlier us ≡ Some a) same has) (subst (λ us. span_in lane line us ≡ Some b) same there);
-}
+-- where room was made, all lanes grew
+pub grew_roomier : (old new : Cell) → ((lane : ℕ) (w : LaneValue) → slice_get new.lanes lane ≡ Some w → (v : LaneValue) × ((slice_get old.lanes lane ≡ Some v) × (w.journal ≡ v.journal) × (w.given ≡ v.given))) → AllGrew old new
+grew_roomier old new seen lane w at =
+    let v = seen lane w at in (
+      v.0,
+      (
+        v.1.0,
+        record {
+          journal = subst (λ J. Grown J (v.0).journal) (sym v.1.1) (grown_itself (v.0).journal);
+          fates = subst (λ g. GaveOn g (v.0).given) (sym v.1.2) (gave_none (v.0).given);
+        },
+      ),
+    )

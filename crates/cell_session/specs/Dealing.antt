@@ -9,6 +9,7 @@ use Rattle.session_cluster.specs.Cells.{Cell}
 use Rattle.cell_session.specs.Counting.{AreFew}
 use Rattle.cell_session.specs.Ends.{IfTold, AreFirst, StopsAt, EndsAtLimit, Writes}
 use Rattle.session_cluster.specs.Keeping.{IsKept}
+use Rattle.cell_session.specs.Operations.{deeds_before}
 use Rattle.cell_session.specs.Orders.{GoInOrder}
 use Rattle.cell_session.specs.Searches.{AreRead}
 use Rattle.cell_session.specs.Upkeep.{AreUpkept}
@@ -22,9 +23,9 @@ pub record HasDealt (end : Status) (s : Setting) (types : Types) (plans : ℕ �
   pub first : IfTold text (λ t. AreFirst types s.bits t commands)
   pub stops : IfTold text (λ t. StopsAt end types s.bits t left commands)
   pub output : Writes end s commands c before now
-  pub upkept : AreUpkept end s commands c
+  pub upkept : AreUpkept end s (deeds_before s commands c) commands c
   pub gone : GoInOrder s c
-  pub read : AreRead s commands c
+  pub read : AreRead s (deeds_before s commands c) commands c
   pub few : AreFew commands
   pub reached : EndsAtLimit end commands
 

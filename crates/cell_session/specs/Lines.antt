@@ -9,7 +9,7 @@ use Rattle.cell_session.specs.Causes.{HaveCauses}
 use Rattle.cell_session.specs.Ends.{EndsAtLimit}
 use Rattle.cell_session.specs.FullSearches.{AreFull}
 use Rattle.cell_session.specs.Hearing.{HaveHeard}
-use Rattle.cell_session.specs.Operations.{WereAsked, deeds_in, HaveOutcomes, HaveFates}
+use Rattle.cell_session.specs.Operations.{WereAsked, deeds_in, deeds_before, HaveOutcomes, HaveFates}
 use Rattle.cell_session.specs.Searches.{AreRead}
 use Rattle.cell_session.specs.Upkeep.{AreUpkept}
 use Rattle.cell_session.specs.declared.status.Status.{Status}
@@ -26,9 +26,9 @@ pub record HaveLines (end : Status) (s : Setting) (types : Types) (plans : â„• â
   -- why they were refused, or got too few answers
   pub causes : HaveCauses s (deeds_in s asked c) c
   -- how the upkeep went that they asked for
-  pub upkeeps : AreUpkept end s asked c
+  pub upkeeps : AreUpkept end s (deeds_before s asked c) asked c
   -- how far those read that searched
-  pub search_fronts : AreRead s asked c
+  pub search_fronts : AreRead s (deeds_before s asked c) asked c
   -- that those are full which follow an upkeep after which all lanes rested
   pub full_at_rest : AreFull s asked c
   -- what was reached, where a limit ends the session

@@ -1,5 +1,5 @@
 -- What the lines of a session did.
-use Rattle.std.specs.Prelude.{◌≡◌, ℕ, ◌<◌, ◌≤◌, List, length, Option, None, Some, slice_get}
+use Rattle.std.specs.Prelude.{◌≡◌, ℕ, ◌<◌, ◌≤◌, List, length, take, Option, None, Some, slice_get}
 use Rattle.io_ends.specs.Lines.{lines_of}
 use Rattle.carriers.specs.declared.fate.Fate.{Fate}
 use Rattle.doc_types.specs.SchemaCodes.{Types}
@@ -45,6 +45,10 @@ pub record WereAsked (types : Types) (bits : ℕ) (text : Option (List ℕ)) (de
 -- upkeep makes the passes that its spans tell
 abbrev pub deeds_in : Setting → List Asked → Cell → ℕ → List Deed
 deeds_in s asked c lane = deeds_of_lane s c.upkeeps lane asked
+
+-- those of the lines before the one at a place
+abbrev pub deeds_before : Setting → List Asked → Cell → ℕ → ℕ → List Deed
+deeds_before s asked c at = deeds_in s (take at asked) c
 
 -- these deeds were done in each lane, and nothing else happened there
 pub record HaveOutcomes (s : Setting) (deeds : ℕ → List Deed) (c : Cell) : Type 0 where

@@ -7,7 +7,7 @@ use Rattle.session_settings.specs.declared.choice.Choice.{Choice}
 use Rattle.session_cluster.specs.Cells.{Cell, journals_of}
 use Rattle.session_cluster.specs.Lanes.{AreLegal}
 use Rattle.cell_session.specs.Ends.{IfTold, OfFirst, DealsWith, Writes, UsageEnd}
-use Rattle.cell_session.specs.FedEnds.{StopsFed, WritesFed}
+use Rattle.cell_session.specs.FedEnds.{OfParts, StopsFed, WritesFed}
 use Rattle.cell_session.specs.FedLines.{HaveFedLines}
 use Rattle.cell_session.specs.Lines.{HaveLines}
 use Rattle.cell_session.specs.StatusNumbers.{status_number}
@@ -25,9 +25,9 @@ pub record IsSessionAlone (end : Status) (x : Choice) (text left : Option (List 
 
 -- a session of this choice ended so in which feeders ran the lines of each segment
 pub record IsSessionFed (end : Status) (x : Choice) (text left : Option (List ℕ)) (c : Cell) (before now : Option (List ℕ)) : Type 0 where
-  pub dealt_with : IfTold text (λ t. OfFirst x.setting.schema (x.setting).bits t c.dealt (StopsFed end x.setting.schema (x.setting).bits t left))
-  pub lines : HaveFedLines end x.setting x.setting.schema x.feeders none_planned text c
-  pub written : IfTold text (λ t. OfFirst x.setting.schema (x.setting).bits t c.dealt (λ commands. WritesFed end x.setting commands c before now))
+  pub dealt_with : IfTold text (λ t. OfParts x.setting.schema (x.setting).bits t c.dealt (StopsFed end x.setting.schema (x.setting).bits t left))
+  pub lines : HaveFedLines end x.setting x.setting.schema x.feeders none_planned text c before now
+  pub written : IfTold text (λ t. OfParts x.setting.schema (x.setting).bits t c.dealt (λ parts. WritesFed end x.setting parts c before now))
 
 -- a session of these words ended so
 pub record IsSession (end : Status) (words : List Text) (text left : Option (List ℕ)) (c : Cell) (before now : Option (List ℕ)) : Type 0 where

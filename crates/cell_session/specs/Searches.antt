@@ -1,5 +1,5 @@
 -- What became of the lines that searched.
-use Rattle.std.specs.Prelude.{◌≡◌, ◌<◌, ◌≤◌, ℕ, suc, true, List, [], ◌∷◌, ◌++◌, length, map, take, Option, Some, IsSome, slice_get}
+use Rattle.std.specs.Prelude.{◌≡◌, ◌<◌, ◌≤◌, ℕ, suc, true, List, [], ◌∷◌, ◌++◌, length, map, Option, Some, IsSome, slice_get}
 use Rattle.bucket_ids.specs.Buckets.{Low}
 use Rattle.doc_types.specs.SchemaCodes.{Types}
 use Rattle.journal_views.specs.Fronts.{Front, AreFronts, seen_at, IsCountedAs}
@@ -17,13 +17,12 @@ use Rattle.query_text.specs.Grammar.{Said, said_of}
 use Rattle.query_text.specs.declared.query.Query.{Query}
 use Rattle.search_laws.specs.Searches.{times_counted}
 use Rattle.session_cluster.specs.Cells.{Cell, journals_of}
-use Rattle.session_cluster.specs.Deeds.{deeds_of_lane}
 use Rattle.session_cluster.specs.Lanes.{Journal}
 use Rattle.search_views.specs.Answers.{search_answer}
 use Rattle.session_cluster.specs.Searches.{fronts_of, front_in, views_to}
 use Rattle.session_cluster.specs.declared.asked.Asked.{Asked}
 use Rattle.session_cluster.specs.declared.asked.Asked.TheVariants as command
-use Rattle.cell_session.specs.Operations.{WereAsked}
+use Rattle.cell_session.specs.Operations.{WereAsked, deeds_before}
 
 -- ---- how far they read
 
@@ -38,26 +37,34 @@ pub record FrontStands (s : Setting) (lane : Low) (deeds : List Deed) (J : List 
   pub later : List LaneEvent
   pub whole : J ≡ later ++ before
 
--- the line has one front a lane, which stands behind what the earlier lines did there
-pub record HasRead (s : Setting) (earlier : List Asked) (line : ℕ) (c : Cell) : Type 0 where
+-- the line has one front a lane, which stands behind these deeds that were done there before
+pub record HasRead (s : Setting) (before : ℕ → List Deed) (line : ℕ) (c : Cell) : Type 0 where
   pub fronts : List ℕ
   pub are : fronts_of line c.fronts ≡ Some fronts
   pub count : length fronts ≡ lane_count s
   pub stand : (lane : ℕ) (v : LaneValue) (g : ℕ) → slice_get c.lanes lane ≡ Some v → slice_get fronts lane ≡ Some g
-      → FrontStands s (bucket_in s lane) (deeds_of_lane s c.upkeeps lane earlier) v.journal g
+      → FrontStands s (bucket_in s lane) (before lane) v.journal g
 
 -- the line at the place searches
 abbrev pub SearchesAt : ℕ → Said → List Asked → Type 0
 SearchesAt at q asked = slice_get asked at ≡ Some (command.Search q)
 
-pub record AreRead (s : Setting) (asked : List Asked) (c : Cell) : Type 0 where
+-- a line that has fronts searches
+abbrev pub OnlySearchesRead : List Asked → Cell → Type 0
+OnlySearchesRead asked c = (line : ℕ) → IsSome (fronts_of line c.fronts) → (at : ℕ) × ((q : Said) × ((line ≡ suc at) × SearchesAt at q asked))
+
+-- in each lane the front of a later line is no smaller
+abbrev pub FrontsRise : Cell → Type 0
+FrontsRise c = (lane earlier line : ℕ) → earlier < line → (a b : ℕ) → front_in lane earlier c.fronts ≡ Some a
+    → front_in lane line c.fronts ≡ Some b → a ≤ b
+
+-- where these deeds were done in each lane before the line at a place
+pub record AreRead (s : Setting) (before : ℕ → ℕ → List Deed) (asked : List Asked) (c : Cell) : Type 0 where
   -- each line that searches has its fronts
-  pub answered : (at : ℕ) (q : Said) → SearchesAt at q asked → HasRead s (take at asked) (suc at) c
+  pub answered : (at : ℕ) (q : Said) → SearchesAt at q asked → HasRead s (before at) (suc at) c
   -- no other line has
-  pub others : (line : ℕ) → IsSome (fronts_of line c.fronts) → (at : ℕ) × ((q : Said) × ((line ≡ suc at) × SearchesAt at q asked))
-  -- in each lane that of a later line is no smaller
-  pub in_order : (lane earlier line : ℕ) → earlier < line → (a b : ℕ) → front_in lane earlier c.fronts ≡ Some a
-      → front_in lane line c.fronts ≡ Some b → a ≤ b
+  pub others : OnlySearchesRead asked c
+  pub in_order : FrontsRise c
 
 -- ---- what they counted
 
@@ -88,17 +95,17 @@ pub record CountsOnce (s : Setting) (deeds : ℕ → List Deed) (gs : List ℕ) 
   pub current : (q : Said) (w : ℕ) (id : List ℕ) → (search_answer q w (views_to s.schema gs Js)).full ≡ true
       → IsCountedAs s.schema w id fronts (times_counted w id (map (seen_at s.schema) fronts))
 
--- the line of this number reads behind what these lines did that stand before it
-pub record CountsAt (s : Setting) (asked : List Asked) (c : Cell) (line : ℕ) (gs : List ℕ) : Type 0 where
+-- the line of this number reads behind the deeds that were done before the line at its place
+pub record CountsAt (s : Setting) (before : ℕ → ℕ → List Deed) (c : Cell) (line : ℕ) (gs : List ℕ) : Type 0 where
   pub at : ℕ
   pub own : line ≡ suc at
-  pub counts : CountsOnce s (λ lane. deeds_of_lane s c.upkeeps lane (take at asked)) gs (journals_of c)
+  pub counts : CountsOnce s (before at) gs (journals_of c)
 
-abbrev pub EachCounts : Setting → List Asked → Cell → Type 0
-EachCounts s asked c = (line : ℕ) (gs : List ℕ) → fronts_of line c.fronts ≡ Some gs → CountsAt s asked c line gs
+abbrev pub EachCounts : Setting → (ℕ → ℕ → List Deed) → Cell → Type 0
+EachCounts s before c = (line : ℕ) (gs : List ℕ) → fronts_of line c.fronts ≡ Some gs → CountsAt s before c line gs
 
 -- that holds of each search among the lines that were dealt with
 pub record CountOnce (s : Setting) (types : Types) (text : Option (List ℕ)) (c : Cell) : Type 0 where
   pub asked : List Asked
   pub were_asked : WereAsked types s.bits text c.dealt asked
-  pub each : EachCounts s asked c
+  pub each : EachCounts s (deeds_before s asked c) c

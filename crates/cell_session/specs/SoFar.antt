@@ -15,6 +15,7 @@ use Rattle.session_cluster.specs.Cells.{Cell}
 use Rattle.cell_session.specs.Ends.{IfTold, AreFirst}
 use Rattle.session_cluster.specs.Keeping.{IsKept}
 use Rattle.session_cluster.specs.Output.{output_of}
+use Rattle.cell_session.specs.Operations.{deeds_before}
 use Rattle.cell_session.specs.Orders.{GoInOrder}
 use Rattle.cell_session.specs.Searches.{AreRead}
 use Rattle.cell_session.specs.Upkeep.{AreUpkept}
@@ -48,7 +49,7 @@ pub record IsSoFar (s : Setting) (types : Types) (plans : ℕ → List Fate) (te
   pub few_maintains : counts.maintains ≤ most_maintains
   pub kept : IsKept s plans commands c
   pub output : Appends before now (output_of s commands c)
-  pub upkept : AreUpkept status.Done s commands c
+  pub upkept : AreUpkept status.Done s (deeds_before s commands c) commands c
   pub gone : GoInOrder s c
-  pub read : AreRead s commands c
+  pub read : AreRead s (deeds_before s commands c) commands c
   pub told : IfTold text (IsBehind types s.bits reader left commands)

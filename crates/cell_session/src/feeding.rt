@@ -15,9 +15,10 @@ ghost use Rattle.session_settings.specs.Choices.{ChoosesFed, AreWrongFed};
 ghost use Rattle.session_settings.specs.declared.choice.Choice.{Choice};
 ghost use Rattle.cell_session.specs.Ends.{IfTold, OfFirst, HasLanes, PassesLimit, UsageEnd};
 ghost use Rattle.cell_session.specs.FedDealing.{EndsFedAs};
-ghost use Rattle.cell_session.specs.FedEnds.{StopsFed, WritesFed};
-ghost use Rattle.cell_session.specs.FedLines.{HaveFedLines};
+ghost use Rattle.cell_session.specs.FedEnds.{OfParts, StopsFed, WritesFed};
+ghost use Rattle.cell_session.specs.FedLines.{HaveFedLines, CountOnceFed};
 ghost use Rattle.cell_session.specs.LanePromises.{AreComplete, AreDurable, AreShownRight};
+ghost use Rattle.cell_session.specs.Orders.{GoInOrder};
 ghost use Rattle.cell_session.specs.SoFar.{IsUnserved, first_reading};
 
 use crate::answering::answer_line;
@@ -30,10 +31,13 @@ use crate::segment_answering::answer_segment;
 use crate::status::Status;
 use carriers::{Carrier, Carriers};
 use io_ends::{LimitKind, LineReader, Sink, Source};
+use journal_views::laws::{
+    answers_are_of_what_is_read, fronts_count_once, journals_are_read, journals_are_shown,
+};
 use lane_lives::Setting;
 use lane_promises::laws::{
     deeds_come_in_order, hearings_follow_deeds, lanes_are_complete, lanes_are_durable,
-    lines_are_refused_with_cause, lines_fall_short_with_cause,
+    lines_are_refused_with_cause, lines_fall_short_with_cause, rested_lanes_stay_covered,
 };
 use line_feeders::Gate;
 use line_values::ValueReader;
@@ -76,17 +80,25 @@ where
         → AreComplete c.setting cluster.new.lanes }
 
     // the lines: which were dealt with; what they did, a segment at a time, in which order, who heard which state, what became
-    // of messages, and why lines were refused or lacked answers; and the bytes that answer them
+    // of messages, why lines were refused or lacked answers, how upkeep went, that its passes went on in their order whatever
+    // was lost, and that searches behind rest are full; and the bytes that answer them
     ensures dealt_with { (c : Choice) → ChoosesFed (map string_bytes words.now) c
-        → IfTold (S.left source.old) (λ text. OfFirst c.setting.schema c.setting.bits text cluster.new.dealt
+        → IfTold (S.left source.old) (λ text. OfParts c.setting.schema c.setting.bits text cluster.new.dealt
         (StopsFed result c.setting.schema c.setting.bits text (S.left source.new))) }
     ensures lines { (c : Choice) → ChoosesFed (map string_bytes words.now) c
         → HaveFedLines result c.setting c.setting.schema c.feeders (C.plans carriers.old) (S.left source.old)
-        cluster.new }
+        cluster.new (K.written sink.old) (K.written sink.new) }
+    ensures passes_in_order { (c : Choice) → ChoosesFed (map string_bytes words.now) c
+        → GoInOrder c.setting cluster.new }
     ensures bytes_written { (c : Choice) → ChoosesFed (map string_bytes words.now) c
-        → IfTold (S.left source.old) (λ text. OfFirst c.setting.schema c.setting.bits text cluster.new.dealt
-        (λ commands. WritesFed result c.setting commands cluster.new
+        → IfTold (S.left source.old) (λ text. OfParts c.setting.schema c.setting.bits text cluster.new.dealt
+        (λ parts. WritesFed result c.setting parts cluster.new
         (K.written sink.old) (K.written sink.new))) }
+
+    // the searches: each counts a document once at most, and at full coverage as an operation left it that is no older
+    // than what was acknowledged before, where it read, which is behind its segment
+    ensures searches { (c : Choice) → ChoosesFed (map string_bytes words.now) c
+        → CountOnceFed result c.setting c.setting.schema c.feeders (S.left source.old) cluster.new }
 
     // words that choose no such session: the one usage line is written, nothing is read, and the cluster is as it was
     ensures wrong_words { AreWrongFed (map string_bytes words.now)
@@ -114,6 +126,11 @@ where
     lines_are_refused_with_cause();
     lines_fall_short_with_cause();
     deeds_come_in_order();
+    rested_lanes_stay_covered();
+    journals_are_read();
+    journals_are_shown();
+    fronts_count_once();
+    answers_are_of_what_is_read();
     match choose_fed(alloc, words) {
         Ok(choice) => feed_session(
             rt,

@@ -82,7 +82,8 @@ pub fn run_one<S: Source, K: Sink, C: Carriers>(
         (λ commands. Writes result c.setting commands cluster.new
         (K.written sink.old) (K.written sink.new))) }
 
-    // after a fault of the sink the source is called no more: its last call gave the end of the line that was dealt with
+    // after a fault of the sink the source is called no more: its last call gave the line feed of the line that was dealt
+    // with; where a last line has none, one call more, which gave nothing, may have come behind it
     ensures nothing_more { (c : Choice) → ChoosesAlone (map string_bytes words.now) c → result ≡ Status.WriteFault
         → ReadsNoMore (S.left source.old) (S.left source.new) (S.gave source.new) cluster.new.dealt }
 

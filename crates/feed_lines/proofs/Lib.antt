@@ -1,3 +1,4 @@
+mod Rising
 mod SetLaws
 mod TextLaws
 mod LineTests

@@ -1,8 +1,8 @@
 ghost use Rattle.std.specs.Prelude.{◌≡◌};
-ghost use Rattle.serde_json.specs.View.{members_view};
+ghost use Rattle.line_values.specs.View.{members_view};
 ghost use Rattle.feed_lines.specs.Keys.{other_verb, verb_named, only_verb, stands_beside_fields, may_stand_with, may_stand, all_stand, is_net_key, are_net_keys, name_of};
 
-use serde_json::{Map, Value};
+use line_values::LineValue;
 
 /// What is done with a document.
 #[derive(Clone, Copy, PartialEq, Eq)]
@@ -69,12 +69,12 @@ fn verb_named(key: &str) -> Option<LineVerb>
 }
 
 /// The one verb among the keys of an object that has exactly one.
-pub fn only_verb(members: &Map<String, Value>) -> Option<LineVerb>
-    ensures { result ≡ only_verb (members_view members.now.entries) }
+pub fn only_verb(members: &[(&str, LineValue<'_>)]) -> Option<LineVerb>
+    ensures { result ≡ only_verb (members_view members.now) }
 {
     let mut found: Option<LineVerb> = None;
-    for (key, _value) in members {
-        if let Some(verb) = verb_named(key.as_str()) {
+    for member in members {
+        if let Some(verb) = verb_named(member.0) {
             if found.is_some() {
                 return None;
             }
@@ -134,11 +134,11 @@ fn may_stand(verb: LineVerb, key: &str) -> bool
 }
 
 /// Whether all keys may stand in a line of a verb.
-pub fn all_stand(verb: LineVerb, members: &Map<String, Value>) -> bool
-    ensures { result ≡ all_stand verb (members_view members.now.entries) }
+pub fn all_stand(verb: LineVerb, members: &[(&str, LineValue<'_>)]) -> bool
+    ensures { result ≡ all_stand verb (members_view members.now) }
 {
-    for (key, _value) in members {
-        if !may_stand(verb, key.as_str()) {
+    for member in members {
+        if !may_stand(verb, member.0) {
             return false;
         }
     }
@@ -154,11 +154,11 @@ fn is_net_key(key: &str) -> bool
 }
 
 /// Whether all keys may stand in the object of `net`.
-pub fn are_net_keys(members: &Map<String, Value>) -> bool
-    ensures { result ≡ are_net_keys (members_view members.now.entries) }
+pub fn are_net_keys(members: &[(&str, LineValue<'_>)]) -> bool
+    ensures { result ≡ are_net_keys (members_view members.now) }
 {
-    for (key, _value) in members {
-        if !is_net_key(key.as_str()) {
+    for member in members {
+        if !is_net_key(member.0) {
             return false;
         }
     }

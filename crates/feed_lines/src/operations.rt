@@ -1,5 +1,6 @@
-ghost use Rattle.std.specs.Prelude.{◌≡◌, true, Ok, Err, Some, option_map, if◌then◌else◌};
-ghost use Rattle.serde_json.specs.View.{view};
+ghost use Rattle.std.specs.Prelude.{◌≡◌, IfSome, true, Ok, Err, Some, option_map, if◌then◌else◌};
+ghost use Rattle.line_values.specs.Order.{keys_rise, HasRising};
+ghost use Rattle.line_values.specs.View.{view};
 ghost use Rattle.json_documents.specs.Schemas.{is_object};
 ghost use Rattle.feed_lines.specs.Meaning.{kind_said, id_said, feed_said, Gives, cause_of};
 ghost use Rattle.feed_lines.specs.Tests.{has_type, beside_of};
@@ -13,9 +14,9 @@ use crate::shape::id_in;
 use doc_types::Schema;
 use document_ids::DocId;
 use documents::DocumentFault;
-use json_documents::{document_from_json, update_from_json};
+use json_documents::{document_from_line, update_from_line};
+use line_values::LineValue;
 use messages::{OpKind, Operation};
-use serde_json::Value;
 use std::alloc::Global;
 use value_lists::TryCopy;
 
@@ -48,13 +49,14 @@ fn no_object(id: &DocId, schema: &Schema) -> Cause
 fn put_object(
     alloc: Global,
     id: &DocId,
-    fields: &Value,
+    fields: &LineValue<'_>,
     schema: &Schema,
 ) -> Result<OpKind, LineFault>
-    requires { is_object (view fields.now) ≡ true }
+    requires object { is_object (view fields.now) ≡ true }
+    requires rising { keys_rise (view fields.now) ≡ true }
     ensures { Gives result (kind_said schema.now verb.Put id.now (Some (view fields.now))) }
 {
-    match document_from_json(alloc, id.copy(alloc)?, fields, schema) {
+    match document_from_line(alloc, id.copy(alloc)?, fields, schema) {
         Ok(document) => Ok(OpKind::Put(document)),
         Err(fault) => Err(cause_of(fault)),
     }
@@ -64,13 +66,14 @@ fn put_object(
 fn update_object(
     alloc: Global,
     id: &DocId,
-    fields: &Value,
+    fields: &LineValue<'_>,
     schema: &Schema,
 ) -> Result<OpKind, LineFault>
-    requires { is_object (view fields.now) ≡ true }
+    requires object { is_object (view fields.now) ≡ true }
+    requires rising { keys_rise (view fields.now) ≡ true }
     ensures { Gives result (kind_said schema.now verb.Update id.now (Some (view fields.now))) }
 {
-    match update_from_json(alloc, id, fields, schema) {
+    match update_from_line(alloc, id, fields, schema) {
         Ok(update) => Ok(OpKind::Update(update)),
         Err(fault) => Err(cause_of(fault)),
     }
@@ -80,9 +83,10 @@ fn update_object(
 fn put_value(
     alloc: Global,
     id: &DocId,
-    fields: &Value,
+    fields: &LineValue<'_>,
     schema: &Schema,
 ) -> Result<OpKind, LineFault>
+    requires { keys_rise (view fields.now) ≡ true }
     ensures { Gives result (kind_said schema.now verb.Put id.now (Some (view fields.now))) }
 {
     if !fields.is_object() {
@@ -95,9 +99,10 @@ fn put_value(
 fn update_value(
     alloc: Global,
     id: &DocId,
-    fields: &Value,
+    fields: &LineValue<'_>,
     schema: &Schema,
 ) -> Result<OpKind, LineFault>
+    requires { keys_rise (view fields.now) ≡ true }
     ensures { Gives result (kind_said schema.now verb.Update id.now (Some (view fields.now))) }
 {
     if !fields.is_object() {
@@ -110,9 +115,10 @@ fn update_value(
 fn put_kind(
     alloc: Global,
     id: &DocId,
-    fields: Option<&Value>,
+    fields: Option<&LineValue<'_>>,
     schema: &Schema,
 ) -> Result<OpKind, LineFault>
+    requires { IfSome fields (λ v. keys_rise (view v.now) ≡ true) }
     ensures { Gives result (kind_said schema.now verb.Put id.now (option_map (λ v. view v.now) fields.entry)) }
 {
     match fields {
@@ -125,9 +131,10 @@ fn put_kind(
 fn update_kind(
     alloc: Global,
     id: &DocId,
-    fields: Option<&Value>,
+    fields: Option<&LineValue<'_>>,
     schema: &Schema,
 ) -> Result<OpKind, LineFault>
+    requires { IfSome fields (λ v. keys_rise (view v.now) ≡ true) }
     ensures { Gives result (kind_said schema.now verb.Update id.now (option_map (λ v. view v.now) fields.entry)) }
 {
     match fields {
@@ -151,9 +158,10 @@ fn kind_said(
     alloc: Global,
     verb: Verb,
     id: &DocId,
-    fields: Option<&Value>,
+    fields: Option<&LineValue<'_>>,
     schema: &Schema,
 ) -> Result<OpKind, LineFault>
+    requires { IfSome fields (λ v. keys_rise (view v.now) ≡ true) }
     ensures { Gives result (kind_said schema.now verb id.now (option_map (λ v. view v.now) fields.entry)) }
 {
     match verb {
@@ -170,9 +178,10 @@ fn id_command(
     alloc: Global,
     verb: Verb,
     id: DocId,
-    line: &Value,
+    line: &LineValue<'_>,
     schema: &Schema,
 ) -> Result<Command, LineFault>
+    requires { HasRising (view line.now) }
     ensures { Gives result (id_said schema.now verb id (beside_of (view line.now))) }
 {
     let condition = line.get("condition");
@@ -205,9 +214,10 @@ fn id_command(
 pub fn feed_command(
     alloc: Global,
     verb: Verb,
-    line: &Value,
+    line: &LineValue<'_>,
     schema: &Schema,
 ) -> Result<Command, LineFault>
+    requires { HasRising (view line.now) }
     ensures { Gives result (feed_said schema.now verb (view line.now)) }
 {
     match id_in(alloc, verb, line)? {

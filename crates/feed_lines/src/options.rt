@@ -1,6 +1,6 @@
 ghost use Rattle.std.specs.Prelude.{◌≡◌, ◌&&◌, Some, option_map};
 ghost use Rattle.serde_json.specs.Find.{as_bool, as_str};
-ghost use Rattle.serde_json.specs.View.{view};
+ghost use Rattle.line_values.specs.View.{view};
 ghost use Rattle.feed_lines.specs.Meaning.{create_in, via_in, text_condition, condition_said, before_size, cause_by, fault_by, Gives};
 ghost use Rattle.feed_lines.specs.declared.command.LineFault.TheVariants as line_fault;
 ghost use Rattle.feed_lines.specs.Tests.{or_false, is_text_if, is_truth_if, is_node_if};
@@ -9,7 +9,7 @@ use crate::command::{Cause, LineFault};
 use crate::values::node_of;
 use doc_selection::{Selection, SelectionFault};
 use doc_types::Schema;
-use serde_json::Value;
+use line_values::LineValue;
 use std::alloc::Global;
 
 /// A bad line of this cause.
@@ -20,7 +20,7 @@ pub fn bad(cause: Cause) -> LineFault
 }
 
 /// Whether a value is a text, if it is there.
-fn is_text_if(value: Option<&Value>) -> bool
+fn is_text_if(value: Option<&LineValue<'_>>) -> bool
     ensures { result ≡ is_text_if (option_map (λ v. view v.now) value.entry) }
 {
     match value {
@@ -30,7 +30,7 @@ fn is_text_if(value: Option<&Value>) -> bool
 }
 
 /// Whether a value is a truth value, if it is there.
-fn is_truth_if(value: Option<&Value>) -> bool
+fn is_truth_if(value: Option<&LineValue<'_>>) -> bool
     ensures { result ≡ is_truth_if (option_map (λ v. view v.now) value.entry) }
 {
     match value {
@@ -40,7 +40,7 @@ fn is_truth_if(value: Option<&Value>) -> bool
 }
 
 /// Whether a value is the number of a distributor, if it is there.
-fn is_node_if(value: Option<&Value>) -> bool
+fn is_node_if(value: Option<&LineValue<'_>>) -> bool
     ensures { result ≡ is_node_if (option_map (λ v. view v.now) value.entry) }
 {
     match value {
@@ -51,7 +51,11 @@ fn is_node_if(value: Option<&Value>) -> bool
 
 /// Whether what `condition`, `create` and `via` say is a text, a truth value and the number of a distributor,
 /// where they are there.
-pub fn are_options(condition: Option<&Value>, create: Option<&Value>, via: Option<&Value>) -> bool
+pub fn are_options<'a>(
+    condition: Option<&LineValue<'a>>,
+    create: Option<&LineValue<'a>>,
+    via: Option<&LineValue<'a>>,
+) -> bool
     ensures { result ≡ (is_text_if (option_map (λ v. view v.now) condition.entry)
         && is_truth_if (option_map (λ v. view v.now) create.entry)
         && is_node_if (option_map (λ v. view v.now) via.entry)) }
@@ -60,7 +64,7 @@ pub fn are_options(condition: Option<&Value>, create: Option<&Value>, via: Optio
 }
 
 /// The distributor that `via` names; none where it isn't there.
-pub fn via_in(value: Option<&Value>) -> Option<u8>
+pub fn via_in(value: Option<&LineValue<'_>>) -> Option<u8>
     ensures { result ≡ via_in (option_map (λ v. view v.now) value.entry) }
 {
     match value {
@@ -70,7 +74,7 @@ pub fn via_in(value: Option<&Value>) -> Option<u8>
 }
 
 /// What `create` says; it is false where it isn't there.
-pub fn create_in(value: Option<&Value>) -> bool
+pub fn create_in(value: Option<&LineValue<'_>>) -> bool
     ensures { result ≡ create_in (option_map (λ v. view v.now) value.entry) }
 {
     match value {
@@ -109,7 +113,7 @@ fn text_condition(
 /// The condition that a value says, if it is there.
 pub fn condition_said(
     alloc: Global,
-    value: Option<&Value>,
+    value: Option<&LineValue<'_>>,
     schema: &Schema,
 ) -> Result<Option<Selection>, LineFault>
     ensures { Gives result (condition_said schema.now (option_map (λ v. view v.now) value.entry)) }

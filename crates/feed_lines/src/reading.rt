@@ -1,7 +1,8 @@
 ghost use Rattle.std.specs.Prelude.{◌≡◌, Some};
 ghost use Rattle.std.specs.List.{list_all};
 ghost use Rattle.serde_json.specs.Read.{read};
-ghost use Rattle.serde_json.specs.View.{view};
+ghost use Rattle.line_values.specs.Order.{HasRising};
+ghost use Rattle.line_values.specs.View.{view};
 ghost use Rattle.feed_lines.specs.Meaning.{is_blank, is_blank_line, own_said, verb_said, data_said, json_said, text_said, line_said, Gives};
 
 use crate::command::{Cause, Command, LineFault};
@@ -14,8 +15,7 @@ use crate::settings::{
 use crate::shape::{has_right_keys, verb_of};
 use doc_types::Schema;
 use io_ends::LONGEST;
-use line_values::{ReadFault, ValueReader};
-use serde_json::Value;
+use line_values::{LineValue, ReadFault, ValueReader};
 use simdutf8::basic::from_utf8;
 use std::alloc::Global;
 
@@ -42,10 +42,11 @@ fn is_blank_line(bytes: &[u8]) -> bool
 fn own_command(
     alloc: Global,
     verb: LineVerb,
-    line: &Value,
+    line: &LineValue<'_>,
     schema: &Schema,
     bits: u8,
 ) -> Result<Command, LineFault>
+    requires { HasRising (view line.now) }
     ensures { Gives result (own_said schema.now bits verb (view line.now)) }
 {
     match verb {
@@ -64,10 +65,11 @@ fn own_command(
 fn verb_command(
     alloc: Global,
     verb: LineVerb,
-    line: &Value,
+    line: &LineValue<'_>,
     schema: &Schema,
     bits: u8,
 ) -> Result<Command, LineFault>
+    requires { HasRising (view line.now) }
     ensures { Gives result (verb_said schema.now bits (view line.now) (Some verb)) }
 {
     if !has_right_keys(verb, line) {
@@ -79,10 +81,11 @@ fn verb_command(
 /// What a JSON value asks for.
 fn data_command(
     alloc: Global,
-    line: &Value,
+    line: &LineValue<'_>,
     schema: &Schema,
     bits: u8,
 ) -> Result<Command, LineFault>
+    requires { HasRising (view line.now) }
     ensures { Gives result (data_said schema.now bits (view line.now)) }
 {
     match verb_of(line) {

@@ -1,5 +1,5 @@
 ghost use Rattle.std.specs.Prelude.{◌≡◌, codes, IfOk};
-ghost use Rattle.serde_json.specs.View.{view};
+ghost use Rattle.line_values.specs.View.{view};
 ghost use Rattle.feed_lines.specs.Meaning.{search_said, state_said, stop_said, start_said, net_said, bare_said, Gives};
 ghost use Rattle.feed_lines.specs.Tests.{search_in, state_in, deaf_in, node_in, lane_in, fates_in, is_true_in};
 
@@ -8,12 +8,12 @@ use crate::options::{bad, or_false};
 use crate::shape::{in_net, text_at};
 use crate::values::{fates_of, lane_of, node_of, set_said};
 use carriers::FateList;
-use serde_json::Value;
+use line_values::LineValue;
 use std::alloc::Global;
 use value_lists::{NoMemory, TextValue};
 
 /// The text whose query a line asks.
-pub fn search_command(alloc: Global, line: &Value) -> Result<Command, LineFault>
+pub fn search_command(alloc: Global, line: &LineValue<'_>) -> Result<Command, LineFault>
     ensures { Gives result (search_said (search_in (view line.now))) }
 {
     match text_at("search", line) {
@@ -25,7 +25,7 @@ pub fn search_command(alloc: Global, line: &Value) -> Result<Command, LineFault>
 }
 
 /// The state that a line publishes.
-pub fn state_command(alloc: Global, line: &Value) -> Result<Command, LineFault>
+pub fn state_command(alloc: Global, line: &LineValue<'_>) -> Result<Command, LineFault>
     ensures { Gives result (state_said (state_in (view line.now)) (deaf_in (view line.now))) }
 {
     let Some(text) = text_at("state", line) else {
@@ -39,7 +39,7 @@ pub fn state_command(alloc: Global, line: &Value) -> Result<Command, LineFault>
 }
 
 /// The node whose number is the value of a verb.
-fn node_in(key: &str, line: &Value) -> Option<u8>
+fn node_in(key: &str, line: &LineValue<'_>) -> Option<u8>
     ensures { result ≡ node_in key.now (view line.now) }
 {
     match line.get(key) {
@@ -49,7 +49,7 @@ fn node_in(key: &str, line: &Value) -> Option<u8>
 }
 
 /// The node that a line stops.
-pub fn stop_command(line: &Value) -> Result<Command, LineFault>
+pub fn stop_command(line: &LineValue<'_>) -> Result<Command, LineFault>
     ensures { Gives result (stop_said (node_in (codes "stop") (view line.now))) }
 {
     match node_in("stop", line) {
@@ -59,7 +59,7 @@ pub fn stop_command(line: &Value) -> Result<Command, LineFault>
 }
 
 /// The node that a line starts.
-pub fn start_command(line: &Value) -> Result<Command, LineFault>
+pub fn start_command(line: &LineValue<'_>) -> Result<Command, LineFault>
     ensures { Gives result (start_said (node_in (codes "start") (view line.now))) }
 {
     match node_in("start", line) {
@@ -69,7 +69,7 @@ pub fn start_command(line: &Value) -> Result<Command, LineFault>
 }
 
 /// The lane that a line plans messages for.
-fn lane_in(bits: u8, line: &Value) -> Option<u8>
+fn lane_in(bits: u8, line: &LineValue<'_>) -> Option<u8>
     ensures { result ≡ lane_in bits (view line.now) }
 {
     match in_net("lane", line.get("net")) {
@@ -79,7 +79,7 @@ fn lane_in(bits: u8, line: &Value) -> Option<u8>
 }
 
 /// The fates that a line plans.
-fn fates_in(alloc: Global, line: &Value) -> Result<Option<FateList>, NoMemory>
+fn fates_in(alloc: Global, line: &LineValue<'_>) -> Result<Option<FateList>, NoMemory>
     ensures { IfOk result (λ fates. fates ≡ fates_in (view line.now)) }
 {
     match in_net("fates", line.get("net")) {
@@ -89,7 +89,7 @@ fn fates_in(alloc: Global, line: &Value) -> Result<Option<FateList>, NoMemory>
 }
 
 /// What a line plans for the messages of a lane.
-pub fn net_command(alloc: Global, line: &Value, bits: u8) -> Result<Command, LineFault>
+pub fn net_command(alloc: Global, line: &LineValue<'_>, bits: u8) -> Result<Command, LineFault>
     ensures { Gives result (net_said (lane_in bits (view line.now)) (fates_in (view line.now))) }
 {
     let Some(lane) = lane_in(bits, line) else {
@@ -102,7 +102,7 @@ pub fn net_command(alloc: Global, line: &Value, bits: u8) -> Result<Command, Lin
 }
 
 /// Whether the value of a verb is the truth value true.
-fn is_true_in(key: &str, line: &Value) -> bool
+fn is_true_in(key: &str, line: &LineValue<'_>) -> bool
     ensures { result ≡ is_true_in key.now (view line.now) }
 {
     match line.get(key) {
@@ -112,7 +112,7 @@ fn is_true_in(key: &str, line: &Value) -> bool
 }
 
 /// What a line asks for whose verb has the value true, and nothing else.
-pub fn bare_command(key: &str, asked: Command, line: &Value) -> Result<Command, LineFault>
+pub fn bare_command(key: &str, asked: Command, line: &LineValue<'_>) -> Result<Command, LineFault>
     ensures { Gives result (bare_said asked (is_true_in key.now (view line.now))) }
 {
     if is_true_in(key, line) {

@@ -1,14 +1,14 @@
 ghost use Rattle.std.specs.Prelude.{◌≡◌, ◌==◌, ◌<◌, ◌≤◌, ◌^◌, ℕ, Some, codes, IfOk, IfSome, option_map, option_and_then};
 ghost use Rattle.serde_json.specs.Events.{items_len, members_len};
 ghost use Rattle.serde_json.specs.Find.{as_array, as_object, get};
-ghost use Rattle.serde_json.specs.View.{view, items_view, members_view};
+ghost use Rattle.line_values.specs.View.{view, items_view, members_view};
 ghost use Rattle.json_documents.specs.Schemas.{members_in};
 ghost use Rattle.json_documents.specs.Json.{each};
 ghost use Rattle.feed_lines.specs.Values.{below, number_below, node_of, lane_end, lane_of, set_with, set_of, nodes_of, set_said, late_by, late_of, fate_named, fate_of, few_fates, fates_of};
 
 use carriers::{Fate, FateList};
+use line_values::LineValue;
 use node_sets::NodeSet;
-use serde_json::{Map, Value};
 use std::alloc::Global;
 use value_lists::NoMemory;
 
@@ -34,7 +34,7 @@ fn below(end: u32, number: Option<i64>) -> Option<u32>
 }
 
 /// The whole number from 0 on that a value is, below an end.
-fn number_below(end: u32, value: &Value) -> Option<u32>
+fn number_below(end: u32, value: &LineValue<'_>) -> Option<u32>
     requires { end < 2 ^ 31 }
     ensures value { result ≡ number_below end (view value.now) }
     ensures small { IfSome result (λ n. n < end) }
@@ -43,7 +43,7 @@ fn number_below(end: u32, value: &Value) -> Option<u32>
 }
 
 /// The number of a node or a distributor that a value is.
-pub fn node_of(value: &Value) -> Option<u8>
+pub fn node_of(value: &LineValue<'_>) -> Option<u8>
     ensures value { result ≡ node_of (view value.now) }
     ensures small { IfSome result (λ n. n < 32) }
 {
@@ -62,7 +62,7 @@ fn lane_end(bits: u8) -> u32
 }
 
 /// The number of a lane that a value is.
-pub fn lane_of(bits: u8, value: &Value) -> Option<u8>
+pub fn lane_of(bits: u8, value: &LineValue<'_>) -> Option<u8>
     ensures { result ≡ lane_of bits (view value.now) }
 {
     match number_below(lane_end(bits), value) {
@@ -80,7 +80,7 @@ fn set_with(bits: u32, node: u8) -> u32
 }
 
 /// The set of the numbers that items are, by its bits; none where an item is no number of a node.
-fn set_of(items: &[Value]) -> Option<u32>
+fn set_of(items: &[LineValue<'_>]) -> Option<u32>
     ensures { result ≡ option_map set_of (each node_of (items_view items.now)) }
 {
     let mut bits = 0;
@@ -94,7 +94,7 @@ fn set_of(items: &[Value]) -> Option<u32>
 }
 
 /// The set that a list says, by its bits.
-fn set_in(value: &Value) -> Option<u32>
+fn set_in(value: &LineValue<'_>) -> Option<u32>
     ensures { result ≡ option_map set_of (nodes_of (view value.now)) }
 {
     match value.as_array() {
@@ -104,7 +104,7 @@ fn set_in(value: &Value) -> Option<u32>
 }
 
 /// The set that a list says, which may be left out; none where a value is no such list.
-pub fn set_said(value: Option<&Value>) -> Option<NodeSet>
+pub fn set_said(value: Option<&LineValue<'_>>) -> Option<NodeSet>
     ensures { result ≡ set_said (option_map (λ v. view v.now) value.entry) }
 {
     match value {
@@ -128,14 +128,14 @@ fn late_by(count: Option<u32>) -> Option<Fate>
 }
 
 /// How many members an object has.
-fn size_of(members: &Map<String, Value>) -> usize
-    ensures { result ≡ members_len (members_view members.now.entries) }
+fn size_of(members: &[(&str, LineValue<'_>)]) -> usize
+    ensures { result ≡ members_len (members_view members.now) }
 {
     members.len()
 }
 
 /// The same; another value has none.
-fn count_members(value: &Value) -> usize
+fn count_members(value: &LineValue<'_>) -> usize
     ensures { result ≡ members_len (members_in (as_object (view value.now))) }
 {
     match value.as_object() {
@@ -145,7 +145,7 @@ fn count_members(value: &Value) -> usize
 }
 
 /// What `late` says of an object that has it.
-fn late_number(value: &Value) -> Option<u32>
+fn late_number(value: &LineValue<'_>) -> Option<u32>
     ensures { result ≡ option_and_then (number_below 1001) (get (codes "late") (view value.now)) }
 {
     match value.get("late") {
@@ -155,7 +155,7 @@ fn late_number(value: &Value) -> Option<u32>
 }
 
 /// The fate that an object says.
-fn late_of(value: &Value) -> Option<Fate>
+fn late_of(value: &LineValue<'_>) -> Option<Fate>
     ensures { result ≡ late_of (view value.now) }
 {
     if count_members(value) != 1 {
@@ -183,7 +183,7 @@ fn fate_named(word: &str) -> Option<Fate>
 }
 
 /// The fate that a value says.
-fn fate_of(value: &Value) -> Option<Fate>
+fn fate_of(value: &LineValue<'_>) -> Option<Fate>
     ensures { result ≡ fate_of (view value.now) }
 {
     match value.as_str() {
@@ -193,7 +193,7 @@ fn fate_of(value: &Value) -> Option<Fate>
 }
 
 /// The fates that items say; none where an item says none.
-fn each_fate(alloc: Global, items: &[Value]) -> Result<Option<FateList>, NoMemory>
+fn each_fate(alloc: Global, items: &[LineValue<'_>]) -> Result<Option<FateList>, NoMemory>
     ensures { IfOk result (λ fates. fates ≡ each fate_of (items_view items.now)) }
 {
     let mut list = Vec::new(alloc);
@@ -207,14 +207,14 @@ fn each_fate(alloc: Global, items: &[Value]) -> Result<Option<FateList>, NoMemor
 }
 
 /// How many items there are.
-fn count_items(items: &[Value]) -> usize
+fn count_items(items: &[LineValue<'_>]) -> usize
     ensures { result ≡ items_len (items_view items.now) }
 {
     items.len()
 }
 
 /// The fates of a list of at most 1,000.
-fn few_fates(alloc: Global, items: &[Value]) -> Result<Option<FateList>, NoMemory>
+fn few_fates(alloc: Global, items: &[LineValue<'_>]) -> Result<Option<FateList>, NoMemory>
     ensures { IfOk result (λ fates. fates ≡ few_fates (items_view items.now)) }
 {
     if count_items(items) > MOST_FATES as usize {
@@ -224,7 +224,7 @@ fn few_fates(alloc: Global, items: &[Value]) -> Result<Option<FateList>, NoMemor
 }
 
 /// The fates that a value says; none where it is no list of at most 1,000 fates.
-pub fn fates_of(alloc: Global, value: &Value) -> Result<Option<FateList>, NoMemory>
+pub fn fates_of(alloc: Global, value: &LineValue<'_>) -> Result<Option<FateList>, NoMemory>
     ensures { IfOk result (λ fates. fates ≡ fates_of (view value.now)) }
 {
     match value.as_array() {

@@ -17,8 +17,8 @@ use Rattle.lane_lives.specs.Serving.{IsServing}
 use Rattle.lane_core.proofs.Served.{serving_fresh, serving_newest}
 use Rattle.lane_core.proofs.Places.{get-push-cases}
 use Rattle.lane_locks.specs.Lines.{Listed, IsAbove}
-use Rattle.segment_locks.specs.Lanes.{EachAt}
-use Rattle.segment_locks.specs.Runs.{MayRun}
+use Rattle.lane_locks.specs.Lanes.{EachAt}
+use Rattle.lane_locks.specs.Runs.{MayRun}
 use Rattle.feeder_tables.specs.Lines.{IsOf, AreOf}
 
 some_there : {A : Type 0} (o : Option A) (x : A) → o ≡ Some x → IsSome o

@@ -2,17 +2,17 @@
 
 ghost use Rattle.std.specs.Prelude.{◌≡◌, ◌^◌, ◌<◌, length, IfOk};
 ghost use Rattle.lane_lives.specs.Settings.{IsSetting};
-ghost use Rattle.segment_locks.specs.Lanes.{EachAt};
-ghost use Rattle.segment_locks.specs.Runs.{MayRun};
+ghost use Rattle.lane_locks.specs.Lanes.{EachAt};
+ghost use Rattle.lane_locks.specs.Runs.{MayRun};
 
 use crate::hold::Hold;
 use crate::lines::{feeders_of, list_of};
 use carriers::{PerfectCarrier, PerfectCarriers};
 use lane_core::open_lane;
 use lane_lives::Setting;
+use lane_locks::{FedLane, ReadyLane, run_segment};
 use lane_views::LaneView;
 use node_rows::SharedSchema;
-use segment_locks::{FedLane, ReadyLane, run_segment};
 use shelves::PlainShelf;
 use std::alloc::Global;
 use std::sync::Wait;

@@ -3,11 +3,11 @@ use Rattle.std.proofs.Common.{◌≡◌, ℕ, suc, ◌+◌, ◌<◌, ◌≤◌, 
 use Rattle.std.proofs.Math.Seq.{take-suc}
 use Rattle.std.proofs.lemmas.List.{append-nil, append_assoc, map-append, drop_all}
 use Rattle.serde_json.specs.Data.{Data}
-use Rattle.serde_json.specs.View.{view, items_view}
-use Rattle.serde_json.specs.declared.value.Value.{Value}
+use Rattle.line_values.specs.View.{view, items_view}
+use Rattle.line_values.specs.declared.line_value.LineValue.{LineValue}
 use Rattle.json_documents.specs.Json.{onto, each}
 
-module _ {X : Type 0} (read : Data → Option X) (all : List Value) where
+module _ {X : Type 0} (read : Data → Option X) (all : List LineValue) where
   -- what was found before a place, and what the items from there on say
   abbrev pub from_place : List X → ℕ → Option (List X)
   from_place found i = option_map (λ rest. found ++ rest) (each read (items_view (drop i all)))
@@ -16,18 +16,18 @@ module _ {X : Type 0} (read : Data → Option X) (all : List Value) where
   behind found x None = refl
   behind found x (Some xs) = ap Some (sym (append_assoc found (x ∷ []) xs))
 
-  turn : (found : List X) (i : ℕ) (v : Value) (o : Option X) → i < length all → read (view (get_or all i v)) ≡ o
+  turn : (found : List X) (i : ℕ) (v : LineValue) (o : Option X) → i < length all → read (view (get_or all i v)) ≡ o
       → from_place found i ≡ option_map (λ xs. found ++ xs) (onto o (each read (items_view (drop (suc i) all))))
   turn found i v o lt said =
       ap (λ l. option_map (λ xs. found ++ xs) (each read (items_view l))) (drop-cons all i v lt)
       ∙ ap (λ o. option_map (λ xs. found ++ xs) (onto o (each read (items_view (drop (suc i) all))))) said
 
-  pub one_more : (found : List X) (i : ℕ) (v : Value) (x : X) → i < length all → read (view (get_or all i v)) ≡ Some x
+  pub one_more : (found : List X) (i : ℕ) (v : LineValue) (x : X) → i < length all → read (view (get_or all i v)) ≡ Some x
       → from_place found i ≡ each read (items_view all) → from_place (found ++ x ∷ []) (i + 1) ≡ each read (items_view all)
   one_more found i v x lt said so =
       ap (from_place (found ++ x ∷ [])) (add-one i) ∙ sym (behind found x (each read (items_view (drop (suc i) all)))) ∙ sym (turn found i v (Some x) lt said) ∙ so
 
-  pub a_bad_one : (found : List X) (i : ℕ) (v : Value) → i < length all → read (view (get_or all i v)) ≡ None
+  pub a_bad_one : (found : List X) (i : ℕ) (v : LineValue) → i < length all → read (view (get_or all i v)) ≡ None
       → from_place found i ≡ each read (items_view all) → each read (items_view all) ≡ None
   a_bad_one found i v lt said so = sym so ∙ turn found i v None lt said
 

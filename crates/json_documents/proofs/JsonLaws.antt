@@ -1,19 +1,16 @@
 -- Fields from JSON and to JSON.
-use Rattle.std.proofs.Common.{◌≡◌, ℕ, zero, suc, ◌<◌, Bool, true, false, ◌&&◌, List, [], ◌∷◌, ◌++◌, length, get_or, take, drop, refl, sym, ap, subst, ◌∙◌, arith, Option, Some, None, is_some, String, Global, string_bytes, string_cmp}
+use Rattle.std.proofs.Common.{◌≡◌, ℕ, zero, suc, ◌<◌, Bool, true, false, ◌&&◌, List, [], ◌∷◌, ◌++◌, length, get_or, take, drop, refl, sym, ap, subst, ◌∙◌, arith, Option, Some, None, is_some}
 use Rattle.std.specs.Prelude.{T}
 use Rattle.std.specs.FinMap as fin
 use Rattle.std.specs.FinMap.Entries.{below_all}
-use Rattle.std.specs.List.{AllByRecursion}
-use Rattle.std.specs.List.Sorted.{IsStrictlySortedBy}
-use Rattle.std.specs.Map.{keys_of}
 use Rattle.std.specs.Cmp.Lexicographic.{nat_list_cmp_total}
 use Rattle.std.specs.Ordering.{is_lt, ordering_reverse}
 use Rattle.std.specs.declared.cmp.Ordering.{Ordering}
 use Rattle.std.specs.declared.cmp.Ordering.TheVariants.{Less, Equal, Greater}
-use Rattle.serde_json.specs.Data.{Data, null, boolean, number, string, array, object, member, put}
+use Rattle.serde_json.specs.Data.{Data, null, boolean, number, string, array, object, Members, no_members, member, put}
 use Rattle.serde_json.specs.Find.{as_null}
-use Rattle.serde_json.specs.View.{view, members_view}
-use Rattle.serde_json.proofs.Views.{Entry}
+use Rattle.line_values.specs.Order.{are_rising}
+use Rattle.line_values.proofs.Rising.{AllAbove, all_above}
 use Rattle.doc_types.specs.SchemaCodes.{name_cmp}
 use Rattle.doc_types.specs.declared.values.FieldType.{FieldType}
 use Rattle.doc_types.specs.declared.values.FieldType.TheVariants as kind
@@ -86,22 +83,22 @@ json_more xs i d lt sorted =
     ∙ ap members_json (sym (until xs i d lt))
 
 module _ {X : Type 0} (read : List ℕ → Data → Option X) where
-  below_values : (x : String Global) (es : List Entry) → AllByRecursion (λ y. string_cmp x y ≡ Less) (keys_of es) → T (below_all name_cmp (string_bytes x) (said read (members_view es)))
-  below_values x [] h = tt
-  below_values x (e ∷ es) h =
-      let rest = below_values x es h.1 in
-      elim (read (string_bytes e.0) (view e.1)) as (λ v. T (below_all name_cmp (string_bytes x) (with_value (string_bytes e.0) v (said read (members_view es))))) [
+  below_values : (x : List ℕ) (ms : Members) → AllAbove x ms → T (below_all name_cmp x (said read ms))
+  below_values x no_members h = tt
+  below_values x (member k d ms) h =
+      let rest = below_values x ms h.1 in
+      elim (read k d) as (λ v. T (below_all name_cmp x (with_value k v (said read ms)))) [
         | None ↦ rest
         | Some v ↦ both _ _ (subst (λ o. T (is_lt o)) (sym h.0) tt) rest
       ]
 
   -- what an object says stands in the order of the names
-  pub said_sorted : (es : List Entry) → IsStrictlySortedBy string_cmp (keys_of es) → T (fin.is_sorted name_cmp (said read (members_view es)))
-  unfolding IsStrictlySortedBy
-  said_sorted [] h = tt
-  said_sorted (e ∷ es) h =
-      let rest = said_sorted es h.1 in
-      elim (read (string_bytes e.0) (view e.1)) as (λ v. T (fin.is_sorted name_cmp (with_value (string_bytes e.0) v (said read (members_view es))))) [
+  pub said_sorted : (ms : Members) → are_rising ms ≡ true → T (fin.is_sorted name_cmp (said read ms))
+  said_sorted no_members h = tt
+  said_sorted (member k d ms) h =
+      let parts = all_above k d ms h in
+      let rest = said_sorted ms parts.1 in
+      elim (read k d) as (λ v. T (fin.is_sorted name_cmp (with_value k v (said read ms)))) [
         | None ↦ rest
-        | Some v ↦ both _ _ (below_values e.0 es h.0) rest
+        | Some v ↦ both _ _ (below_values k ms parts.0) rest
       ]

@@ -3,3 +3,4 @@ mod JsonLaws
 mod BackLaws
 mod Items
 mod SoFar
+mod Only

@@ -1,9 +1,13 @@
 -- A loop over the members of an object: what they all say is what was found, and then what those left say.
-use Rattle.std.proofs.Common.{◌≡◌, ℕ, Bool, false, cond, List, [], ◌∷◌, ◌++◌, sym, ap, ◌∙◌, Option, Some, None}
+use Rattle.std.proofs.Common.{◌≡◌, ℕ, Bool, false, cond, List, [], ◌∷◌, ◌++◌, sym, ap, ap₂, ◌∙◌, ◌+◌, ◌<◌, length, get_or, drop, drop-cons, add-one, Option, Some, None}
 use Rattle.std.proofs.lemmas.List.{append-nil, append_assoc}
 use Rattle.serde_json.specs.Data.{Data, Members, no_members, member}
 use Rattle.json_documents.specs.DocumentFaults.{first_name}
 use Rattle.json_documents.specs.Json.{with_value, said}
+
+-- what is left from a place on is what stands there, and what is left behind it
+pub one_left : {A : Type 0} (all : List A) (i : ℕ) (a : A) → i < length all → a ≡ get_or all i a → drop i all ≡ a ∷ drop (i + 1) all
+one_left all i a lt is = drop-cons all i a lt ∙ ap₂ (λ x n. x ∷ drop n all) (sym is) (sym (add-one i))
 
 module _ {X : Type 0} (test : List ℕ → Data → Bool) (read : List ℕ → Data → Option X) (all : Members) where
   -- no member so far passes a test, and what was found stands before what those left say

@@ -9,10 +9,12 @@ ghost use Rattle.json_documents.specs.DocumentFaults.{document_fault};
 ghost use Rattle.json_documents.specs.Json.{fields_in, fields_json};
 ghost use Rattle.json_documents.specs.Schemas.{is_object, members_in};
 
-use crate::members::{fields_in, members_json};
+use crate::line_json::document_from_line;
+use crate::written::members_json;
 use doc_types::Schema;
 use document_ids::DocId;
 use documents::{Document, DocumentFault};
+use line_values::lent;
 use serde_json::Value;
 use std::alloc::Global;
 use value_lists::NoMemory;
@@ -38,14 +40,8 @@ pub fn document_from_json(
         → (document_fault schema.now (type_of id) (members_in (as_object (view fields.now)))
         ≡ Some fault)) }
 {
-    if !schema.has_type(id.type_name()) {
-        return Err(DocumentFault::UnknownType);
-    }
-    let Some(members) = fields.as_object() else {
-        unreachable!()
-    };
-    let list = fields_in(alloc, members, id.type_name(), schema)?;
-    Document::of(id, list)
+    let fields = lent(alloc, fields)?;
+    document_from_line(alloc, id, &fields, schema)
 }
 
 /// All fields of a document in JSON, in the order of their names.

@@ -14,14 +14,17 @@
 
 pub mod document_json;
 pub mod laws;
+pub mod line_json;
 mod members;
 pub mod schema_faults;
 pub mod schema_json;
 pub mod update_json;
 mod values;
 mod words;
+mod written;
 
 pub use document_json::{document_from_json, fields_json};
+pub use line_json::{document_from_line, update_from_line};
 pub use schema_faults::SchemaFault;
 pub use schema_json::schema_from_json;
 pub use update_json::update_from_json;

@@ -7,11 +7,12 @@ ghost use Rattle.documents.specs.declared.fault.DocumentFault.TheVariants as rea
 ghost use Rattle.json_documents.specs.Schemas.{is_object, members_in};
 ghost use Rattle.json_documents.specs.Updates.{update_fault, changes_in};
 
-use crate::words::changes_in;
+use crate::line_json::update_from_line;
 use doc_types::Schema;
 use doc_updates::Update;
 use document_ids::DocId;
 use documents::DocumentFault;
+use line_values::lent;
 use serde_json::Value;
 use std::alloc::Global;
 
@@ -33,12 +34,6 @@ pub fn update_from_json(
         → (update_fault schema.now (type_of id.now) (members_in (as_object (view fields.now)))
         ≡ Some fault)) }
 {
-    if !schema.has_type(id.type_name()) {
-        return Err(DocumentFault::UnknownType);
-    }
-    let Some(members) = fields.as_object() else {
-        unreachable!()
-    };
-    let list = changes_in(alloc, members, id.type_name(), schema)?;
-    Ok(Update::of(alloc, list)?)
+    let fields = lent(alloc, fields)?;
+    update_from_line(alloc, id, &fields, schema)
 }

@@ -1,18 +1,17 @@
-ghost use Rattle.std.specs.Prelude.{◌≡◌, IfOk, map};
-ghost use Rattle.serde_json.specs.Data.{string};
+ghost use Rattle.std.specs.Prelude.{◌≡◌, IfOk};
 ghost use Rattle.serde_json.specs.Events.{items_len};
 ghost use Rattle.serde_json.specs.Find.{as_array, as_str};
-ghost use Rattle.serde_json.specs.View.{view, items_view};
-ghost use Rattle.json_documents.specs.Json.{whole, each, few, list_in, value_of, value_by, number_json, value_json};
+ghost use Rattle.line_values.specs.View.{view, items_view};
+ghost use Rattle.json_documents.specs.Json.{whole, each, few, list_in, value_of, value_by};
 
 use doc_types::{FieldType, FieldValue, IntList, TextList};
 use documents::document::MOST_ITEMS;
-use serde_json::Value;
+use line_values::LineValue;
 use std::alloc::Global;
 use value_lists::{NoMemory, TextValue};
 
 /// The numbers of a list; none where an item is no whole number.
-fn numbers_of(alloc: Global, items: &[Value]) -> Result<Option<IntList>, NoMemory>
+fn numbers_of(alloc: Global, items: &[LineValue<'_>]) -> Result<Option<IntList>, NoMemory>
     ensures { IfOk result (λ list. list ≡ each whole (items_view items.now)) }
 {
     let mut list = Vec::new(alloc);
@@ -26,7 +25,7 @@ fn numbers_of(alloc: Global, items: &[Value]) -> Result<Option<IntList>, NoMemor
 }
 
 /// The texts of a list; none where an item is no text.
-fn texts_of(alloc: Global, items: &[Value]) -> Result<Option<TextList>, NoMemory>
+fn texts_of(alloc: Global, items: &[LineValue<'_>]) -> Result<Option<TextList>, NoMemory>
     ensures { IfOk result (λ list. list ≡ each as_str (items_view items.now)) }
 {
     let mut list = Vec::new(alloc);
@@ -40,14 +39,14 @@ fn texts_of(alloc: Global, items: &[Value]) -> Result<Option<TextList>, NoMemory
 }
 
 /// How many items there are.
-fn count(items: &[Value]) -> usize
+fn count(items: &[LineValue<'_>]) -> usize
     ensures { result ≡ items_len (items_view items.now) }
 {
     items.len()
 }
 
 /// The numbers of a list of at most 256 items.
-fn few_numbers(alloc: Global, items: &[Value]) -> Result<Option<IntList>, NoMemory>
+fn few_numbers(alloc: Global, items: &[LineValue<'_>]) -> Result<Option<IntList>, NoMemory>
     ensures { IfOk result (λ list. list ≡ few whole (items_view items.now)) }
 {
     if count(items) > MOST_ITEMS {
@@ -57,7 +56,7 @@ fn few_numbers(alloc: Global, items: &[Value]) -> Result<Option<IntList>, NoMemo
 }
 
 /// The texts of a list of at most 256 items.
-fn few_texts(alloc: Global, items: &[Value]) -> Result<Option<TextList>, NoMemory>
+fn few_texts(alloc: Global, items: &[LineValue<'_>]) -> Result<Option<TextList>, NoMemory>
     ensures { IfOk result (λ list. list ≡ few as_str (items_view items.now)) }
 {
     if count(items) > MOST_ITEMS {
@@ -67,7 +66,7 @@ fn few_texts(alloc: Global, items: &[Value]) -> Result<Option<TextList>, NoMemor
 }
 
 /// A list of numbers that a value says; none where it is no list of at most 256 whole numbers.
-pub fn numbers_in(alloc: Global, value: &Value) -> Result<Option<IntList>, NoMemory>
+pub fn numbers_in(alloc: Global, value: &LineValue<'_>) -> Result<Option<IntList>, NoMemory>
     ensures { IfOk result (λ list. list ≡ list_in whole (view value.now)) }
 {
     match value.as_array() {
@@ -77,7 +76,7 @@ pub fn numbers_in(alloc: Global, value: &Value) -> Result<Option<IntList>, NoMem
 }
 
 /// A list of texts that a value says; none where it is no list of at most 256 texts.
-pub fn texts_in(alloc: Global, value: &Value) -> Result<Option<TextList>, NoMemory>
+pub fn texts_in(alloc: Global, value: &LineValue<'_>) -> Result<Option<TextList>, NoMemory>
     ensures { IfOk result (λ list. list ≡ list_in as_str (view value.now)) }
 {
     match value.as_array() {
@@ -87,7 +86,7 @@ pub fn texts_in(alloc: Global, value: &Value) -> Result<Option<TextList>, NoMemo
 }
 
 /// A text that a value says.
-fn text_in(alloc: Global, value: &Value) -> Result<Option<TextValue>, NoMemory>
+fn text_in(alloc: Global, value: &LineValue<'_>) -> Result<Option<TextValue>, NoMemory>
     ensures { IfOk result (λ text. text ≡ as_str (view value.now)) }
 {
     match value.as_str() {
@@ -101,7 +100,7 @@ fn text_in(alloc: Global, value: &Value) -> Result<Option<TextValue>, NoMemory>
 pub fn value_of(
     alloc: Global,
     kind: FieldType,
-    value: &Value,
+    value: &LineValue<'_>,
 ) -> Result<Option<FieldValue>, NoMemory>
     ensures { IfOk result (λ found. found ≡ value_of kind (view value.now)) }
 {
@@ -117,46 +116,12 @@ pub fn value_of(
 pub fn value_by(
     alloc: Global,
     kind: Option<FieldType>,
-    value: &Value,
+    value: &LineValue<'_>,
 ) -> Result<Option<FieldValue>, NoMemory>
     ensures { IfOk result (λ found. found ≡ value_by kind (view value.now)) }
 {
     match kind {
         Some(kind) => value_of(alloc, kind, value),
         None => Ok(None),
-    }
-}
-
-/// Numbers in JSON.
-fn numbers_json(alloc: Global, numbers: &[i64]) -> Result<Vec<Value>, NoMemory>
-    ensures { IfOk result (λ list. map view list.items ≡ map number_json numbers.now) }
-{
-    let mut list = Vec::with_capacity(alloc, numbers.len())?;
-    for number in numbers {
-        list.push(Value::from(*number))?;
-    }
-    Ok(list)
-}
-
-/// Texts in JSON.
-fn texts_json(alloc: Global, texts: &[TextValue]) -> Result<Vec<Value>, NoMemory>
-    ensures { IfOk result (λ list. map view list.items ≡ map string texts.now) }
-{
-    let mut list = Vec::with_capacity(alloc, texts.len())?;
-    for text in texts {
-        list.push(Value::try_from_str(alloc, text.text())?)?;
-    }
-    Ok(list)
-}
-
-/// A value in JSON.
-pub fn value_json(alloc: Global, value: &FieldValue) -> Result<Value, NoMemory>
-    ensures { IfOk result (λ json. view json ≡ value_json value.now) }
-{
-    match value {
-        FieldValue::Int(number) => Ok(Value::from(*number)),
-        FieldValue::Text(text) => Ok(Value::try_from_str(alloc, text.text())?),
-        FieldValue::Ints(numbers) => Ok(Value::Array(numbers_json(alloc, numbers.items())?)),
-        FieldValue::Texts(texts) => Ok(Value::Array(texts_json(alloc, texts.items())?)),
     }
 }

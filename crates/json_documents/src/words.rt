@@ -1,7 +1,8 @@
 ghost use Rattle.std.specs.Prelude.{◌≡◌, ◌≢◌, T, Some, None, IfOk, IfErr, option_map, option_and_then, true, false};
 ghost use Rattle.std.specs.FinMap as fin;
 ghost use Rattle.serde_json.specs.Find.{as_object};
-ghost use Rattle.serde_json.specs.View.{view, members_view};
+ghost use Rattle.line_values.specs.Order.{are_rising};
+ghost use Rattle.line_values.specs.View.{view, members_view};
 ghost use Rattle.doc_types.specs.SchemaCodes.{name_cmp};
 ghost use Rattle.json_documents.specs.DocumentFaults.{first_name, name_fault};
 ghost use Rattle.documents.specs.Kinds.{kinds_of};
@@ -18,26 +19,28 @@ use doc_updates::Change;
 use doc_updates::change::Named;
 use documents::DocumentFault;
 use documents::field::name_of;
-use serde_json::{Map, Value};
+use line_values::LineValue;
 use std::alloc::Global;
 use value_lists::NoMemory;
 
 /// The one member of an object that has just one.
-fn only(members: &Map<String, Value>) -> Option<(&str, &Value)>
-    ensures { option_map (λ m. (m.0.now, view m.1.now)) result ≡ only (members_view members.now.entries) }
+#[tactic(auto, using(crate::proofs::Only::only_none, crate::proofs::Only::only_one))]
+fn only<'v, 'a>(members: &'v [(&'a str, LineValue<'a>)]) -> Option<(&'a str, &'v LineValue<'a>)>
+    ensures { option_map (λ m. (m.0.now, view m.1.now)) result ≡ only (members_view members.now) }
 {
-    let mut walk = members.iter();
-    let Some((word, value)) = walk.next() else {
-        return None;
-    };
-    if walk.next().is_some() {
+    if members.len() != 1 {
         return None;
     }
-    Some((word.as_str(), value))
+    let member = &members[0];
+    Some((member.0, &member.1))
 }
 
 /// What `assign` says of a field of a kind.
-fn assign_by(alloc: Global, kind: FieldType, value: &Value) -> Result<Option<Change>, NoMemory>
+fn assign_by(
+    alloc: Global,
+    kind: FieldType,
+    value: &LineValue<'_>,
+) -> Result<Option<Change>, NoMemory>
     ensures { IfOk result (λ change. change ≡ assign_by kind (view value.now)) }
 {
     if value.is_null() {
@@ -67,7 +70,11 @@ fn number_change(word: &str, by: i64) -> Option<Change>
 }
 
 /// What a word says of a list of numbers.
-fn numbers_change(alloc: Global, word: &str, value: &Value) -> Result<Option<Change>, NoMemory>
+fn numbers_change(
+    alloc: Global,
+    word: &str,
+    value: &LineValue<'_>,
+) -> Result<Option<Change>, NoMemory>
     ensures { IfOk result (λ change. change ≡ numbers_change word.now (view value.now)) }
 {
     if word != "add" {
@@ -80,7 +87,11 @@ fn numbers_change(alloc: Global, word: &str, value: &Value) -> Result<Option<Cha
 }
 
 /// What a word says of a list of texts.
-fn texts_change(alloc: Global, word: &str, value: &Value) -> Result<Option<Change>, NoMemory>
+fn texts_change(
+    alloc: Global,
+    word: &str,
+    value: &LineValue<'_>,
+) -> Result<Option<Change>, NoMemory>
     ensures { IfOk result (λ change. change ≡ texts_change word.now (view value.now)) }
 {
     if word != "add" {
@@ -97,7 +108,7 @@ fn own_change(
     alloc: Global,
     kind: FieldType,
     word: &str,
-    value: &Value,
+    value: &LineValue<'_>,
 ) -> Result<Option<Change>, NoMemory>
     ensures { IfOk result (λ change. change ≡ own_change kind word.now (view value.now)) }
 {
@@ -117,7 +128,7 @@ fn change_by(
     alloc: Global,
     kind: FieldType,
     word: &str,
-    value: &Value,
+    value: &LineValue<'_>,
 ) -> Result<Option<Change>, NoMemory>
     ensures { IfOk result (λ change. change ≡ change_by kind word.now (view value.now)) }
 {
@@ -128,7 +139,7 @@ fn change_by(
 }
 
 /// The one member of a value that is an object with just one.
-fn only_in(value: &Value) -> Option<(&str, &Value)>
+fn only_in<'v, 'a>(value: &'v LineValue<'a>) -> Option<(&'a str, &'v LineValue<'a>)>
     ensures { option_map (λ m. (m.0.now, view m.1.now)) result
         ≡ option_and_then only (as_object (view value.now)) }
 {
@@ -143,7 +154,7 @@ fn only_in(value: &Value) -> Option<(&str, &Value)>
 fn change_for(
     alloc: Global,
     kind: Option<FieldType>,
-    value: &Value,
+    value: &LineValue<'_>,
 ) -> Result<Option<Change>, NoMemory>
     ensures { IfOk result (λ change. change ≡ change_for kind (view value.now)) }
 {
@@ -161,7 +172,7 @@ fn change_in(
     alloc: Global,
     name: &str,
     kind: Option<FieldType>,
-    value: &Value,
+    value: &LineValue<'_>,
 ) -> Result<Named, DocumentFault>
     ensures read { IfOk result (λ named. (is_no_change kind (view value.now) ≡ false)
         × (change_for kind (view value.now) ≡ Some named.change) × (named.name ≡ name.now)) }
@@ -180,44 +191,47 @@ fn change_in(
 }
 
 /// The changes that an object says of a document of a type, up to its first wrong value.
-fn changes_said(
+fn changes_said<'a>(
     alloc: Global,
-    members: &Map<String, Value>,
+    members: &[(&'a str, LineValue<'a>)],
     type_name: &str,
     schema: &Schema,
 ) -> Result<Vec<Named>, DocumentFault>
+    requires { are_rising (members_view members.now) ≡ true }
     ensures read { IfOk result (λ list.
-        (first_name (is_wrong (kinds_of schema.now type_name.now)) (members_view members.now.entries) ≡ None)
+        (first_name (is_wrong (kinds_of schema.now type_name.now)) (members_view members.now) ≡ None)
         × (pairs list.items ≡ said (change_in (kinds_of schema.now type_name.now))
-        (members_view members.now.entries))) }
+        (members_view members.now))) }
     ensures refused { IfErr result (λ fault. (fault ≢ reason.NoMemory)
         → (option_map reason.WrongValue (first_name (is_wrong (kinds_of schema.now type_name.now))
-        (members_view members.now.entries)) ≡ Some fault)) }
+        (members_view members.now)) ≡ Some fault)) }
     ensures sorted { IfOk result (λ list. T (fin.is_sorted name_cmp (pairs list.items))) }
 {
     let mut list = Vec::with_capacity(alloc, members.len())?;
-    for (name, value) in members {
-        let kind = schema.field(type_name, name.as_str());
-        list.push(change_in(alloc, name.as_str(), kind, value)?)?;
+    for member in members {
+        let name = member.0;
+        let kind = schema.field(type_name, name);
+        list.push(change_in(alloc, name, kind, &member.1)?)?;
     }
     Ok(list)
 }
 
 /// The changes that an object says of a document of a type.
-pub fn changes_in(
+pub fn changes_in<'a>(
     alloc: Global,
-    members: &Map<String, Value>,
+    members: &[(&'a str, LineValue<'a>)],
     type_name: &str,
     schema: &Schema,
 ) -> Result<Vec<Named>, DocumentFault>
+    requires { are_rising (members_view members.now) ≡ true }
     ensures read { IfOk result (λ list.
         (name_fault (is_wrong (kinds_of schema.now type_name.now)) (kinds_of schema.now type_name.now)
-        (members_view members.now.entries) ≡ None)
+        (members_view members.now) ≡ None)
         × (pairs list.items ≡ said (change_in (kinds_of schema.now type_name.now))
-        (members_view members.now.entries))) }
+        (members_view members.now))) }
     ensures refused { IfErr result (λ fault. (fault ≢ reason.NoMemory)
         → (name_fault (is_wrong (kinds_of schema.now type_name.now)) (kinds_of schema.now type_name.now)
-        (members_view members.now.entries) ≡ Some fault)) }
+        (members_view members.now) ≡ Some fault)) }
     ensures sorted { IfOk result (λ list. T (fin.is_sorted name_cmp (pairs list.items))) }
 {
     if let Some(name) = unknown_in(members, type_name, schema) {

@@ -7,6 +7,7 @@ pub mod OneLine
 pub mod Lists
 pub mod Growing
 pub mod Calling
+pub mod Giving
 pub mod Ordering
 pub mod Answering
 pub mod Steps

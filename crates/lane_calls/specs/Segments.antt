@@ -1,7 +1,8 @@
 -- A segment of a lane: feeders run lines there, each of them its own lines one after the other. Every call is for one line,
 -- and calls for lines of several feeders come in any order.
-use Rattle.std.specs.Prelude.{◌≡◌, ◌<◌, ◌/◌, ◌%◌, ◌^◌, ℕ, List, [], Option, None, Some, IsSome, slice_get}
+use Rattle.std.specs.Prelude.{◌≡◌, ◌<◌, ◌/◌, ◌%◌, ◌^◌, ℕ, List, [], ◌++◌, Option, None, Some, IsSome, slice_get}
 use Rattle.bucket_ids.specs.Buckets.{Low}
+use Rattle.carriers.specs.declared.fate.Fate.{Fate}
 use Rattle.cluster_states.specs.declared.cluster_state.ClusterState.{ClusterState}
 use Rattle.distributor_part.specs.declared.rules.Rules.{Rules}
 use Rattle.ideal_nodes.specs.Placement.{IsOwner}
@@ -61,6 +62,10 @@ WentTo lane rules n o J K Runs = IsRunSince lane rules n o (history J) J K × Is
 WentTo lane rules n o J K (Over x) = IsRunSince lane rules n o (history J) J K × IsEndSince lane rules n o (history J) K x
 WentTo lane rules n o J K Short = IsCutRunSince lane rules n o (history J) J K
 
+-- the carrier gave these fates behind those
+abbrev pub GaveOn : List Fate → List Fate → Type 0
+GaveOn now given = (more : List Fate) × (now ≡ given ++ more)
+
 -- the operation at the place, which wants to, goes on
 pub record GoesOn (at : ℕ) (u : UnderWay) (v w : LaneValue) : Type 0 where
   pub found : slice_get v.under_way at ≡ Some u
@@ -69,6 +74,7 @@ pub record GoesOn (at : ℕ) (u : UnderWay) (v w : LaneValue) : Type 0 where
   pub left : ℕ
   pub went : WentTo v.lane v.rules u.line u.operation v.journal w.journal progress
   pub after : w ≡ with_run v w.journal w.given at (under_way_of u.line u.operation u.distributor progress left)
+  pub gives : GaveOn w.given v.given
 
 -- the owner under the newest state is to hear it
 pub record HearsAtOwner (v w : LaneValue) : Type 0 where

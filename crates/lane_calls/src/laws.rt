@@ -17,13 +17,14 @@ ghost use Rattle.lane_calls.specs.declared.progress.UnderWay.{UnderWay};
 ghost use Rattle.lane_calls.specs.LaneValues.{LaneValue, IsLaneValue};
 ghost use Rattle.lane_calls.specs.Lines.{FeedLine, Lines, IsNone, IsCarriedOut};
 ghost use Rattle.lane_calls.specs.Readings.{outcome_in};
-ghost use Rattle.lane_calls.specs.Segments.{feeder_of, IsAmong, AreApart, IsNext, IsCall, IsSegment};
+ghost use Rattle.lane_calls.specs.Segments.{feeder_of, GaveOn, IsAmong, AreApart, IsNext, IsCall, IsSegment};
 ghost use Rattle.lane_calls.specs.Courses.{GoesItsCourse, HasEnded, WantedEnd};
 ghost use Rattle.lane_calls.specs.Growth.{IsLater, IsStep, Grows};
 ghost use Rattle.lane_calls.specs.LineEvents.{StartsLine, answers};
 
-/// By calls the lane's journal grows as `Grows` says, and stays legal; the lane, its rules, its types and what was planned are the same, and each operation
-/// that is under way is that of one of the lines, and went its course. A call more goes on with it.
+/// By calls the lane's journal grows as `Grows` says, and stays legal; the lane, its rules, its types and what was planned are the same,
+/// the carrier gave further fates behind those that it had given, and each operation that is under way is that of one of the lines, and
+/// went its course. A call more goes on with it.
 pub fn segments_grow()
     ensures grows { (feeders : ℕ) (lines : Lines) (first last : LaneValue) → IsSegment feeders lines first last
         → Grows feeders lines first.lane first.rules first.journal last.journal }
@@ -33,6 +34,8 @@ pub fn segments_grow()
         → (last.lane ≡ first.lane) × (last.rules ≡ first.rules) }
     ensures kept { (feeders : ℕ) (lines : Lines) (first last : LaneValue) → IsSegment feeders lines first last
         → (last.types ≡ first.types) × (last.planned ≡ first.planned) × (last.takes_plans ≡ first.takes_plans) }
+    ensures gives { (feeders : ℕ) (lines : Lines) (first last : LaneValue) → IsSegment feeders lines first last
+        → GaveOn last.given first.given }
     ensures own { (feeders : ℕ) (lines : Lines) (first last : LaneValue) → IsSegment feeders lines first last
         → (at : ℕ) (u : UnderWay) → slice_get last.under_way at ≡ Some u → GoesItsCourse lines first last u }
     ensures goes_on { (feeders : ℕ) (lines : Lines) (first last next : LaneValue) → IsSegment feeders lines first last

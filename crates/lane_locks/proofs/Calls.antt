@@ -24,14 +24,14 @@ module _ (feeders : ℕ) (lines : Lines) (v w : LaneValue) where
   pub advance-call : (line : ℕ) (answer : Advance) → IsAdvance line v w answer → IsCall feeders lines v w
   advance-call line advance.More h =
       let d = h.advances in
-      Continues h.at h.operation (record { found = (h.place).found; wants = h.wants; progress = Runs; left = (d.0).left; went = ((d.0).run, d.1); after = (d.0).after })
+      Continues h.at h.operation (record { found = (h.place).found; wants = h.wants; progress = Runs; left = (d.0).left; went = ((d.0).run, d.1); after = (d.0).after; gives = (d.0).gives })
   advance-call line (advance.Waits by) h = Stays (h.advances).1
   advance-call line advance.Done h =
       let d = h.advances in
-      Continues h.at h.operation (record { found = (h.place).found; wants = h.wants; progress = Over d.0; left = (d.1).left; went = ((d.1).run, d.2); after = (d.1).after })
+      Continues h.at h.operation (record { found = (h.place).found; wants = h.wants; progress = Over d.0; left = (d.1).left; went = ((d.1).run, d.2); after = (d.1).after; gives = (d.1).gives })
   advance-call line advance.NoMemory h =
       let d = h.advances in
-      Continues h.at h.operation (record { found = (h.place).found; wants = h.wants; progress = Short; left = d.left; went = d.run; after = d.after })
+      Continues h.at h.operation (record { found = (h.place).found; wants = h.wants; progress = Short; left = d.left; went = d.run; after = d.after; gives = d.gives })
 
   pub close-call : (line : ℕ) (x : Outcome) → Closes line x v w → IsCall feeders lines v w
   close-call line x c = Ends line x c

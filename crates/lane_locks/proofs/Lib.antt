@@ -1,7 +1,12 @@
+-- Shared: other crates cite these.
+pub mod Sparing
+pub mod Staging
 -- Of this crate alone.
 mod Calls
-mod Sparing
-mod Staging
 mod Turning
 mod Idling
 mod Listing
+mod Powers
+mod Numbered
+mod Naming
+mod Sending

@@ -30,7 +30,7 @@ use Rattle.lane_locks.proofs.Sparing.{such-new, such-here, Outcomes, Spares, beg
 
 -- ---- the line's own stage
 
-begun-stage : (line : FeedLine) (via : Option ℕ) (v w : LaneValue) → BeginsAs line via v w begin.Begun → MayAdvance line.number w.under_way
+pub begun-stage : (line : FeedLine) (via : Option ℕ) (v w : LaneValue) → BeginsAs line via v w begin.Begun → MayAdvance line.number w.under_way
 begun-stage line None v w b = subst (MayAdvance line.number) (sym (ap (λ (x : LaneValue). x.under_way) b.after)) (such-new WantsMore line.number v.under_way _ refl tt)
 begun-stage line (Some d) v w b = subst (MayAdvance line.number) (sym (ap (λ (x : LaneValue). x.under_way) b.after)) (such-new WantsMore line.number v.under_way _ refl tt)
 
@@ -38,13 +38,13 @@ refused-stage : (line : FeedLine) (via : Option ℕ) (x : Outcome) (v w : LaneVa
 refused-stage line None x v w fresh b = absurd b
 refused-stage line (Some d) x v w fresh b = ap (λ (y : LaneValue). outcome_in line.number y.journal) b.after ∙ outcome_refused line.number d x v.journal (fresh_none line.number v.journal fresh)
 
-more-stage : (n : ℕ) (v w : LaneValue) → IsAdvance n v w advance.More → MayAdvance n w.under_way
+pub more-stage : (n : ℕ) (v w : LaneValue) → IsAdvance n v w advance.More → MayAdvance n w.under_way
 more-stage n v w a = subst (MayAdvance n) (sym (ap (λ (x : LaneValue). x.under_way) ((a.advances).0).after)) (such-here WantsMore n v.under_way a.at a.operation _ (a.place).found (a.place).line_is tt)
 
-done-stage : (n : ℕ) (v w : LaneValue) → IsAdvance n v w advance.Done → MayClose n w.under_way
+pub done-stage : (n : ℕ) (v w : LaneValue) → IsAdvance n v w advance.Done → MayClose n w.under_way
 done-stage n v w a = subst (MayClose n) (sym (ap (λ (x : LaneValue). x.under_way) ((a.advances).1).after)) (such-here WantsEnd n v.under_way a.at a.operation _ (a.place).found (a.place).line_is tt)
 
-short-stage : (n : ℕ) (v w : LaneValue) → IsAdvance n v w advance.NoMemory → MayClose n w.under_way
+pub short-stage : (n : ℕ) (v w : LaneValue) → IsAdvance n v w advance.NoMemory → MayClose n w.under_way
 short-stage n v w a = subst (MayClose n) (sym (ap (λ (x : LaneValue). x.under_way) (a.advances).after)) (such-here WantsEnd n v.under_way a.at a.operation _ (a.place).found (a.place).line_is tt)
 
 some-of : {A : Type 0} (o : Option A) → IsSome o → (x : A) × (o ≡ Some x)

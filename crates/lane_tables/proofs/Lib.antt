@@ -1,2 +1,4 @@
 mod Firsts
 mod Answering
+mod Walking
+mod Staged

@@ -4,40 +4,40 @@ use Rattle.json.specs.Token.{Token}
 use Rattle.json.specs.Json.{parse_map, after_end_array, read_key}
 use Rattle.json.proofs.Grammar.{read_key-shorter}
 use Rattle.serde_json.specs.Data.{Data, Items, no_items, item, Members, no_members, put}
-use Rattle.serde_json.specs.View.{view, items_view}
-use Rattle.serde_json.specs.declared.value.Value.{Value}
 use Rattle.line_values.specs.Said.{value_said, items_said, members_said}
+use Rattle.line_values.specs.View.{view, items_view}
+use Rattle.line_values.specs.declared.line_value.LineValue.{LineValue}
 use Rattle.line_values.proofs.Steps.{Found, items_by, items_said-turn, members_by, members_said-turn, value_said-shorter}
 
 -- items behind those of a list
-abbrev pub behind_items : List Value → Items → Items
+abbrev pub behind_items : List LineValue → Items → Items
 behind_items [] rest = rest
 behind_items (v ∷ vs) rest = item (view v) (behind_items vs rest)
 
-behind_all : (vs : List Value) → behind_items vs no_items ≡ items_view vs
+behind_all : (vs : List LineValue) → behind_items vs no_items ≡ items_view vs
 behind_all [] = refl
 behind_all (v ∷ vs) = ap (item (view v)) (behind_all vs)
 
-behind_one_more : (vs : List Value) (v : Value) (rest : Items) → behind_items vs (item (view v) rest) ≡ behind_items (vs ++ v ∷ []) rest
+behind_one_more : (vs : List LineValue) (v : LineValue) (rest : Items) → behind_items vs (item (view v) rest) ≡ behind_items (vs ++ v ∷ []) rest
 behind_one_more [] v rest = refl
 behind_one_more (w ∷ vs) v rest = ap (item (view w)) (behind_one_more vs v rest)
 
-one_more : (vs : List Value) (v : Value) (o : Found Items) → parse_map (behind_items vs) (parse_map (item (view v)) o) ≡ parse_map (behind_items (vs ++ v ∷ [])) o
+one_more : (vs : List LineValue) (v : LineValue) (o : Found Items) → parse_map (behind_items vs) (parse_map (item (view v)) o) ≡ parse_map (behind_items (vs ++ v ∷ [])) o
 one_more vs v None = refl
 one_more vs v (Some p) = ap (λ ds. Some (ds, p.1)) (behind_one_more vs v p.0)
 
 -- of the items from a place on these were found, and the tokens now are left
-pub record AreItems (depth : ℕ) (from now : List Token) (found : List Value) : Type 0 where
+pub record AreItems (depth : ℕ) (from now : List Token) (found : List LineValue) : Type 0 where
   pub most : ℕ
   pub enough : length now ≤ most
   pub same : items_said depth (length from) from ≡ parse_map (behind_items found) (items_said depth most now)
 
 module _ (depth : ℕ) (from : List Token) where
-  module _ (now : List Token) (found : List Value) (so : AreItems depth from now found) where
+  module _ (now : List Token) (found : List LineValue) (so : AreItems depth from now found) where
     turned : (end : Option (List Token)) → after_end_array now ≡ end → items_said depth (length from) from ≡ parse_map (behind_items found) (items_by depth (so.most - 1) now end)
     turned end e = so.same ∙ ap (parse_map (behind_items found)) (items_said-turn depth so.most now so.enough ∙ ap (items_by depth (so.most - 1) now) e)
 
-    pub one_item_more : (v : Value) (r : List Token) (grown : List Value) → grown ≡ found ++ v ∷ [] → after_end_array now ≡ None → value_said depth now ≡ Some (view v, r) → AreItems depth from r grown
+    pub one_item_more : (v : LineValue) (r : List Token) (grown : List LineValue) → grown ≡ found ++ v ∷ [] → after_end_array now ≡ None → value_said depth now ≡ Some (view v, r) → AreItems depth from r grown
     one_item_more v r grown e going said = record {
       most = so.most - 1;
       enough = omega (arith, so.enough, value_said-shorter depth now r (view v) said);

@@ -10,10 +10,14 @@
 //! ```
 #![tactic(auto)]
 
+pub mod lending;
+pub mod line_value;
 mod numbers;
 pub mod read_fault;
 mod tokens;
 pub mod value_reader;
 
+pub use lending::lent;
+pub use line_value::LineValue;
 pub use read_fault::ReadFault;
 pub use value_reader::ValueReader;

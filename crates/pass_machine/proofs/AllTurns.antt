@@ -6,8 +6,8 @@ use Rattle.messages.specs.declared.body.Body.TheVariants as body
 use Rattle.pass_model.specs.Nodes.{split_node, join_node}
 use Rattle.pass_model.specs.Rows.{Settings}
 use Rattle.pass_model.specs.Passes.{World}
-use Rattle.pass_turns.specs.Turns as turns
-use Rattle.pass_turns.specs.Turns.{Stand, stand, told, turn_at, join_one, split_one}
+use Rattle.pass_model.specs.Turns as turns
+use Rattle.pass_model.specs.Turns.{Stand, stand, told, turn_at, join_one, split_one}
 use Rattle.pass_machine.specs.declared.doing.Time.{Time}
 use Rattle.pass_machine.specs.declared.doing.Doing.TheVariants.{JoinTold, JoinRound, SplitTold, SplitFirst}
 use Rattle.pass_machine.specs.declared.doing.UpkeepStep.TheVariants as step

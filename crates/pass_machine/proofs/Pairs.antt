@@ -19,10 +19,10 @@ use Rattle.pass_model.specs.Rows.{Settings}
 use Rattle.pass_model.specs.Passes.{World, In, merged}
 use Rattle.pass_model.specs.Sweeps.{with_row, fewer}
 use Rattle.proof_basics.proofs.Numbers.{le-of, le-to, lt-of, lt-to, ge-of, ge-to}
-use Rattle.pass_turns.specs.Turns as turns
-use Rattle.pass_turns.specs.Turns.{Stand, stand, turn_at, by_row, is_pair, place_beside, place_where, without_pair, join_at}
-use Rattle.pass_turns.proofs.JoinTurns.{pair-can, can-pair}
-use Rattle.pass_turns.proofs.RowLists.{where-found, where-none}
+use Rattle.pass_model.specs.Turns as turns
+use Rattle.pass_model.specs.Turns.{Stand, stand, turn_at, by_row, is_pair, place_beside, place_where, without_pair, join_at}
+use Rattle.pass_model.proofs.JoinTurns.{pair-can, can-pair}
+use Rattle.pass_model.proofs.RowLists.{where-found, where-none}
 use Rattle.pass_machine.specs.declared.doing.Time.{Time}
 use Rattle.pass_machine.specs.declared.doing.Time.TheVariants.{First, Again}
 use Rattle.pass_machine.specs.declared.doing.Doing.TheVariants.{Joining}

@@ -7,8 +7,8 @@ use Rattle.pass_model.specs.Shapes.{Shape}
 use Rattle.pass_model.specs.Rows as rest
 use Rattle.pass_model.specs.Rows.{Settings}
 use Rattle.pass_model.specs.Passes.{World}
-use Rattle.pass_turns.specs.Turns as turns
-use Rattle.pass_turns.specs.Turns.{Stand, stand, turn_at, by_row, round_of, round_then, is_full, with_children, place_where}
+use Rattle.pass_model.specs.Turns as turns
+use Rattle.pass_model.specs.Turns.{Stand, stand, turn_at, by_row, round_of, round_then, is_full, with_children, place_where}
 use Rattle.pass_machine.specs.declared.notes.RowNote.{RowNote}
 use Rattle.pass_machine.specs.Places.{place_of, is_full_by}
 use Rattle.pass_machine.specs.Abstract.{row_with, AreOfBuckets}

@@ -13,9 +13,9 @@ use Rattle.pass_model.specs.Passes.{World}
 use Rattle.pass_model.specs.Settling.{activate_nodes, could_activate}
 use Rattle.pass_model.specs.Scripts.{told_body, told_node}
 use Rattle.lane_rest.specs.Targets.{is_active}
-use Rattle.pass_turns.specs.Turns as turns
-use Rattle.pass_turns.specs.Turns.{stand, turn_at, by_row, with_place_row, accepted_if, activate_then}
-use Rattle.pass_turns.proofs.RowLists.{set-same}
+use Rattle.pass_model.specs.Turns as turns
+use Rattle.pass_model.specs.Turns.{stand, turn_at, by_row, with_place_row, accepted_if, activate_then}
+use Rattle.pass_model.proofs.RowLists.{set-same}
 use Rattle.pass_machine.specs.declared.doing.Doing.TheVariants.{ResendingActivate, ResentActivate}
 use Rattle.pass_machine.specs.declared.doing.UpkeepStep.TheVariants as step
 use Rattle.pass_machine.specs.declared.doing.Turn.TheVariants.{Over, Says}

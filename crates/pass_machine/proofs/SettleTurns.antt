@@ -24,9 +24,9 @@ use Rattle.pass_model.specs.Passes.{World}
 use Rattle.pass_model.specs.Settling as place
 use Rattle.pass_model.specs.Settling.{first_in, needs_align, activate_nodes, could_activate}
 use Rattle.pass_model.specs.Scripts.{told_body, told_node}
-use Rattle.pass_turns.specs.Turns as turns
-use Rattle.pass_turns.specs.Turns.{Stand, stand, told, turn_at, by_row, with_place_row, round_of, align_one, ready_one, if_answered, accepted_if, unmarked, activate_then, does_lose}
-use Rattle.pass_turns.proofs.RowLists.{set-same}
+use Rattle.pass_model.specs.Turns as turns
+use Rattle.pass_model.specs.Turns.{Stand, stand, told, turn_at, by_row, with_place_row, round_of, align_one, ready_one, if_answered, accepted_if, unmarked, activate_then, does_lose}
+use Rattle.pass_model.proofs.RowLists.{set-same}
 use Rattle.pass_machine.specs.declared.doing.Time.{Time}
 use Rattle.pass_machine.specs.declared.doing.Time.TheVariants.{First, Again}
 use Rattle.pass_machine.specs.declared.doing.Settle.{Settle}

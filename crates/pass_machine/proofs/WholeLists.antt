@@ -25,7 +25,7 @@ use Rattle.pass_model.specs.Rows as rest
 use Rattle.pass_model.specs.Rows.{Settings}
 use Rattle.pass_model.specs.Passes.{World, merged, child_row}
 use Rattle.pass_model.specs.Sweeps as sweeps
-use Rattle.pass_turns.specs.Turns.{with_children, without_pair}
+use Rattle.pass_model.specs.Turns.{with_children, without_pair}
 use Rattle.pass_machine.specs.declared.doing.Time.{Time}
 use Rattle.pass_machine.specs.declared.notes.RowNote.{RowNote}
 use Rattle.pass_machine.specs.Notes.{of_bucket, note_for, whole_in}

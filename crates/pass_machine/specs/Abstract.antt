@@ -1,4 +1,4 @@
--- The machine and the rows as `pass_turns` and `pass_model` have them in the abstract.
+-- The machine and the rows as `pass_model` has them in the abstract.
 use Rattle.std.specs.Prelude.{◌≡◌, ◌==◌, ◌⊎◌, ◌&&◌, not, ◌<◌, ◌≤◌, ℕ, Bool, true, false, List, [], ◌∷◌, Option, Some, None, is_some, Contains, map, slice_get}
 use Rattle.std.specs.List.{find, list_any, remove}
 use Rattle.std.specs.Ordering.{nat_cmp}
@@ -23,8 +23,8 @@ use Rattle.pass_model.specs.Passes.{World, merged}
 use Rattle.pass_model.specs.Sweeps.{with_row}
 use Rattle.pass_model.specs.Lanes.{is_taken}
 use Rattle.pass_model.specs.Scripts.{told_node}
-use Rattle.pass_turns.specs.Turns as turns
-use Rattle.pass_turns.specs.Turns.{stand, turn_at, with_place_row, round_of, without_pair}
+use Rattle.pass_model.specs.Turns as turns
+use Rattle.pass_model.specs.Turns.{stand, turn_at, with_place_row, round_of, without_pair}
 use Rattle.pass_machine.specs.declared.doing.Time.{Time}
 use Rattle.pass_machine.specs.declared.doing.Time.TheVariants.{First, Again}
 use Rattle.pass_machine.specs.declared.doing.Settle.{Settle}

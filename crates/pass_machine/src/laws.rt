@@ -33,7 +33,7 @@ ghost use Rattle.pass_machine.specs.Notes.{note_for, whole_in};
 ghost use Rattle.pass_machine.specs.Turns.{View, begin_joins, turn_at, settle_turn, answered_row, rounded};
 ghost use Rattle.pass_machine.specs.Abstract.{AreMade, IsPlace, Pends, answer_of, after_decision, Refines, Tells, Agrees, AreOfBuckets, AreNoted, IsPairJoined, Pairs, Activates, row_with, row_in, rows_in, time_of, doing_of};
 ghost use Rattle.pass_machine.specs.Places.{first_with, place_of, is_full_by};
-ghost use Rattle.pass_turns.specs.Turns.{stand, with_made, with_children, without_pair, turn_at as turn_at_rest, round_of as round_at_rest, Joining as Joining_rest, SplitTold as SplitTold_rest};
+ghost use Rattle.pass_model.specs.Turns.{stand, with_made, with_children, without_pair, turn_at as turn_at_rest, round_of as round_at_rest, Joining as Joining_rest, SplitTold as SplitTold_rest};
 
 /// Where a row is settled that had a whole round, a turn of the machine is one or two of those in the abstract: to go
 /// over a place is turns that change nothing, and a message, a decision, an acceptance and a round are one each.

@@ -7,7 +7,7 @@
 //! the machine is doing is proved here, without any lane.
 //!
 //! `turn_at` in `specs/Turns.antt` says what comes where the machine stands. Where each row had a whole round, each of
-//! its turns is one or more of those that `pass_turns` makes of nodes and rows in the abstract (`laws`). `pass_runs`
+//! its turns is one or more of those that `pass_model` makes of nodes and rows in the abstract (`laws`). `pass_runs`
 //! puts them one after the other.
 #![tactic(auto)]
 

@@ -13,6 +13,10 @@ pub mod Shapes
 pub mod ShownCounts
 pub mod Targets
 pub mod Once
+pub mod RowLists
+pub mod JoinTurns
+pub mod Resending
+pub mod Framing
 -- Of this crate alone.
 mod Rounded
 mod Tests
@@ -37,3 +41,14 @@ mod Reading
 mod Loops
 mod Found
 mod Named
+mod Numbers
+mod Walking
+mod RoundedRows
+mod SettledPlaces
+mod OrderedRows
+mod Reached
+mod Standings
+mod SettleTurns
+mod SplitTurns
+mod Turning
+mod Ending

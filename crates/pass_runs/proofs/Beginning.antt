@@ -8,8 +8,8 @@ use Rattle.bucket_db.specs.declared.row.Row.{Row}
 use Rattle.cluster_states.specs.declared.cluster_state.ClusterState.{ClusterState}
 use Rattle.pass_model.specs.Nodes.{Node}
 use Rattle.pass_model.specs.Rows.{Settings}
-use Rattle.pass_turns.specs.Turns as turns
-use Rattle.pass_turns.specs.Turns.{stand}
+use Rattle.pass_model.specs.Turns as turns
+use Rattle.pass_model.specs.Turns.{stand}
 use Rattle.pass_machine.specs.declared.doing.Doing.TheVariants.{ResendingDelete}
 use Rattle.pass_machine.specs.declared.notes.RowNote.{RowNote}
 use Rattle.pass_machine.specs.Notes.{note_for, whole_in}

@@ -5,7 +5,7 @@ use Rattle.pass_model.specs.Nodes.{Node}
 use Rattle.pass_model.specs.Rows.{Settings}
 use Rattle.pass_model.specs.Passes.{World, Resends, Passes}
 use Rattle.pass_model.specs.Resting.{AreSettings}
-use Rattle.pass_turns.proofs.Resending.{turns-resent}
+use Rattle.pass_model.proofs.Resending.{turns-resent}
 use Rattle.pass_machine.specs.declared.doing.Doing.TheVariants.{Finished}
 use Rattle.pass_machine.specs.declared.notes.RowNote.{RowNote}
 use Rattle.pass_machine.specs.Turns.{View}

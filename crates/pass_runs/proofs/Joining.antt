@@ -31,8 +31,8 @@ use Rattle.pass_model.specs.Passes.{World, merged}
 use Rattle.pass_model.specs.Scripts.{told_node}
 use Rattle.pass_model.specs.Sweeps as sweeps
 use Rattle.proof_basics.proofs.Tests.{clash}
-use Rattle.pass_turns.specs.Turns as turns
-use Rattle.pass_turns.specs.Turns.{Stand, stand, without_pair, turn_at as turn_at_rest}
+use Rattle.pass_model.specs.Turns as turns
+use Rattle.pass_model.specs.Turns.{Stand, stand, without_pair, turn_at as turn_at_rest}
 use Rattle.proof_basics.proofs.Numbers.{lt-to}
 use Rattle.pass_machine.specs.declared.doing.Time.{Time}
 use Rattle.pass_machine.specs.declared.doing.Time.TheVariants.{First, Again}

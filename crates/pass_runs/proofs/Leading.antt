@@ -2,9 +2,9 @@
 use Rattle.std.proofs.Common.{◌≡◌, ◌∙◌, ℕ, ◌+◌, refl, ap, subst}
 use Rattle.pass_model.specs.Rows.{Settings}
 use Rattle.pass_model.specs.Passes.{World}
-use Rattle.pass_turns.specs.Turns as turns
-use Rattle.pass_turns.specs.Turns.{Stand, stand, turn_at}
-use Rattle.pass_turns.proofs.Framing.{one-turn, turns-follow}
+use Rattle.pass_model.specs.Turns as turns
+use Rattle.pass_model.specs.Turns.{Stand, stand, turn_at}
+use Rattle.pass_model.proofs.Framing.{one-turn, turns-follow}
 use Rattle.pass_runs.specs.Standing.{Leads}
 
 pub lead_none : (s : Settings) (x : Stand) → Leads s x x

@@ -16,7 +16,7 @@ use Rattle.pass_model.specs.Rows.{Settings}
 use Rattle.pass_model.specs.Passes.{AllRows}
 use Rattle.pass_model.specs.Resting.{AreApart}
 use Rattle.pass_model.specs.Sweeps.{Rises}
-use Rattle.pass_turns.specs.Orders.{ActiveServes, AreInOrder}
+use Rattle.pass_model.specs.Orders.{ActiveServes, AreInOrder}
 
 -- ---- rows with the same buckets rise in number, and no key lies in two
 

@@ -22,9 +22,9 @@ use Rattle.pass_model.specs.Rows as rest
 use Rattle.pass_model.specs.Rows.{Settings}
 use Rattle.pass_model.specs.Passes.{World}
 use Rattle.pass_model.specs.Scripts.{told_node}
-use Rattle.pass_turns.specs.Turns as turns
-use Rattle.pass_turns.specs.Turns.{Stand, Unanswered, stand, by_row, activate_then, accepted_if, with_place_row, turn_at as turn_at_rest}
-use Rattle.pass_turns.specs.Orders as orders
+use Rattle.pass_model.specs.Turns as turns
+use Rattle.pass_model.specs.Turns.{Stand, Unanswered, stand, by_row, activate_then, accepted_if, with_place_row, turn_at as turn_at_rest}
+use Rattle.pass_model.specs.Orders as orders
 use Rattle.pass_machine.specs.declared.doing.Doing.TheVariants.{ResendingDelete, ResentDelete, ResendingActivate, ResentActivate, Rounding}
 use Rattle.pass_machine.specs.declared.doing.UpkeepStep.TheVariants as step
 use Rattle.pass_machine.specs.declared.doing.Turn.TheVariants.{Over, Says}

@@ -10,7 +10,7 @@ use Rattle.pass_model.specs.Nodes.{Node}
 use Rattle.pass_model.specs.Shapes.{Nothing}
 use Rattle.pass_model.specs.Rows as rest
 use Rattle.pass_model.specs.Rows.{Settings, round_node, round_row}
-use Rattle.pass_turns.specs.Turns.{round_of}
+use Rattle.pass_model.specs.Turns.{round_of}
 use Rattle.pass_machine.specs.declared.notes.RowNote.{RowNote}
 use Rattle.pass_machine.specs.Notes.{note_for, whole_in}
 use Rattle.pass_machine.specs.Turns.{View}

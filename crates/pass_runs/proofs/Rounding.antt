@@ -8,8 +8,8 @@ use Rattle.pass_model.specs.Nodes.{Node}
 use Rattle.pass_model.specs.Rows as rest
 use Rattle.pass_model.specs.Rows.{Settings}
 use Rattle.pass_model.specs.Passes.{World}
-use Rattle.pass_turns.specs.Turns as turns
-use Rattle.pass_turns.specs.Turns.{stand, by_row, round_of, turn_at as turn_at_rest}
+use Rattle.pass_model.specs.Turns as turns
+use Rattle.pass_model.specs.Turns.{stand, by_row, round_of, turn_at as turn_at_rest}
 use Rattle.pass_machine.specs.declared.doing.Time.TheVariants.{First}
 use Rattle.pass_machine.specs.declared.doing.Doing.TheVariants.{Rounding}
 use Rattle.pass_machine.specs.declared.notes.RowNote.{RowNote}

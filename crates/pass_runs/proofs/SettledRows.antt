@@ -7,7 +7,7 @@ use Rattle.cluster_states.specs.Publishing.{serves}
 use Rattle.bucket_db.specs.declared.row.Row.{Row}
 use Rattle.pass_model.specs.Nodes.{Node}
 use Rattle.pass_model.specs.Rows as rest
-use Rattle.pass_turns.specs.Turns.{with_place_row}
+use Rattle.pass_model.specs.Turns.{with_place_row}
 use Rattle.pass_machine.specs.declared.doing.Settle.{Settle}
 use Rattle.pass_machine.specs.declared.doing.Settle.TheVariants as settle
 use Rattle.pass_machine.specs.declared.notes.RowNote.{RowNote}

@@ -10,10 +10,10 @@ use Rattle.pass_model.specs.Rows as rest
 use Rattle.pass_model.specs.Rows.{Settings}
 use Rattle.pass_model.specs.Passes.{World}
 use Rattle.pass_model.specs.Scripts.{told_node}
-use Rattle.pass_turns.specs.Turns as turns
-use Rattle.pass_turns.specs.Turns.{Stand, Unanswered, stand, with_place_row, round_of}
-use Rattle.pass_turns.specs.Orders as orders
-use Rattle.pass_turns.specs.Orders.{AreInOrder}
+use Rattle.pass_model.specs.Turns as turns
+use Rattle.pass_model.specs.Turns.{Stand, Unanswered, stand, with_place_row, round_of}
+use Rattle.pass_model.specs.Orders as orders
+use Rattle.pass_model.specs.Orders.{AreInOrder}
 use Rattle.pass_machine.specs.declared.doing.Time.{Time}
 use Rattle.pass_machine.specs.declared.doing.Settle.{Settle}
 use Rattle.pass_machine.specs.declared.doing.Settle.TheVariants as settle

@@ -20,8 +20,8 @@ use Rattle.pass_model.specs.Rows as rest
 use Rattle.pass_model.specs.Rows.{Settings}
 use Rattle.pass_model.specs.Passes.{World}
 use Rattle.pass_model.specs.Scripts.{told_node}
-use Rattle.pass_turns.specs.Turns as turns
-use Rattle.pass_turns.specs.Turns.{Stand, stand, by_row, split_at_place, with_children, turn_at as turn_at_rest}
+use Rattle.pass_model.specs.Turns as turns
+use Rattle.pass_model.specs.Turns.{Stand, stand, by_row, split_at_place, with_children, turn_at as turn_at_rest}
 use Rattle.proof_basics.proofs.Numbers.{lt-of}
 use Rattle.pass_machine.specs.declared.doing.Time.TheVariants.{First}
 use Rattle.pass_machine.specs.declared.doing.Settle.TheVariants as settle

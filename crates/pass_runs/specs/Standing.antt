@@ -9,10 +9,10 @@ use Rattle.bucket_db.specs.declared.row.Row.{Row}
 use Rattle.pass_model.specs.Nodes.{Node}
 use Rattle.pass_model.specs.Rows.{Settings}
 use Rattle.pass_model.specs.Passes.{World}
-use Rattle.pass_turns.specs.Turns as turns
-use Rattle.pass_turns.specs.Turns.{Stand, Unanswered, stand}
-use Rattle.pass_turns.specs.Orders as orders
-use Rattle.pass_turns.specs.Orders.{AreInOrder}
+use Rattle.pass_model.specs.Turns as turns
+use Rattle.pass_model.specs.Turns.{Stand, Unanswered, stand}
+use Rattle.pass_model.specs.Orders as orders
+use Rattle.pass_model.specs.Orders.{AreInOrder}
 use Rattle.pass_machine.specs.declared.doing.Time.{Time}
 use Rattle.pass_machine.specs.declared.doing.Time.TheVariants.{First, Again}
 use Rattle.pass_machine.specs.declared.doing.Settle.{Settle}

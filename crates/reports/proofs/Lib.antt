@@ -8,3 +8,4 @@ mod OneObject
 mod Rising
 mod SameGroups
 mod Different
+mod Stamps

@@ -7,6 +7,7 @@ ghost use Rattle.reports.specs.Writing.{Puts, result_tokens, seen_tokens, measur
 use crate::answer::Answer;
 use crate::fields::begun_with;
 use crate::groups::put_groups;
+use arrayvec::ArrayString;
 use doc_updates::UpdateFault;
 use document_ids::DocId;
 use documents::Document;
@@ -56,20 +57,31 @@ fn put_result(out: &mut Writer, line: u32, word: &str) -> Result<(), NoMemory>
     put_text(out, "result", word)
 }
 
+/// The text of a stamp, in no memory of its own: ten digits, a colon and twenty digits at most.
+fn stamp_text(stamp: Stamp) -> ArrayString<32>
+    ensures { result.bytes ≡ printed stamp }
+{
+    let mut text = ArrayString::new();
+    let mut digits = itoa::Buffer::new();
+    text.push_str(digits.format(stamp.version));
+    text.push(':');
+    text.push_str(digits.format(stamp.count));
+    text
+}
+
 /// Writes a member that is a stamp.
-fn put_stamp(out: &mut Writer, alloc: Global, name: &str, stamp: Stamp) -> Result<(), NoMemory>
+fn put_stamp(out: &mut Writer, name: &str, stamp: Stamp) -> Result<(), NoMemory>
     ensures { OnOk result (Puts out.old out.new (key name.now ∷ string (printed stamp) ∷ [])) }
 {
-    let text = stamp.print(alloc)?;
-    put_text(out, name, text.as_str())
+    put_text(out, name, stamp_text(stamp).as_str())
 }
 
 /// Writes what was seen, with null for nothing.
-fn put_seen(out: &mut Writer, alloc: Global, seen: Option<Stamp>) -> Result<(), NoMemory>
+fn put_seen(out: &mut Writer, seen: Option<Stamp>) -> Result<(), NoMemory>
     ensures { OnOk result (Puts out.old out.new (seen_tokens seen)) }
 {
     match seen {
-        Some(stamp) => put_stamp(out, alloc, "seen", stamp),
+        Some(stamp) => put_stamp(out, "seen", stamp),
         None => {
             out.key("seen")?;
             out.null()?;
@@ -97,7 +109,7 @@ fn acked_report(alloc: Global, line: u32, stamp: Stamp) -> Result<Vec<u8>, NoMem
 {
     let mut out = begun(alloc)?;
     put_result(&mut out, line, "acked")?;
-    put_stamp(&mut out, alloc, "stamp", stamp)?;
+    put_stamp(&mut out, "stamp", stamp)?;
     ended(out)
 }
 
@@ -115,7 +127,7 @@ fn found_report(
     let mut out = begun_with(alloc, document)?;
     put_text(&mut out, "id", id.text())?;
     put_result(&mut out, line, "found")?;
-    put_stamp(&mut out, alloc, "stamp", stamp)?;
+    put_stamp(&mut out, "stamp", stamp)?;
     ended(out)
 }
 
@@ -126,7 +138,7 @@ fn missing_report(alloc: Global, line: u32, seen: Option<Stamp>) -> Result<Vec<u
 {
     let mut out = begun(alloc)?;
     put_result(&mut out, line, "missing")?;
-    put_seen(&mut out, alloc, seen)?;
+    put_seen(&mut out, seen)?;
     ended(out)
 }
 
@@ -141,7 +153,7 @@ fn condition_failed_report(
 {
     let mut out = begun(alloc)?;
     put_result(&mut out, line, "conditionfailed")?;
-    put_seen(&mut out, alloc, seen)?;
+    put_seen(&mut out, seen)?;
     ended(out)
 }
 

@@ -15,10 +15,10 @@ use Rattle.lane_locks.specs.declared.lines.Stage.TheVariants.{Waiting, Going, En
 use Rattle.lane_locks.specs.Lines.{Listed, line_of}
 use Rattle.lane_locks.specs.Served.{StageIs}
 use Rattle.lane_locks.specs.Slots.{IsKept}
-use Rattle.segment_locks.specs.Lanes.{EachAt}
-use Rattle.segment_locks.specs.Runs.{MayRun, RunsOn}
-use Rattle.segment_locks.specs.declared.lanes.FedLane.{FedLane}
-use Rattle.segment_locks.specs.declared.lanes.ReadyLane.{ReadyLane}
+use Rattle.lane_locks.specs.Lanes.{EachAt}
+use Rattle.lane_locks.specs.Runs.{MayRun, RunsOn}
+use Rattle.lane_locks.specs.declared.lanes.FedLane.{FedLane}
+use Rattle.lane_locks.specs.declared.lanes.ReadyLane.{ReadyLane}
 use Rattle.shelves.specs.Plain.{Plain}
 use Rattle.view_changes.specs.Opening.{opening}
 use Rattle.view_changes.specs.Views.{View}

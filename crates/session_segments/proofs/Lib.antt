@@ -1,4 +1,5 @@
 -- Shared: other crates cite these.
+pub mod PartPlaces
 pub mod PartLists
 pub mod SegmentFronts
 pub mod SameLines

@@ -18,6 +18,7 @@ use Rattle.session_cluster.proofs.AlikeDeeds.{alike_self, alike_line}
 use Rattle.session_cluster.proofs.DeedLists.{told_append, with_append, same_line}
 use Rattle.session_segments.specs.Parts.{cuts, AreStill, AreOwn, Part, Alone, Together, asked_of, asked_in, AreStillIn, AreCut, AreEnded, NoneLeft}
 use Rattle.session_segments.specs.FedDeeds.{with_fed, fed_lines, with_part, with_parts, fed_deeds}
+use Rattle.session_segments.proofs.PartPlaces.{parts_append}
 
 clash : {A : Type 0} → true ≡ false → A
 clash e = absurd (let h : true ≡ false = e in cc)
@@ -81,14 +82,7 @@ asked_push (x ∷ ps) p = ap (λ (cs : List Asked). asked_of x ++ cs) (asked_pus
 pub parts_push : (s : Setting) (us : List LineSpans) (feeders lane : ℕ) (told : Told) (line : ℕ) (ps : List Part) (p : Part) (deeds : List Deed)
     → with_parts s us feeders lane told line (ps ++ p ∷ []) deeds
     ≡ with_part s us feeders lane (told_by told (asked_in ps)) (line + length (asked_in ps)) p (with_parts s us feeders lane told line ps deeds)
-parts_push s us feeders lane told line [] p deeds = ap (λ n. with_part s us feeders lane told n p deeds) (omega arith)
-parts_push s us feeders lane told line (x ∷ ps) p deeds =
-    let more = with_part s us feeders lane told line x deeds in
-    let next = told_by told (asked_of x) in
-    let rest = with_parts s us feeders lane next (line + length (asked_of x)) ps more in
-    parts_push s us feeders lane next (line + length (asked_of x)) ps p more
-    ∙ ap (λ (t : Told). with_part s us feeders lane t (line + length (asked_of x) + length (asked_in ps)) p rest) (sym (told_append told (asked_of x) (asked_in ps)))
-    ∙ ap (λ n. with_part s us feeders lane (told_by told (asked_of x ++ asked_in ps)) n p rest) (let all = length-append (asked_of x) (asked_in ps) in omega (arith, all))
+parts_push s us feeders lane told line ps p deeds = parts_append s us feeders lane told line ps (p ∷ []) deeds
 
 -- the deeds with one part more, of which the first line has this number
 pub fed_push : (s : Setting) (us : List LineSpans) (feeders lane k : ℕ) (ps : List Part) (p : Part) → k ≡ length (asked_in ps) + 1

@@ -7,7 +7,7 @@ use Rattle.lane_calls.specs.Readings.{outcome_in}
 use Rattle.lane_calls.specs.Segments.{IsSegment}
 use Rattle.lane_locks.specs.declared.lines.Stage.{Stage}
 use Rattle.lane_locks.specs.Lines.{Listed}
-use Rattle.segment_locks.specs.Runs.{MayRun}
+use Rattle.lane_locks.specs.Runs.{MayRun}
 use Rattle.session_cluster.specs.Cells.{ShownLane}
 use Rattle.session_segments.specs.Sorted.{outcome_of}
 

@@ -1,5 +1,5 @@
 -- What a session on threads does at once: one line alone, or those of a segment together.
-use Rattle.std.specs.Prelude.{◌≡◌, ℕ, Bool, true, false, List, [], ◌∷◌, ◌++◌}
+use Rattle.std.specs.Prelude.{◌≡◌, ◌⊎◌, ℕ, ◌-◌, Bool, true, false, List, [], ◌∷◌, ◌++◌, length, is_some, slice_get, if◌then◌else◌}
 use Rattle.lane_calls.specs.Lines.{Lines}
 use Rattle.session_cluster.specs.Asking.{IsOwnAsked}
 use Rattle.session_cluster.specs.declared.asked.Asked.{Asked}
@@ -71,8 +71,28 @@ AreEnded (Together cs left ∷ []) = ⊥
 AreEnded (Together cs left ∷ Alone c ∷ ps) = AreStill cs × ((cuts c ≡ true) × AreEnded ps)
 AreEnded (Together cs left ∷ Together ds more ∷ ps) = ⊥
 
+-- a segment, and the line that ends it, and so on: the last part is either
+abbrev pub AreInTurn : List Part → Type 0
+AreInTurn ps = AreCut ps ⊎ AreEnded ps
+
 -- memory was wanted for no line
 abbrev pub NoneLeft : List Part → Type 0
 NoneLeft [] = Unit {0}
 NoneLeft (Alone c ∷ ps) = NoneLeft ps
 NoneLeft (Together cs left ∷ ps) = ((lane : ℕ) → left lane ≡ []) × NoneLeft ps
+
+-- ---- where a line is
+
+-- the part has a line at this place, from 0
+abbrev pub has_line : ℕ → Part → Bool
+has_line at p = is_some (slice_get (asked_of p) at)
+
+-- the parts before the one in which the line at a place is
+abbrev pub parts_before : ℕ → List Part → List Part
+parts_before at [] = []
+parts_before at (p ∷ ps) = if has_line at p then [] else p ∷ parts_before (at - length (asked_of p)) ps
+
+-- those, and that one
+abbrev pub parts_to : ℕ → List Part → List Part
+parts_to at [] = []
+parts_to at (p ∷ ps) = if has_line at p then p ∷ [] else p ∷ parts_to (at - length (asked_of p)) ps

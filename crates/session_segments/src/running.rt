@@ -2,17 +2,16 @@
 
 ghost use Rattle.std.specs.Prelude.{◌≡◌, ◌<◌, ◌≤◌, ◌^◌, ℕ, false, [], map, length, vec_capacity, IfOk, OnOk, OnErr};
 ghost use Rattle.lane_calls.specs.LaneValues.{IsLaneValue};
-ghost use Rattle.segment_locks.specs.Lanes.{EachAt};
-ghost use Rattle.segment_locks.specs.Runs.{MayRun};
+ghost use Rattle.lane_locks.specs.Lanes.{EachAt};
+ghost use Rattle.lane_locks.specs.Runs.{MayRun};
 ghost use Rattle.session_cluster.specs.Steps.{EachLane, AreOpened};
 ghost use Rattle.session_segments.specs.Lanes.{MayAllRun, HaveAllRun};
 ghost use Rattle.session_segments.specs.Sorted.{any_feeds, lines_at, HaveRun};
 
 use carriers::Carrier;
 use lane_core::Lane;
-use lane_locks::{LineList, Stage};
+use lane_locks::{FedLane, LineList, ReadyLane, Stage, run_segment};
 use line_feeders::{Feeder, Gate};
-use segment_locks::{FedLane, ReadyLane, run_segment};
 use session_cluster::{Asked, Session};
 use shelves::PlainShelf;
 use std::alloc::Global;

@@ -8,7 +8,7 @@ use Rattle.cell_session.proofs.feeding.feed_segments.Goals as goal
 pub loop-commands-init : goal.loop-commands-init
 loop-commands-init g c =
     let is = c.requires.reader in
-    (λ plans kept. fed_to_none _ _ _ _ _ _ _ _ c.requires.new.setting is kept c.requires.new.unread, (ap (λ r. r.max_lines) is, ap (λ r. r.max_bytes) is), omega (arith, ap (λ r. r.lines) is), (omega arith, omega arith), c.requires.settled, omega (arith, ap (λ r. r.lines) is))
+    (λ plans kept. fed_to_none _ _ _ _ _ _ _ _ c.requires.new.setting is kept c.requires.new.unkept c.requires.new.unread, (ap (λ r. r.max_lines) is, ap (λ r. r.max_bytes) is), omega (arith, ap (λ r. r.lines) is), (omega arith, omega arith), c.requires.settled, omega (arith, ap (λ r. r.lines) is))
 
 pub loop-commands-smaller : goal.loop-commands-smaller
 loop-commands-smaller g c =

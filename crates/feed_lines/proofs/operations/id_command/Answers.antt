@@ -1,8 +1,12 @@
-use Rattle.std.proofs.Common.{sym, ◌∙◌}
-use Rattle.serde_json.specs.View.{view}
+use Rattle.std.proofs.Common.{sym, ◌∙◌, codes}
+use Rattle.feed_lines.proofs.Rising.{found_rises}
+use Rattle.line_values.specs.View.{view}
 use Rattle.feed_lines.specs.Tests.{beside_of}
 use Rattle.feed_lines.proofs.CauseOrder.{refused_kind, refused_options, refused_condition, whole_operation}
 use Rattle.feed_lines.proofs.operations.id_command.Goals as goal
+
+pub kind_said-requires : goal.kind_said-requires
+kind_said-requires c = found_rises c.get.result (view c.args.line.now) (codes "fields") c.requires c.get.ensures
 
 pub returns-in-Err : goal.returns-in-Err
 returns-in-Err c = rw c.fault_by.ensures

@@ -1,4 +1,4 @@
-use Rattle.serde_json.specs.View.{view}
+use Rattle.line_values.specs.View.{view}
 use Rattle.feed_lines.proofs.SettingLaws.{state_is, stop_is, start_is, net_is}
 use Rattle.feed_lines.proofs.SearchLaws.{search_is}
 use Rattle.feed_lines.proofs.TruthLaws.{maintain_is, barrier_is}

@@ -1,5 +1,5 @@
 use Rattle.std.proofs.Common.{sym}
-use Rattle.serde_json.proofs.Views.{items_len-items_view}
+use Rattle.line_values.proofs.Lengths.{items_len-items_view}
 use Rattle.feed_lines.proofs.values.count_items.Goals as goal
 
 pub returns : goal.returns

@@ -1,5 +1,5 @@
 use Rattle.std.proofs.Common.{◌≡◌, ◌++◌, drop, option_map}
-use Rattle.serde_json.specs.View.{items_view}
+use Rattle.line_values.specs.View.{items_view}
 use Rattle.json_documents.specs.Json.{each}
 use Rattle.feed_lines.specs.Values.{fate_of}
 use Rattle.feed_lines.proofs.values.each_fate.Given as goal

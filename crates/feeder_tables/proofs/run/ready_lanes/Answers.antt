@@ -1,7 +1,7 @@
 use Rattle.std.proofs.Common.{length, ap, ◌∙◌, arith}
 use Rattle.lane_core.proofs.Places.{push-length}
-use Rattle.segment_locks.specs.declared.lanes.ReadyLane.{ReadyLane}
-use Rattle.segment_locks.specs.Runs.{MayRun}
+use Rattle.lane_locks.specs.declared.lanes.ReadyLane.{ReadyLane}
+use Rattle.lane_locks.specs.Runs.{MayRun}
 use Rattle.feeder_tables.proofs.Asking.{more_may}
 use Rattle.feeder_tables.proofs.run.ready_lanes.Goals as goal
 

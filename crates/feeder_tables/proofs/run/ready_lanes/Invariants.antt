@@ -1,7 +1,7 @@
 use Rattle.std.proofs.Common.{◌≡◌, length}
-use Rattle.segment_locks.specs.declared.lanes.ReadyLane.{ReadyLane}
-use Rattle.segment_locks.specs.Lanes.{EachAt}
-use Rattle.segment_locks.specs.Runs.{MayRun}
+use Rattle.lane_locks.specs.declared.lanes.ReadyLane.{ReadyLane}
+use Rattle.lane_locks.specs.Lanes.{EachAt}
+use Rattle.lane_locks.specs.Runs.{MayRun}
 use Rattle.feeder_tables.proofs.run.ready_lanes.Given as goal
 
 abbrev pub invariant-loop-lane : goal.invariant-loop-lane

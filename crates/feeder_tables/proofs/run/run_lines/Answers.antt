@@ -1,7 +1,7 @@
 use Rattle.std.proofs.Common.{ℕ, length, sym, ap, ◌∙◌, subst}
-use Rattle.segment_locks.specs.declared.lanes.ReadyLane.{ReadyLane}
-use Rattle.segment_locks.specs.Lanes.{EachAt}
-use Rattle.segment_locks.specs.Runs.{MayRun}
+use Rattle.lane_locks.specs.declared.lanes.ReadyLane.{ReadyLane}
+use Rattle.lane_locks.specs.Lanes.{EachAt}
+use Rattle.lane_locks.specs.Runs.{MayRun}
 use Rattle.feeder_tables.proofs.run.run_lines.Goals as goal
 
 pub run_segment-requires-clause-ready : goal.run_segment-requires-clause-ready

@@ -1,6 +1,6 @@
 use Rattle.std.proofs.Common.{◌∙◌, ◌≡◌, ◌&&◌, not, true, sym, ap, is_some}
 use Rattle.serde_json.specs.Find.{as_null}
-use Rattle.serde_json.specs.View.{view}
+use Rattle.line_values.specs.View.{view}
 use Rattle.json_documents.specs.Json.{value_by}
 use Rattle.json_documents.proofs.JsonLaws.{null_none}
 use Rattle.json_documents.proofs.members.value_in.Goals as goal

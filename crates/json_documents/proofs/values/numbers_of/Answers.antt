@@ -1,5 +1,5 @@
 use Rattle.std.proofs.Common.{◌≡◌, ◌∷◌, ◌++◌, [], ◌∙◌, sym, ap, Some, rules}
-use Rattle.serde_json.specs.View.{view}
+use Rattle.line_values.specs.View.{view}
 use Rattle.json_documents.specs.Json.{whole}
 use Rattle.json_documents.proofs.Items.{one_more, a_bad_one, all_found}
 use Rattle.json_documents.proofs.values.numbers_of.Goals as goal

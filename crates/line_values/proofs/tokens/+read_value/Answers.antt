@@ -1,14 +1,15 @@
-use Rattle.std.proofs.Common.{◌≡◌, ◌-◌, [], ◌∷◌, Some, None, string_bytes, sym, ap, ◌∙◌, arith, rules}
+use Rattle.std.proofs.Common.{◌≡◌, ◌-◌, [], ◌∷◌, Some, None, sym, ap, ◌∙◌, arith, rules}
 use Rattle.json.specs.Token.{Token}
 use Rattle.json.specs.Json.{value, parse_map, after_end_array, read_key}
 use Rattle.json.specs.Reads.{token_of}
 use Rattle.json.proofs.Grammar.{value_is}
 use Rattle.serde_json.specs.Data.{null, boolean, number, string, array, object, put}
 use Rattle.serde_json.specs.Read.{of_json, converted}
-use Rattle.serde_json.specs.View.{view, number_view, members_view}
-use Rattle.serde_json.specs.declared.value.Value as Value
-use Rattle.serde_json.specs.declared.value.Value.{the_lemmas}
-use Rattle.serde_json.proofs.Views.{view-Array, view-Object, members_view-insert_entry}
+use Rattle.serde_json.specs.View.{number_view}
+use Rattle.line_values.specs.View.{view, members_view}
+use Rattle.line_values.specs.declared.line_value.LineValue as LineValue
+use Rattle.line_values.specs.declared.line_value.LineValue.{the_lemmas}
+use Rattle.line_values.proofs.Members.{view-Array, view-Object, members_view-inserted}
 use Rattle.line_values.proofs.Steps.{value_said-nothing, value_said-string, value_said-number, value_said-boolean, value_said-null, value_said-begin_array, value_said-begin_object, array_said-full, object_said-full, array_said-begun, object_said-begun, value_said-shorter}
 use Rattle.line_values.proofs.Loops.{one_item_more, a_bad_item, all_items, no_key, all_members, a_bad_member, member_shorter, one_member_more}
 use Rattle.line_values.proofs.tokens.+read_value.Goals as goal
@@ -43,33 +44,64 @@ read_array-returns-clause-ok t c =
 pub read_object-returns-then-depth-eq0-clause-fault : goal.read_object-returns-then-depth-eq0-clause-fault
 read_object-returns-then-depth-eq0-clause-fault t c e = object_said-full c.args.depth c.args.reader.now c.if-depth-eq0.true
 
-pub read_object-returns-in_err-name-clause-fault : goal.read_object-returns-in_err-name-clause-fault
-read_object-returns-in_err-name-clause-fault t c e =
-    object_said-begun c.args.depth c.args.reader.now c.if-depth-eq0.false ∙ no_key _ _ c.members.reader _ c.members.invariant c.in_err-name.ensures.value
+pub read_object-returns-in_err-key-clause-fault : goal.read_object-returns-in_err-key-clause-fault
+read_object-returns-in_err-key-clause-fault t c e =
+    object_said-begun c.args.depth c.args.reader.now c.if-depth-eq0.false ∙ no_key _ _ c.members.reader _ c.members.invariant c.in_err-key.ensures.value
 
 pub read_object-returns-in_err-member-clause-fault : goal.read_object-returns-in_err-member-clause-fault
 read_object-returns-in_err-member-clause-fault t c e =
-    let named : read_key c.members.reader ≡ Some (Some c.in-Some.name.now, c.next_key.new.self) = grind arith in
+    let named : read_key c.members.reader ≡ Some (Some c.in-Some.key.now, c.next_key.new.self) = grind arith in
     object_said-begun c.args.depth c.args.reader.now c.if-depth-eq0.false
-    ∙ a_bad_member _ _ c.members.reader _ c.members.invariant c.in-Some.name.now c.next_key.new.self named (c.read_value.ensures.fault (grind arith))
+    ∙ a_bad_member _ _ c.members.reader _ c.members.invariant c.in-Some.key.now c.next_key.new.self named (c.read_value.ensures.fault (grind arith))
 
 pub read_object-members-smaller : goal.read_object-members-smaller
 read_object-members-smaller t c =
-    let named : read_key c.members.reader ≡ Some (Some c.in-Some.name.now, c.next_key.new.self) = grind arith in
-    member_shorter (c.args.depth - 1) _ c.members.reader _ c.members.invariant c.in-Some.name.now c.next_key.new.self named _ c.read_value.new.reader c.in_ok-member.ensures.ok
+    let named : read_key c.members.reader ≡ Some (Some c.in-Some.key.now, c.next_key.new.self) = grind arith in
+    member_shorter (c.args.depth - 1) _ c.members.reader _ c.members.invariant c.in-Some.key.now c.next_key.new.self named _ c.read_value.new.reader c.in_ok-member.ensures.ok
 
 pub read_object-members-preserved : goal.read_object-members-preserved
 read_object-members-preserved t c =
-    let named : read_key c.members.reader ≡ Some (Some c.in-Some.name.now, c.next_key.new.self) = grind arith in
-    let old = members_view c.members.found.entries in
-    let key : string_bytes c.in_ok-key.key ≡ c.in-Some.name.now = search rules in
-    let grown : members_view c.insert.new.self.entries ≡ put c.in-Some.name.now (view c.in_ok-member.member) old =
-    ap members_view c.in_ok-insert.ensures.entries ∙ members_view-insert_entry c.members.found.entries c.in_ok-key.key c.in_ok-member.member ∙ ap (λ name. put name (view c.in_ok-member.member) old) key in
-    one_member_more _ _ c.members.reader _ c.members.invariant c.in-Some.name.now c.next_key.new.self named _ c.read_value.new.reader _ grown c.in_ok-member.ensures.ok
+    let named : read_key c.members.reader ≡ Some (Some c.in-Some.key.now, c.next_key.new.self) = grind arith in
+    let old = members_view c.members.found.items in
+    let grown : members_view c.put.new.members.items ≡ put c.in-Some.key.now (view c.in_ok-member.member) old = search rules in
+    one_member_more _ _ c.members.reader _ c.members.invariant c.in-Some.key.now c.next_key.new.self named _ c.read_value.new.reader _ grown c.in_ok-member.ensures.ok
 
 pub read_object-returns-clause-ok : goal.read_object-returns-clause-ok
 read_object-returns-clause-ok t c =
     object_said-begun c.args.depth c.args.reader.now c.if-depth-eq0.false ∙ all_members _ _ c.members.reader _ c.members.invariant c.next_key.new.self (grind arith)
+
+-- ---- many members of an object
+
+pub read_many-returns-then-depth-eq0-clause-fault : goal.read_many-returns-then-depth-eq0-clause-fault
+read_many-returns-then-depth-eq0-clause-fault t c e = object_said-full c.args.depth c.args.reader.now c.if-depth-eq0.true
+
+pub read_many-returns-in_err-key-clause-fault : goal.read_many-returns-in_err-key-clause-fault
+read_many-returns-in_err-key-clause-fault t c e =
+    object_said-begun c.args.depth c.args.reader.now c.if-depth-eq0.false ∙ no_key _ _ c.members.reader _ c.members.invariant c.in_err-key.ensures.value
+
+pub read_many-returns-in_err-member-clause-fault : goal.read_many-returns-in_err-member-clause-fault
+read_many-returns-in_err-member-clause-fault t c e =
+    let named : read_key c.members.reader ≡ Some (Some c.in-Some.key.now, c.next_key.new.self) = grind arith in
+    object_said-begun c.args.depth c.args.reader.now c.if-depth-eq0.false
+    ∙ a_bad_member _ _ c.members.reader _ c.members.invariant c.in-Some.key.now c.next_key.new.self named (c.read_value.ensures.fault (grind arith))
+
+pub read_many-members-smaller : goal.read_many-members-smaller
+read_many-members-smaller t c =
+    let named : read_key c.members.reader ≡ Some (Some c.in-Some.key.now, c.next_key.new.self) = grind arith in
+    member_shorter (c.args.depth - 1) _ c.members.reader _ c.members.invariant c.in-Some.key.now c.next_key.new.self named _ c.read_value.new.reader c.in_ok-member.ensures.ok
+
+pub read_many-members-preserved : goal.read_many-members-preserved
+read_many-members-preserved t c =
+    let named : read_key c.members.reader ≡ Some (Some c.in-Some.key.now, c.next_key.new.self) = grind arith in
+    let old = members_view c.members.found.entries in
+    let grown : members_view c.insert.new.self.entries ≡ put c.in-Some.key.now (view c.in_ok-member.member) old =
+    ap members_view c.in_ok-insert.ensures.entries ∙ members_view-inserted c.members.found.entries c.in-Some.key c.in_ok-member.member in
+    one_member_more _ _ c.members.reader _ c.members.invariant c.in-Some.key.now c.next_key.new.self named _ c.read_value.new.reader _ grown c.in_ok-member.ensures.ok
+
+pub read_many-returns-clause-ok : goal.read_many-returns-clause-ok
+read_many-returns-clause-ok t c =
+    object_said-begun c.args.depth c.args.reader.now c.if-depth-eq0.false ∙ all_members _ _ c.members.reader _ c.members.invariant c.next_key.new.self (grind arith)
+    ∙ ap (λ ms. Some (ms, c.next_key.new.self)) (sym c.in_ok-list.ensures.ok)
 
 -- ---- a value
 
@@ -95,25 +127,25 @@ read_value-returns-in_ok-read_object-in-BeginObject-clause-ok t c =
     let found = c.in_ok-read_object-in-BeginObject in
     rw first (value_said-begin_object c.args.depth c.next.new.self ∙ ap (parse_map object) found.ensures.ok ∙ ap (λ d. Some (d, c.read_object.new.reader)) (sym (view-Object found.field-0)))
 
-pub read_value-returns-in_ok-from_str-in-String-clause-ok : goal.read_value-returns-in_ok-from_str-in-String-clause-ok
-read_value-returns-in_ok-from_str-in-String-clause-ok t c =
+pub read_value-returns-in-String-clause-ok : goal.read_value-returns-in-String-clause-ok
+read_value-returns-in-String-clause-ok t c =
     let found = c.in-String in
     let first : c.args.reader.now ≡ Token.string found.text.now ∷ c.next.new.self = c.in-Some.ensures.value ∙ ap (λ token. token_of token ∷ c.next.new.self) found.is in
-    let seen : view (Value.String c.in_ok-from_str-in-String.field-0) ≡ string found.text.now = search (rules, the_lemmas) in
+    let seen : view (LineValue.Text found.text) ≡ string found.text.now = search (rules, the_lemmas) in
     rw first (value_said-string c.args.depth found.text.now c.next.new.self ∙ ap (λ d. Some (d, c.next.new.self)) (sym seen))
 
 pub read_value-returns-in-Bool-clause-ok : goal.read_value-returns-in-Bool-clause-ok
 read_value-returns-in-Bool-clause-ok t c =
     let found = c.in-Bool in
     let first : c.args.reader.now ≡ Token.boolean found.truth ∷ c.next.new.self = c.in-Some.ensures.value ∙ ap (λ token. token_of token ∷ c.next.new.self) found.is in
-    let seen : view (Value.Bool found.truth) ≡ boolean found.truth = search (rules, the_lemmas) in
+    let seen : view (LineValue.Bool found.truth) ≡ boolean found.truth = search (rules, the_lemmas) in
     rw first (value_said-boolean c.args.depth found.truth c.next.new.self ∙ ap (λ d. Some (d, c.next.new.self)) (sym seen))
 
 pub read_value-returns-in-Null-clause-ok : goal.read_value-returns-in-Null-clause-ok
 read_value-returns-in-Null-clause-ok t c =
     let found = c.in-Null in
     let first : c.args.reader.now ≡ Token.null ∷ c.next.new.self = c.in-Some.ensures.value ∙ ap (λ token. token_of token ∷ c.next.new.self) found.is in
-    let seen : view Value.Null ≡ null = search (rules, the_lemmas) in
+    let seen : view LineValue.Null ≡ null = search (rules, the_lemmas) in
     rw first (value_said-null c.args.depth c.next.new.self ∙ ap (λ d. Some (d, c.next.new.self)) (sym seen))
 
 pub read_value-returns-in-Some-number_of-clause-ok : goal.read_value-returns-in-Some-number_of-clause-ok
@@ -121,7 +153,7 @@ read_value-returns-in-Some-number_of-clause-ok t c =
     let text = c.in-Number.text.now in
     let number_is = c.in-Some-number_of.number in
     let first : c.args.reader.now ≡ Token.number text ∷ c.next.new.self = c.in-Some.ensures.value ∙ ap (λ token. token_of token ∷ c.next.new.self) c.in-Number.is in
-    let seen : view (Value.Number number_is) ≡ number (number_view number_is) = search (rules, the_lemmas) in
+    let seen : view (LineValue.Number number_is) ≡ number (number_view number_is) = search (rules, the_lemmas) in
     rw first (value_said-number c.args.depth text c.next.new.self ∙ rw (← c.in-Some-number_of.ensures) (ap (λ d. Some (d, c.next.new.self)) (sym seen)))
 
 pub read_value-returns-in-None-clause-fault : goal.read_value-returns-in-None-clause-fault

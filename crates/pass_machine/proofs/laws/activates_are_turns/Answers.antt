@@ -1,8 +1,8 @@
 use Rattle.std.proofs.Common.{Option, sym, ap, subst}
 use Rattle.bucket_db.specs.declared.row.Row.{Row}
 use Rattle.pass_model.specs.Rows as rest
-use Rattle.pass_turns.specs.Turns as turns
-use Rattle.pass_turns.specs.Turns.{stand, by_row, activate_then}
+use Rattle.pass_model.specs.Turns as turns
+use Rattle.pass_model.specs.Turns.{stand, by_row, activate_then}
 use Rattle.pass_machine.specs.declared.doing.Doing.TheVariants.{ResendingActivate, ResentActivate}
 use Rattle.pass_machine.specs.Turns.{resending_activate, resent_activate}
 use Rattle.pass_machine.specs.Abstract.{Activates}

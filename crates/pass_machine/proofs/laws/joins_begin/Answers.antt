@@ -1,7 +1,7 @@
 use Rattle.std.proofs.Common.{◌∙◌, ℕ, suc, [], Option, sym, ap}
 use Rattle.pass_model.specs.Rows as rest
-use Rattle.pass_turns.specs.Turns as turns
-use Rattle.pass_turns.specs.Turns.{stand, by_row, round_of}
+use Rattle.pass_model.specs.Turns as turns
+use Rattle.pass_model.specs.Turns.{stand, by_row, round_of}
 use Rattle.pass_machine.proofs.Levels.{levels_same}
 use Rattle.pass_machine.proofs.laws.joins_begin.Goals as goal
 

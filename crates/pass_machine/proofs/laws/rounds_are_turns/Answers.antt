@@ -1,7 +1,7 @@
 use Rattle.std.proofs.Common.{◌∙◌, ℕ, suc, sym, ap}
 use Rattle.bucket_ids.specs.Buckets.{Low, parent_of}
-use Rattle.pass_turns.specs.Turns as turns
-use Rattle.pass_turns.specs.Turns.{stand, with_made, round_of, round_then}
+use Rattle.pass_model.specs.Turns as turns
+use Rattle.pass_model.specs.Turns.{stand, with_made, round_of, round_then}
 use Rattle.pass_machine.specs.Abstract.{time_of}
 use Rattle.pass_machine.specs.Places.{place_of}
 use Rattle.pass_machine.proofs.SettleTurns.{next-one}

@@ -1,6 +1,6 @@
 use Rattle.std.proofs.Common.{◌≡◌, ◌≤◌, ◌+◌, ◌++◌, length, map, reverse, vec_len, vec_capacity}
 use Rattle.std.specs.Vec.Iter.{into_iter_items}
-use Rattle.segment_locks.specs.declared.lanes.ReadyLane.{ReadyLane}
+use Rattle.lane_locks.specs.declared.lanes.ReadyLane.{ReadyLane}
 use Rattle.session_segments.proofs.running.ready_lanes.Given as goal
 
 -- the lanes so far stand in their order with their lists, the others are still to come, and there is room for them

@@ -1,6 +1,6 @@
 use Rattle.std.proofs.Common.{◌≡◌, ◌≤◌, ◌+◌, ◌++◌, length, map, vec_len, vec_capacity}
 use Rattle.std.specs.Vec.Iter.{into_iter_items}
-use Rattle.segment_locks.specs.declared.lanes.FedLane.{FedLane}
+use Rattle.lane_locks.specs.declared.lanes.FedLane.{FedLane}
 use Rattle.session_segments.proofs.running.take_apart.Given as goal
 
 -- those so far are taken apart, the others are still to come, and there is room for them

@@ -1,6 +1,6 @@
 use Rattle.std.proofs.Common.{◌≡◌, length, map, sym, ap, ◌∙◌, arith}
 use Rattle.std.specs.Vec.Iter.{into_iter_items, into_iter_len}
-use Rattle.segment_locks.specs.declared.lanes.ReadyLane.{ReadyLane}
+use Rattle.lane_locks.specs.declared.lanes.ReadyLane.{ReadyLane}
 use Rattle.session_segments.proofs.LaneRuns.{nothing_left, all_put}
 use Rattle.session_segments.proofs.running.take_back.Goals as goal
 

@@ -1,6 +1,6 @@
 use Rattle.std.proofs.Common.{◌≡◌, ◌≤◌, ◌+◌, ◌++◌, length, map, vec_len, vec_capacity}
 use Rattle.std.specs.Vec.Iter.{into_iter_items}
-use Rattle.segment_locks.specs.declared.lanes.ReadyLane.{ReadyLane}
+use Rattle.lane_locks.specs.declared.lanes.ReadyLane.{ReadyLane}
 use Rattle.session_segments.proofs.running.take_back.Given as goal
 
 -- those so far are taken, the others are still to come, and there is room for them

@@ -1,0 +1,5 @@
+use Rattle.lane_tables.proofs.Staged.{still-scripted}
+use Rattle.lane_tables.proofs.scripted.ScriptedLane.upkeep.Goals as goal
+
+pub invariant_of-self : goal.invariant_of-self
+invariant_of-self c = still-scripted _ _ _ _ c.self.invariant c.upkeep_in.ensures

@@ -1,8 +1,0 @@
-use Rattle.pass_turns.proofs.Ending.{turns-end, turns-end-resent}
-use Rattle.pass_turns.proofs.laws.turns_end.Goals as goal
-
-pub returns-clause-pass : goal.returns-clause-pass
-returns-clause-pass c = turns-end
-
-pub returns-clause-resent : goal.returns-clause-resent
-returns-clause-resent c = λ s before deletes. turns-end-resent s deletes before

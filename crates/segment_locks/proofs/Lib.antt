@@ -1,5 +1,0 @@
--- Of this crate alone.
-mod Powers
-mod Numbered
-mod Naming
-mod Sending

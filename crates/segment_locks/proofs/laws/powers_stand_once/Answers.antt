@@ -1,6 +1,0 @@
-use Rattle.std.proofs.Common.{length, refl}
-use Rattle.segment_locks.proofs.Powers.{stands-once}
-use Rattle.segment_locks.proofs.laws.powers_stand_once.Goals as goal
-
-pub returns : goal.returns
-returns c ns sum k less = stands-once (length ns) ns refl sum k less
