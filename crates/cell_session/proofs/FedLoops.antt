@@ -22,8 +22,8 @@ use Rattle.session_cluster.specs.declared.asked.Asked.TheVariants as command
 use Rattle.session_cluster.proofs.DeedLists.{told_append}
 use Rattle.session_cluster.proofs.KeptLanes.{kept_legal}
 use Rattle.session_segments.specs.Fed.{IsFed, IsFedShort, answers_from, HaveFed}
-use Rattle.session_segments.specs.Parts.{cuts, AreStill, AreStillIn, Part, Alone, Together, asked_of, asked_in, AreCut, AreEnded, AreInTurn, NoneLeft}
-use Rattle.session_segments.proofs.PartLists.{told_still, asked_push, ended_still, cut_more, none_left_together}
+use Rattle.session_segments.specs.Parts.{cuts, AreStill, AreStillIn, Part, Alone, Together, asked_of, asked_in, most_together, IsFull, AreCut, AreEnded, AreInTurn, NoneLeft}
+use Rattle.session_segments.proofs.PartLists.{told_still, asked_push, ended_still, cut_more, full_more, none_left_together}
 use Rattle.cell_session.specs.Counting.{is_state, is_maintain, state_lines, maintain_lines, AreFew}
 use Rattle.cell_session.specs.Ends.{IfTold, AreFirst, EndsAtLimit}
 use Rattle.cell_session.specs.FedAnswering.{IsCutShort, StopsSegmentAs}
@@ -229,7 +229,7 @@ module _ (laws : SegmentLaws) (s : Setting) (types : Types) (feeders : ℕ) (pla
 
   module _ (reader mid : Reading) (left between : Option (List ℕ)) (counts : Counts) (old new : Cell) (before now now' : Option (List ℕ)) (first : ℕ) (cs : List Asked)
       (so : To AreEnded reader left counts old before now) (lines : reader.max_lines ≡ most_lines) (bytes : reader.max_bytes ≡ most_bytes) (within_limit : reader.lines ≤ most_lines)
-      (is : first ≡ reader.lines + 1) (on : ReadsOn types s.bits reader mid left between cs) (still : AreStill cs) where
+      (is : first ≡ reader.lines + 1) (on : ReadsOn types s.bits reader mid left between cs) (still : AreStill cs) (fits : length cs ≤ most_together) where
     abbrev ps : List Part
     ps = so.parts
 
@@ -271,7 +271,7 @@ module _ (laws : SegmentLaws) (s : Setting) (types : Types) (feeders : ℕ) (pla
       asked = asked_push ps (Together cs none)
 
       whole : AreCut (ps ++ Together cs none ∷ [])
-      whole = cut_more ps cs none so.cut still
+      whole = cut_more ps cs none so.cut still fits
 
       left_none : NoneLeft (ps ++ Together cs none ∷ [])
       left_none = none_left_together ps cs none so.none_left (λ lane. refl)
@@ -296,11 +296,11 @@ module _ (laws : SegmentLaws) (s : Setting) (types : Types) (feeders : ℕ) (pla
       noted_now : AreNoted status.Done s feeders (ps ++ Together cs none ∷ []) new
       noted_now = noted_together status.Done s plans feeders first ps cs cs none old new so.done done still number fed.lanes fed.now so.noted (λ j q asks. inl asks) (λ j q asks. asks) within_now
 
-      pub fed_more : Appends now now' (reports_from first (answers_from s old.told first cs new)) → To AreCut mid between counts new before now'
-      fed_more wrote = record {
+      fed_as : (shape : List Part → Type 0) → shape (ps ++ Together cs none ∷ []) → Appends now now' (reports_from first (answers_from s old.told first cs new)) → To shape mid between counts new before now'
+      fed_as shape cut wrote = record {
         setting = so.setting;
         parts = ps ++ Together cs none ∷ [];
-        cut = whole;
+        cut = cut;
         none_left = left_none;
         count = ap length asked ∙ long;
         few = subst (λ (ds : List Asked). length ds ≤ most_lines) (sym asked) limit;
@@ -312,6 +312,13 @@ module _ (laws : SegmentLaws) (s : Setting) (types : Types) (feeders : ℕ) (pla
         noted = noted_now;
         told = subst (λ (ds : List Asked). IfTold text (IsBehind types s.bits mid between ds)) (sym asked) behind;
       }
+
+      pub fed_more : Appends now now' (reports_from first (answers_from s old.told first cs new)) → To AreCut mid between counts new before now'
+      fed_more wrote = fed_as AreCut whole wrote
+
+      -- where no more fit into it
+      pub fed_full : IsFull cs → Appends now now' (reports_from first (answers_from s old.told first cs new)) → To AreEnded mid between counts new before now'
+      fed_full full wrote = fed_as AreEnded (full_more ps cs none so.cut still full) wrote
 
       -- the sink took a front of one of its reports
       front_taken : TakesReportsFront first (answers_from s old.told first cs new) now now' → TakesPartFront s (ps ++ Together cs none ∷ []) new before now'
@@ -380,7 +387,7 @@ module _ (laws : SegmentLaws) (s : Setting) (types : Types) (feeders : ℕ) (pla
         let goes = fed_goes s feeders first cs f.left old new f.lanes (take f.searched cs) f.now (length was) (omega (arith, number)) in
         let done = laws.short s plans feeders first ps cs old new so.done (ended_still ps so.cut) still number f in
         let within = fed_within s feeders first cs f.left old new f.lanes (take f.searched cs) f.now so.within in
-        ended status.NoMemory s types feeders plans text left' new before now' parts (was ++ cs) (asked_push ps (Together cs f.left)) (inl (cut_more ps cs f.left so.cut still))
+        ended status.NoMemory s types feeders plans text left' new before now' parts (was ++ cs) (asked_push ps (Together cs f.left)) (inl (cut_more ps cs f.left so.cut still fits))
         (λ other. absurd (other refl)) done (first_of types s.bits text (was ++ cs) mid between behind) (short_stops types s.bits text left' parts)
         (inr (record {
           whole = ps;

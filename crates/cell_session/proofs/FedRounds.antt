@@ -1,5 +1,5 @@
 -- A segment and the line that ends it, as a session goes round.
-use Rattle.std.proofs.Common.{◌≡◌, ℕ, ◌+◌, ◌≤◌, true, List, [], Option, Ok, Err, inr, refl, ◌∙◌, subst, arith, length}
+use Rattle.std.proofs.Common.{◌≡◌, ℕ, ◌+◌, ◌≤◌, ◌<◌, true, List, [], Option, None, Some, Ok, Err, inr, refl, sym, ◌∙◌, subst, arith, length}
 use Rattle.std.specs.Io.KnownBytes.{Appends}
 use Rattle.carriers.specs.declared.fate.Fate.{Fate}
 use Rattle.doc_types.specs.SchemaCodes.{Types}
@@ -13,7 +13,7 @@ use Rattle.session_cluster.specs.Output.{report_in}
 use Rattle.session_cluster.specs.Steps.{IsDealt}
 use Rattle.session_cluster.specs.declared.asked.Asked.{Asked}
 use Rattle.session_segments.specs.Fed.{IsFed, answers_from}
-use Rattle.session_segments.specs.Parts.{cuts, AreStill, AreCut, AreEnded}
+use Rattle.session_segments.specs.Parts.{cuts, AreStill, most_together, IsFull, AreCut, AreEnded}
 use Rattle.session_segments.proofs.PartLists.{cut_still, ended_still}
 use Rattle.cell_session.specs.Answering.{StopsAs, stop_status}
 use Rattle.cell_session.specs.Counting.{counts_with}
@@ -22,7 +22,7 @@ use Rattle.cell_session.specs.FedDealing.{EndsFedAs}
 use Rattle.cell_session.specs.Limits.{most_lines, most_bytes, most_states, most_maintains}
 use Rattle.cell_session.specs.Reads.{IsReadEnd, CausedBySource}
 use Rattle.cell_session.specs.Reporting.{reports_from}
-use Rattle.cell_session.specs.SegmentReads.{TakesStep, ReadsSegment, CutsIt}
+use Rattle.cell_session.specs.SegmentReads.{TakesStep, TakesNext, ReadsSegment, IsCutBy, CausedBehind}
 use Rattle.cell_session.specs.declared.answering.Stop.{Stop}
 use Rattle.cell_session.specs.declared.answering.Stop.TheVariants as stop
 use Rattle.cell_session.specs.declared.counts.Counts.{Counts}
@@ -31,7 +31,7 @@ use Rattle.cell_session.specs.declared.next_command.Step.TheVariants as step
 use Rattle.cell_session.specs.declared.status.Status.{Status}
 use Rattle.cell_session.specs.declared.status.Status.TheVariants as status
 use Rattle.cell_session.proofs.FedCuts.{over_end, limit_end, line_more, line_fault, line_memory}
-use Rattle.cell_session.proofs.FedLoops.{SegmentLaws, IsFedTo, fed_ready, same_ends, fed_more, segment_fault, segment_memory}
+use Rattle.cell_session.proofs.FedLoops.{SegmentLaws, IsFedTo, fed_ready, same_ends, fed_more, fed_full, segment_fault, segment_memory}
 
 -- ---- why it stops
 
@@ -40,11 +40,17 @@ fault_is stop.Fault is = refl
 fault_is stop.Memory is = cc is
 
 -- a fault of the source comes of it
-pub read_risen : (next : Step) (end : Status) (last : Option ℕ) (a b : ℕ) → next ≡ step.Over end → end ≡ status.ReadFault → CausedBySource next last a b → HasRisen last a b
-read_risen next end last a b same is caused = subst (λ e. IsReadEnd e last a b) is (subst (λ n. CausedBySource n last a b) same caused)
+pub read_risen : (next : Option Step) (end : Status) (last : Option ℕ) (a b : ℕ) → next ≡ Some (step.Over end) → end ≡ status.ReadFault → CausedBehind next last a b → HasRisen last a b
+read_risen next end last a b same is caused = subst (λ e. IsReadEnd e last a b) is (subst (λ n. CausedBehind n last a b) same caused)
 
-pub read_no_fault : (next : Step) (end : Status) (last : Option ℕ) (a b : ℕ) → next ≡ step.Over end → end ≡ status.WriteFault → CausedBySource next last a b → ⊥
-read_no_fault next end last a b same is caused = subst (λ e. IsReadEnd e last a b) is (subst (λ n. CausedBySource n last a b) same caused)
+pub read_no_fault : (next : Option Step) (end : Status) (last : Option ℕ) (a b : ℕ) → next ≡ Some (step.Over end) → end ≡ status.WriteFault → CausedBehind next last a b → ⊥
+read_no_fault next end last a b same is caused = subst (λ e. IsReadEnd e last a b) is (subst (λ n. CausedBehind n last a b) same caused)
+
+-- as many lines as are dealt with together, or fewer
+fits_in : (cs : List Asked) (next : Option Step) → IsCutBy cs next → length cs ≤ most_together
+fits_in cs None ends = omega (arith, ends)
+fits_in cs (Some (step.Command number command)) ends = omega (arith, ends.0)
+fits_in cs (Some (step.Over end)) ends = omega (arith, ends)
 
 module _ (laws : SegmentLaws) (s : Setting) (types : Types) (feeders : ℕ) (plans : ℕ → List Fate) (text : Option (List ℕ)) (reader : Reading) (left : Option (List ℕ)) (counts : Counts) (old : Cell) (before wrote : Option (List ℕ))
     (so : IsFedTo AreEnded s types feeders plans text reader left counts old before wrote) where
@@ -61,8 +67,11 @@ module _ (laws : SegmentLaws) (s : Setting) (types : Types) (feeders : ℕ) (pla
 
   -- ---- the segment
 
-  module _ (new : Reading) (now : Option (List ℕ)) (first : ℕ) (cs : List Asked) (next : Step) (lines : reader.max_lines ≡ most_lines) (bytes : reader.max_bytes ≡ most_bytes) (limit : reader.lines ≤ most_lines)
-      (is : first ≡ reader.lines + 1) (read : ReadsSegment types s.bits reader new left now cs next) (still : AreStill cs) where
+  module _ (new : Reading) (now : Option (List ℕ)) (first : ℕ) (cs : List Asked) (next : Option Step) (lines : reader.max_lines ≡ most_lines) (bytes : reader.max_bytes ≡ most_bytes) (limit : reader.lines ≤ most_lines)
+      (is : first ≡ reader.lines + 1) (read : ReadsSegment types s.bits reader new left now cs next) (still : AreStill cs) (ends : IsCutBy cs next) where
+    fits : length cs ≤ most_together
+    fits = fits_in cs next ends
+
     pub round_few : first + length cs ≤ 50001
     round_few =
         let on = read.lines in
@@ -71,13 +80,13 @@ module _ (laws : SegmentLaws) (s : Setting) (types : Types) (feeders : ℕ) (pla
 
     pub segment_stop : (why : Stop) (mid : Cell) (wrote' : Option (List ℕ)) → StopsSegmentAs why s feeders first cs old mid wrote wrote' → EndsSo (stop_status why) now mid wrote'
     segment_stop stop.Fault mid wrote' stopped =
-        segment_fault laws s types feeders plans text reader read.mid left read.between counts old mid before wrote wrote' first cs so lines bytes limit is read.lines still now stopped
+        segment_fault laws s types feeders plans text reader read.mid left read.between counts old mid before wrote wrote' first cs so lines bytes limit is read.lines still fits now stopped
     segment_stop stop.Memory mid wrote' stopped =
-        segment_memory laws s types feeders plans text reader read.mid left read.between counts old mid before wrote wrote' first cs so lines bytes limit is read.lines still now stopped
+        segment_memory laws s types feeders plans text reader read.mid left read.between counts old mid before wrote wrote' first cs so lines bytes limit is read.lines still fits now stopped
 
     module _ (mid : Cell) (wrote' : Option (List ℕ)) (fed : IsFed s feeders first cs (λ _. []) old mid) (written : Appends wrote wrote' (reports_from first (answers_from s old.told first cs mid))) where
       behind : IsFedTo AreCut s types feeders plans text read.mid read.between counts mid before wrote'
-      behind = fed_more laws s types feeders plans text reader read.mid left read.between counts old mid before wrote wrote' first cs so lines bytes limit is read.lines still fed written
+      behind = fed_more laws s types feeders plans text reader read.mid left read.between counts old mid before wrote wrote' first cs so lines bytes limit is read.lines still fits fed written
 
       mid_lines : (read.mid).max_lines ≡ most_lines
       mid_lines = ((read.lines).grows).max_lines ∙ lines
@@ -85,20 +94,55 @@ module _ (laws : SegmentLaws) (s : Setting) (types : Types) (feeders : ℕ) (pla
       mid_bytes : (read.mid).max_bytes ≡ most_bytes
       mid_bytes = ((read.lines).grows).max_bytes ∙ bytes
 
-      step_is : (n : Step) → next ≡ n → TakesStep types s.bits read.mid new read.between now n
-      step_is n same = subst (TakesStep types s.bits read.mid new read.between now) same read.step
+      step_is : (n : Step) → next ≡ Some n → TakesStep types s.bits read.mid new read.between now n
+      step_is n same = subst (TakesNext types s.bits read.mid new read.between now) same read.step
 
-      pub round_over : (end : Status) (last : Option ℕ) (a b : ℕ) → next ≡ step.Over end → CausedBySource next last a b → EndsSo end now mid wrote'
+      pub round_over : (end : Status) (last : Option ℕ) (a b : ℕ) → next ≡ Some (step.Over end) → CausedBehind next last a b → EndsSo end now mid wrote'
       round_over end last a b same caused =
           over_end laws s types feeders plans text end read.mid new read.between now counts mid before wrote' last a b behind mid_lines mid_bytes (step_is (step.Over end) same)
-          (subst (λ n. CausedBySource n last a b) same caused)
+          (subst (λ n. CausedBehind n last a b) same caused)
 
       pub round_counts : (counts.states ≤ most_states) × (counts.maintains ≤ most_maintains)
       round_counts = ((behind.counts_are).few_states, (behind.counts_are).few_maintains)
 
+      -- ---- where no line ends it
+
+      full_step : next ≡ None → (new ≡ read.mid) × (now ≡ read.between)
+      full_step none = subst (TakesNext types s.bits read.mid new read.between now) none read.step
+
+      pub round_full : next ≡ None → IsFedTo AreEnded s types feeders plans text new now counts mid before wrote'
+      round_full none =
+          let same = full_step none in
+          let full : IsFull cs = subst (IsCutBy cs) none ends in
+          subst (λ r. IsFedTo AreEnded s types feeders plans text r now counts mid before wrote') (sym same.0)
+          (subst (λ l. IsFedTo AreEnded s types feeders plans text read.mid l counts mid before wrote') (sym same.1)
+          (fed_full laws s types feeders plans text reader read.mid left read.between counts old mid before wrote wrote' first cs so lines bytes limit is read.lines still fits fed full written))
+
+      -- the reader stands behind them
+      pub record IsFilled : Type 0 where
+        pub max_lines : new.max_lines ≡ most_lines
+        pub max_bytes : new.max_bytes ≡ most_bytes
+        pub few : new.lines ≤ most_lines
+        pub stands : new.lines ≡ reader.lines + length cs
+        pub some : 0 < length cs
+
+      pub full_on : next ≡ None → IsFilled
+      full_on none =
+          let same = (full_step none).0 in
+          let full : IsFull cs = subst (IsCutBy cs) none ends in
+          let on = (read.lines).grows in
+          let few = (read.lines).few (omega (arith, limit, lines)) in
+          record {
+            max_lines = subst (λ (r : Reading). r.max_lines ≡ most_lines) (sym same) mid_lines;
+            max_bytes = subst (λ (r : Reading). r.max_bytes ≡ most_bytes) (sym same) mid_bytes;
+            few = subst (λ (r : Reading). r.lines ≤ most_lines) (sym same) (omega (arith, few, mid_lines));
+            stands = subst (λ (r : Reading). r.lines ≡ reader.lines + length cs) (sym same) on.lines;
+            some = omega (arith, full);
+          }
+
       -- ---- the line that ends it
 
-      module _ (number : ℕ) (c : Asked) (same : next ≡ step.Command number c) where
+      module _ (number : ℕ) (c : Asked) (same : next ≡ Some (step.Command number c)) where
         takes : TakesStep types s.bits read.mid new read.between now (step.Command number c)
         takes = step_is (step.Command number c) same
 
@@ -129,9 +173,9 @@ module _ (laws : SegmentLaws) (s : Setting) (types : Types) (feeders : ℕ) (pla
               more = omega (arith, on.lines, came);
             }
 
-        module _ (counted : Counts) (with : counts_with counts c ≡ Ok counted) (ends : CutsIt next) (last : Cell) (wrote'' : Option (List ℕ)) where
+        module _ (counted : Counts) (with : counts_with counts c ≡ Ok counted) (last : Cell) (wrote'' : Option (List ℕ)) where
           cut : cuts c ≡ true
-          cut = subst CutsIt same ends
+          cut = (subst (IsCutBy cs) same ends).1
 
           pub line_stop : (why : Stop) → StopsAs why s number c mid last wrote' wrote'' → EndsSo (stop_status why) now last wrote''
           line_stop stop.Fault stopped = line_fault laws s types feeders plans text read.mid new read.between now counts counted mid last before wrote' wrote'' number c behind mid_lines mid_bytes takes cut with stopped

@@ -52,7 +52,8 @@ use words_line::WordsFault;
 
 /// Runs a session as `run_one` does, but feeders in threads, as many as the words choose, run the lines of a segment at once:
 /// those between two lines that change states, nodes, fates or upkeep, or are barriers. Reports are written in the order of
-/// the lines, those of a segment once all of its lines were run. It waits for its feeders.
+/// the lines, those of a segment once all of its lines were run. Of a longer segment at most 2,048 lines are run and
+/// reported at once, and then the next ones. It waits for its feeders.
 pub fn run_many<R: Threads + Wait + Sync, S: Source, K: Sink, C: Carriers, G: Gate + Sync>(
     rt: &R,
     alloc: Global,
@@ -248,11 +249,16 @@ fn feed_segments<
         ) else {
             return Status::NoMemory;
         };
+        let count = commands.len() as u32;
         if let Err(stop) = answer_segment(
             rt, alloc, gate, setting, feeders, first, commands, sink, session,
         ) {
             return stop.status();
         }
+        let Some(next) = next else {
+            first += count;
+            continue;
+        };
         let (number, command) = match next {
             Step::Command { number, command } => (number, command),
             Step::Over { status } => return status,

@@ -16,7 +16,7 @@ use Rattle.session_cluster.specs.declared.asked.Asked.{Asked}
 use Rattle.session_cluster.specs.declared.asked.Asked.TheVariants as command
 use Rattle.session_cluster.proofs.AlikeDeeds.{alike_self, alike_line}
 use Rattle.session_cluster.proofs.DeedLists.{told_append, with_append, same_line}
-use Rattle.session_segments.specs.Parts.{cuts, AreStill, AreOwn, Part, Alone, Together, asked_of, asked_in, AreStillIn, AreCut, AreEnded, NoneLeft}
+use Rattle.session_segments.specs.Parts.{cuts, AreStill, AreOwn, Part, Alone, Together, asked_of, asked_in, AreStillIn, most_together, IsFull, AreCut, AreEnded, NoneLeft}
 use Rattle.session_segments.specs.FedDeeds.{with_fed, fed_lines, with_part, with_parts, fed_deeds}
 use Rattle.session_segments.proofs.PartPlaces.{parts_append}
 
@@ -256,31 +256,39 @@ fed_alike s us feeders ps still lane = alike_parts s us feeders lane (first_told
 pub cut_still : (ps : List Part) → AreCut ps → AreStillIn ps
 cut_still [] cut = absurd cut
 cut_still (Alone c ∷ ps) cut = absurd cut
-cut_still (Together cs left ∷ []) cut = (cut, tt)
-cut_still (Together cs left ∷ Alone c ∷ ps) cut = (cut.0, cut_still ps cut.1.1)
-cut_still (Together cs left ∷ Together ds more ∷ ps) cut = absurd cut
+cut_still (Together cs left ∷ []) cut = (cut.0, tt)
+cut_still (Together cs left ∷ Alone c ∷ ps) cut = (cut.0, cut_still ps cut.3)
+cut_still (Together cs left ∷ Together ds more ∷ ps) cut = (cut.0, cut_still (Together ds more ∷ ps) cut.2)
 
 pub ended_still : (ps : List Part) → AreEnded ps → AreStillIn ps
 ended_still [] ended = tt
 ended_still (Alone c ∷ ps) ended = absurd ended
-ended_still (Together cs left ∷ []) ended = absurd ended
-ended_still (Together cs left ∷ Alone c ∷ ps) ended = (ended.0, ended_still ps ended.1.1)
-ended_still (Together cs left ∷ Together ds more ∷ ps) ended = absurd ended
+ended_still (Together cs left ∷ []) ended = (ended.0, tt)
+ended_still (Together cs left ∷ Alone c ∷ ps) ended = (ended.0, ended_still ps ended.3)
+ended_still (Together cs left ∷ Together ds more ∷ ps) ended = (ended.0, ended_still (Together ds more ∷ ps) ended.2)
 
 -- a segment stands behind them, and a line that cuts behind that
-pub cut_more : (ps : List Part) (cs : List Asked) (left : ℕ → Lines) → AreEnded ps → AreStill cs → AreCut (ps ++ Together cs left ∷ [])
-cut_more [] cs left ended still = still
-cut_more (Alone c ∷ ps) cs left ended still = absurd ended
-cut_more (Together ds more ∷ []) cs left ended still = absurd ended
-cut_more (Together ds more ∷ Alone c ∷ ps) cs left ended still = (ended.0, (ended.1.0, cut_more ps cs left ended.1.1 still))
-cut_more (Together ds more ∷ Together es other ∷ ps) cs left ended still = absurd ended
+pub cut_more : (ps : List Part) (cs : List Asked) (left : ℕ → Lines) → AreEnded ps → AreStill cs → length cs ≤ most_together → AreCut (ps ++ Together cs left ∷ [])
+cut_more [] cs left ended still few = (still, few)
+cut_more (Alone c ∷ ps) cs left ended still few = absurd ended
+cut_more (Together ds more ∷ []) cs left ended still few = (ended.0, ended.1, (still, few))
+cut_more (Together ds more ∷ Alone c ∷ ps) cs left ended still few = (ended.0, ended.1, ended.2, cut_more ps cs left ended.3 still few)
+cut_more (Together ds more ∷ Together es other ∷ ps) cs left ended still few = (ended.0, ended.1, cut_more (Together es other ∷ ps) cs left ended.2 still few)
+
+-- or it is full, and more stand behind it
+pub full_more : (ps : List Part) (cs : List Asked) (left : ℕ → Lines) → AreEnded ps → AreStill cs → IsFull cs → AreEnded (ps ++ Together cs left ∷ [])
+full_more [] cs left ended still full = (still, full)
+full_more (Alone c ∷ ps) cs left ended still full = absurd ended
+full_more (Together ds more ∷ []) cs left ended still full = (ended.0, ended.1, (still, full))
+full_more (Together ds more ∷ Alone c ∷ ps) cs left ended still full = (ended.0, ended.1, ended.2, full_more ps cs left ended.3 still full)
+full_more (Together ds more ∷ Together es other ∷ ps) cs left ended still full = (ended.0, ended.1, full_more (Together es other ∷ ps) cs left ended.2 still full)
 
 pub ended_more : (ps : List Part) (c : Asked) → AreCut ps → cuts c ≡ true → AreEnded (ps ++ Alone c ∷ [])
 ended_more [] c cut is = absurd cut
 ended_more (Alone d ∷ ps) c cut is = absurd cut
-ended_more (Together cs left ∷ []) c cut is = (cut, (is, tt))
-ended_more (Together cs left ∷ Alone d ∷ ps) c cut is = (cut.0, (cut.1.0, ended_more ps c cut.1.1 is))
-ended_more (Together cs left ∷ Together ds more ∷ ps) c cut is = absurd cut
+ended_more (Together cs left ∷ []) c cut is = (cut.0, cut.1, is, tt)
+ended_more (Together cs left ∷ Alone d ∷ ps) c cut is = (cut.0, cut.1, cut.2, ended_more ps c cut.3 is)
+ended_more (Together cs left ∷ Together ds more ∷ ps) c cut is = (cut.0, cut.1, ended_more (Together ds more ∷ ps) c cut.2 is)
 
 -- ---- parts of which no line is left
 

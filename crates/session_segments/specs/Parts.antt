@@ -1,5 +1,5 @@
 -- What a session on threads does at once: one line alone, or those of a segment together.
-use Rattle.std.specs.Prelude.{◌≡◌, ◌⊎◌, ℕ, ◌-◌, Bool, true, false, List, [], ◌∷◌, ◌++◌, length, is_some, slice_get, if◌then◌else◌}
+use Rattle.std.specs.Prelude.{◌≡◌, ◌⊎◌, ◌≤◌, ℕ, ◌-◌, Bool, true, false, List, [], ◌∷◌, ◌++◌, length, is_some, slice_get, if◌then◌else◌}
 use Rattle.lane_calls.specs.Lines.{Lines}
 use Rattle.session_cluster.specs.Asking.{IsOwnAsked}
 use Rattle.session_cluster.specs.declared.asked.Asked.{Asked}
@@ -55,21 +55,30 @@ AreStillIn [] = Unit {0}
 AreStillIn (Alone c ∷ ps) = AreStillIn ps
 AreStillIn (Together cs left ∷ ps) = AreStill cs × AreStillIn ps
 
--- a segment, perhaps of no line, stands before each line that cuts, and behind the last one
+-- the most lines that are dealt with together
+abbrev pub most_together : ℕ
+most_together = 2048
+
+-- a part may be followed by lines that are dealt with together only where no more fit into it
+abbrev pub IsFull : List Asked → Type 0
+IsFull cs = length cs ≡ most_together
+
+-- a segment, perhaps of no line, stands before each line that cuts, and behind the last one; of a longer one each part is
+-- full but the last
 abbrev pub AreCut : List Part → Type 0
 AreCut [] = ⊥
 AreCut (Alone c ∷ ps) = ⊥
-AreCut (Together cs left ∷ []) = AreStill cs
-AreCut (Together cs left ∷ Alone c ∷ ps) = AreStill cs × ((cuts c ≡ true) × AreCut ps)
-AreCut (Together cs left ∷ Together ds more ∷ ps) = ⊥
+AreCut (Together cs left ∷ []) = AreStill cs × (length cs ≤ most_together)
+AreCut (Together cs left ∷ Alone c ∷ ps) = AreStill cs × (length cs ≤ most_together) × (cuts c ≡ true) × AreCut ps
+AreCut (Together cs left ∷ Together ds more ∷ ps) = AreStill cs × IsFull cs × AreCut (Together ds more ∷ ps)
 
--- each segment so far was ended by a line that cuts
+-- each segment so far was ended by a line that cuts, or its last part is full
 abbrev pub AreEnded : List Part → Type 0
 AreEnded [] = Unit {0}
 AreEnded (Alone c ∷ ps) = ⊥
-AreEnded (Together cs left ∷ []) = ⊥
-AreEnded (Together cs left ∷ Alone c ∷ ps) = AreStill cs × ((cuts c ≡ true) × AreEnded ps)
-AreEnded (Together cs left ∷ Together ds more ∷ ps) = ⊥
+AreEnded (Together cs left ∷ []) = AreStill cs × IsFull cs
+AreEnded (Together cs left ∷ Alone c ∷ ps) = AreStill cs × (length cs ≤ most_together) × (cuts c ≡ true) × AreEnded ps
+AreEnded (Together cs left ∷ Together ds more ∷ ps) = AreStill cs × IsFull cs × AreEnded (Together ds more ∷ ps)
 
 -- a segment, and the line that ends it, and so on: the last part is either
 abbrev pub AreInTurn : List Part → Type 0
