@@ -9,14 +9,23 @@ use line_values::ValueReader;
 use message_texts::{MessageFault, message_text, read_message};
 use messages::{Message, OpKind, Operation};
 use reports::{Answer, report};
+use serde_json::Value;
 use std::alloc::Global;
 use words_line::read_words;
 
 /// The JSON value that a text is, written without spaces and with its keys in order, or why it is none.
 pub fn json_value(alloc: Global, values: &mut ValueReader, text: &str) -> Option<String> {
     match values.read(alloc, text) {
-        Ok(value) => value.to_string(alloc).ok(),
+        Ok(_) => written(alloc, text),
         Err(fault) => shown(alloc, &fault),
+    }
+}
+
+/// The JSON of a text's value, as `serde_json` reads and writes it.
+fn written(alloc: Global, text: &str) -> Option<String> {
+    match Value::from_str(alloc, text) {
+        Ok(value) => value.to_string(alloc).ok(),
+        Err(_) => None,
     }
 }
 
